@@ -1,0 +1,5 @@
+pub mod Operation
+pub mod Accepted
+pub mod Refusal
+pub mod Insn
+pub mod Same

@@ -1,0 +1,51 @@
+-- Programs that compare equal are the same list.
+use Rattle.std.proofs.Common.{◌≡◌, ℕ, List, [], ◌∷◌, Bool, true, false, ◌&&◌, refl, sym, ◌∙◌, subst, arith, rules}
+use Rattle.std.specs.Prelude.{IsTrue, ◌↔◌, ◌==◌}
+use Rattle.std.proofs.lemmas.Bool.Decides.{nat_tests}
+use Rattle.std.specs.Cmp.{IsEquivalence}
+use Rattle.std.specs.Cmp.Rules.{comparing}
+use lib.Pointwise.{pointwise}
+use Rattle.bpf_check.specs.declared.insn.Insn.{Insn}
+use Rattle.bpf_check.specs.Insn.{same_insn}
+
+-- both of two tests hold
+both : (a b : Bool) → (a && b) ≡ true → (a ≡ true) × (b ≡ true)
+both true b e = (refl, e)
+both false b e = absurd (cc)
+
+-- equal numbers are the same
+same_number : (x y : ℕ) → (x == y) ≡ true → x ≡ y
+same_number x y e = grind (arith, nat_tests)
+
+-- instructions that compare equal are the same
+same_fields : (x y : Insn) → same_insn x y ≡ true → x ≡ y
+same_fields x y e =
+    let p = both (x.code == y.code) _ e in
+    let q = both (x.jt == y.jt) _ p.1 in
+    let r = both (x.jf == y.jf) _ q.1 in
+    let code = same_number x.code y.code p.0 in
+    let jt = same_number x.jt y.jt q.0 in
+    let jf = same_number x.jf y.jf r.0 in
+    let k = same_number x.k y.k r.1 in
+    λ i. record { code = code i; jt = jt i; jf = jf i; k = k i }
+
+-- lists that compare equal are the same
+same_list : (xs ys : List Insn) → pointwise same_insn xs ys ≡ true → xs ≡ ys
+same_list [] [] e = refl
+same_list [] (y ∷ ys) e = absurd (cc)
+same_list (x ∷ xs) [] e = absurd (cc)
+same_list (x ∷ xs) (y ∷ ys) e =
+    let p = both (same_insn x y) (pointwise same_insn xs ys) e in
+    let first = same_fields x y p.0 in
+    let rest = same_list xs ys p.1 in
+    λ i. first i ∷ rest i
+
+-- a list compares equal to itself
+list_itself : (xs ys : List Insn) → xs ≡ ys → pointwise same_insn xs ys ≡ true
+list_itself xs ys e =
+    let laws : IsEquivalence (pointwise same_insn) = search (comparing, rules) depth 9 in
+    subst (λ (zs : List Insn). pointwise same_insn xs zs ≡ true) e (laws.refl xs)
+
+-- the law: two programs compare equal exactly where they are the same list
+pub same_program : (xs ys : List Insn) (b : Bool) → b ≡ pointwise same_insn xs ys → IsTrue b ↔ (xs ≡ ys)
+same_program xs ys b is = (λ yes. same_list xs ys (sym is ∙ yes), λ e. is ∙ list_itself xs ys e)

@@ -1,0 +1,198 @@
+//! The checker, and the programs that it accepts.
+
+ghost use Rattle.std.specs.Prelude.{◌≡◌, ◌==◌, ◌<◌, ◌≤◌, ◌↔◌, length, IsOk, IfOk, IfErr, IfSome, IfNone, IsTrue, IsSomeAnd, MatchResult, Some, None, false};
+ghost use Rattle.bpf_check.specs.Accepted.{IsFine, IsAccepted, IsFaultAt, IsFirstFault, IsReturn};
+ghost use Rattle.bpf_check.specs.Operation.{operation_of};
+ghost use Rattle.bpf_check.specs.Refusal.{refusal};
+
+use crate::insn::Insn;
+use crate::operation::{Arithmetic, Operand, Operation, decode};
+use std::marker::Model;
+use thiserror::Error;
+
+/// The most instructions of a program.
+pub const MOST_INSNS: usize = 512;
+
+/// The words of scratch memory.
+pub const SCRATCH_WORDS: u32 = 16;
+
+/// Why a program is refused. A number is the place of an instruction, counted from 0.
+#[derive(Clone, Copy, Debug, PartialEq, Eq, Error)]
+pub enum CheckFault {
+    /// There is no instruction.
+    #[error("the program is empty")]
+    Empty,
+    /// There are more than 512 instructions.
+    #[error("the program has more than 512 instructions")]
+    TooLong,
+    /// No operation has this code.
+    #[error("place {0}: the code is unknown")]
+    UnknownCode(usize),
+    /// A division by the constant 0.
+    #[error("place {0}: division by 0")]
+    ZeroDivisor(usize),
+    /// A scratch word of 16 or more.
+    #[error("place {0}: there is no such scratch word")]
+    BadScratch(usize),
+    /// A jump with a target that is outside the program.
+    #[error("place {0}: a target of the jump is outside the program")]
+    BadJump(usize),
+    /// The last instruction is not a return.
+    #[error("the last instruction is not a return")]
+    NoReturn,
+}
+
+/// A program that the checker accepted. Contracts see the list of its instructions.
+#[derive(Debug, Drop)]
+pub struct Checked {
+    insns: Vec<Insn>,
+}
+
+impl Model for Checked {
+    ghost use Rattle.std.specs.Prelude.{List};
+    ghost use Rattle.bpf_check.specs.declared.insn.Insn.{Insn};
+    ghost use Rattle.bpf_check.specs.Accepted.{IsAccepted};
+
+    ghost Value = { List Insn };
+
+    ghost view = { λ c. c.insns.items };
+
+    ghost invariant = { λ c. IsAccepted c.insns.items };
+}
+
+impl PartialEq for Checked {
+    ghost use Rattle.std.specs.Cmp.Lexicographic.{lists_per};
+    ghost use Rattle.std.specs.Cmp.Rules.{comparing};
+    ghost use Rattle.std.specs.Prelude.{◌≡◌, ◌↔◌, IsTrue};
+    ghost use Rattle.std.proofs.Common.{rules};
+    ghost use lib.Pointwise.{pointwise};
+    ghost use Rattle.bpf_check.specs.Insn.{same_insn};
+
+    ghost eq = { pointwise same_insn };
+
+    ghost laws = { Prim.search (comparing, rules) depth 9 };
+
+    fn eq(&self, other: &Checked) -> bool
+        ensures value { result ≡ pointwise same_insn self.now other.now }
+        ensures same { IsTrue result ↔ (self.now ≡ other.now) }
+    {
+        self.insns == other.insns
+    }
+}
+
+impl Eq for Checked {
+    ghost use Rattle.std.specs.Cmp.Rules.{comparing};
+    ghost use Rattle.std.proofs.Common.{rules};
+
+    ghost laws = { Prim.search (comparing, rules) depth 9 };
+}
+
+/// Accepts a program, or says its first fault and hands it back.
+///
+/// Accepted are 1 to 512 instructions of known codes, none of which divides by the constant 0 or
+/// names a scratch word above 15, whose jumps stay inside, and of which the last is a return.
+/// The faults come in the order `Empty`, `TooLong`, then by place and at one place in the order of
+/// the variants, then `NoReturn`.
+pub fn check(insns: Vec<Insn>) -> Result<Checked, (CheckFault, Vec<Insn>)>
+    ensures accepts { IsOk result ↔ IsAccepted insns.items }
+    ensures same { IfOk result (λ checked. checked ≡ insns.items) }
+    ensures first { IfErr result (λ refused. IsFirstFault insns.items refused.0) }
+    ensures back { IfErr result (λ refused. refused.1 ≡ insns) }
+    // The same, by the function that finds the fault of a list of instructions.
+    ensures refusal { MatchResult result (λ _. refusal insns.items ≡ None) (λ refused. refusal insns.items ≡ Some refused.0) }
+{
+    match first_fault(&insns) {
+        None => Ok(Checked { insns }),
+        Some(fault) => Err((fault, insns)),
+    }
+}
+
+impl Checked {
+    /// The instructions, in order.
+    #[inline(always)]
+    pub fn insns(&self) -> &[Insn]
+        ensures same { result.now ≡ self.now }
+        ensures accepted { IsAccepted self.now }
+    {
+        &self.insns
+    }
+
+    /// How many instructions there are, 1 to 512.
+    pub fn len(&self) -> usize
+        ensures value { result ≡ length self.now }
+        ensures within { (0 < result) × (result ≤ 512) }
+    {
+        self.insns.len()
+    }
+
+    /// Whether there is no instruction, which is never so.
+    pub fn is_empty(&self) -> bool
+        ensures { result ≡ false }
+    {
+        self.insns.is_empty()
+    }
+}
+
+// The first fault of a program, if it has one.
+fn first_fault(insns: &[Insn]) -> Option<CheckFault>
+    ensures none { IfNone result (IsAccepted insns.now) }
+    ensures some { IfSome result (λ fault. IsFirstFault insns.now fault) }
+{
+    if insns.is_empty() {
+        return Some(CheckFault::Empty);
+    }
+    if insns.len() > MOST_INSNS {
+        return Some(CheckFault::TooLong);
+    }
+    for (place, insn) in insns.iter().enumerate() {
+        if let Some(fault) = fault_in(insn, place, insns.len()) {
+            return Some(fault);
+        }
+    }
+    if is_return(insns[insns.len() - 1].code) {
+        None
+    } else {
+        Some(CheckFault::NoReturn)
+    }
+}
+
+// Whether a code ends a run.
+fn is_return(code: u16) -> bool
+    ensures yes { IsTrue result → IsSomeAnd (operation_of code) IsReturn }
+    ensures no { IsSomeAnd (operation_of code) IsReturn → IsTrue result }
+{
+    matches!(
+        decode(code),
+        Some(Operation::ReturnConstant | Operation::ReturnAccumulator)
+    )
+}
+
+// The fault of one instruction, if it has one.
+fn fault_in(insn: &Insn, place: usize, count: usize) -> Option<CheckFault>
+    requires inside { place < count }
+    requires short { count ≤ MOST_INSNS }
+    ensures none { IfNone result (IsFine count place insn.now) }
+    ensures some { IfSome result (λ fault. IsFaultAt count place insn.now fault) }
+{
+    let Some(operation) = decode(insn.code) else {
+        return Some(CheckFault::UnknownCode(place));
+    };
+    let after = place as u64 + 1;
+    let count = count as u64;
+    match operation {
+        Operation::Compute(Arithmetic::Divide, Operand::Constant) if insn.k == 0 => {
+            Some(CheckFault::ZeroDivisor(place))
+        }
+        Operation::LoadScratch
+        | Operation::IndexScratch
+        | Operation::StoreAccumulator
+        | Operation::StoreIndex
+            if insn.k >= SCRATCH_WORDS => { Some(CheckFault::BadScratch(place)) }
+        Operation::Jump if after + insn.k as u64 >= count => Some(CheckFault::BadJump(place)),
+        Operation::Branch(_, _)
+            if after + insn.jt as u64 >= count || after + insn.jf as u64 >= count => {
+            Some(CheckFault::BadJump(place))
+        }
+        _ => None,
+    }
+}

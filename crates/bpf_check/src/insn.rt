@@ -1,0 +1,14 @@
+//! One instruction.
+
+/// An instruction of classic BPF, as the four numbers that it is written with.
+#[derive(Clone, Copy, Debug, PartialEq, Eq)]
+pub struct Insn {
+    /// Which operation it is.
+    pub code: u16,
+    /// How many instructions a conditional jump skips where its test holds.
+    pub jt: u8,
+    /// How many it skips where the test does not hold.
+    pub jf: u8,
+    /// The constant, the place in the packet or in scratch memory, or the distance of a plain jump.
+    pub k: u32,
+}

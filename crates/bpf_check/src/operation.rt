@@ -1,0 +1,146 @@
+//! What an instruction's code stands for, by the numbers of the BSD header `bpf.h`.
+
+ghost use Rattle.std.specs.Prelude.{◌≡◌};
+ghost use Rattle.bpf_check.specs.Operation.{operation_of};
+
+/// How many octets a load takes.
+#[derive(Clone, Copy, Debug, PartialEq, Eq)]
+pub enum Width {
+    /// Four octets.
+    Word,
+    /// Two octets.
+    Half,
+    /// One octet.
+    Byte,
+}
+
+/// Where the right side of an operation comes from.
+#[derive(Clone, Copy, Debug, PartialEq, Eq)]
+pub enum Operand {
+    /// The instruction's field `k`.
+    Constant,
+    /// The index register.
+    Index,
+}
+
+/// An operation on the accumulator.
+#[derive(Clone, Copy, Debug, PartialEq, Eq)]
+pub enum Arithmetic {
+    Add,
+    Subtract,
+    Multiply,
+    Divide,
+    Or,
+    And,
+    ShiftLeft,
+    ShiftRight,
+}
+
+/// The test of a conditional jump.
+#[derive(Clone, Copy, Debug, PartialEq, Eq)]
+pub enum Comparison {
+    Equal,
+    AtLeast,
+    Above,
+    /// The two words have a bit in common.
+    SharesBit,
+}
+
+/// What an instruction does. A is the accumulator, X the index register, M the scratch memory.
+#[derive(Clone, Copy, Debug, PartialEq, Eq)]
+pub enum Operation {
+    /// A is loaded from the packet at k.
+    LoadAbsolute(Width),
+    /// A is loaded from the packet at X + k.
+    LoadIndirect(Width),
+    /// A is k.
+    LoadConstant,
+    /// A is M[k].
+    LoadScratch,
+    /// A is the packet's length.
+    LoadLength,
+    /// X is k.
+    IndexConstant,
+    /// X is M[k].
+    IndexScratch,
+    /// X is the packet's length.
+    IndexLength,
+    /// X is four times the low four bits of the packet's octet at k.
+    IndexHeader,
+    /// M[k] is A.
+    StoreAccumulator,
+    /// M[k] is X.
+    StoreIndex,
+    /// A is the result of the arithmetic on A and the operand.
+    Compute(Arithmetic, Operand),
+    /// A is 0 - A.
+    Negate,
+    /// Skips k instructions.
+    Jump,
+    /// Skips jt instructions where the comparison of A and the operand holds, otherwise jf.
+    Branch(Comparison, Operand),
+    /// Ends with k.
+    ReturnConstant,
+    /// Ends with A.
+    ReturnAccumulator,
+    /// X is A.
+    ToIndex,
+    /// A is X.
+    ToAccumulator,
+}
+
+/// The operation of a code, if it has one.
+#[inline(always)]
+#[tactic(auto, unfolding(crate::specs::Operation::operation_of))]
+pub fn decode(code: u16) -> Option<Operation>
+    ensures { result ≡ operation_of code }
+{
+    match code {
+        0x20 => Some(Operation::LoadAbsolute(Width::Word)),
+        0x28 => Some(Operation::LoadAbsolute(Width::Half)),
+        0x30 => Some(Operation::LoadAbsolute(Width::Byte)),
+        0x40 => Some(Operation::LoadIndirect(Width::Word)),
+        0x48 => Some(Operation::LoadIndirect(Width::Half)),
+        0x50 => Some(Operation::LoadIndirect(Width::Byte)),
+        0x00 => Some(Operation::LoadConstant),
+        0x60 => Some(Operation::LoadScratch),
+        0x80 => Some(Operation::LoadLength),
+        0x01 => Some(Operation::IndexConstant),
+        0x61 => Some(Operation::IndexScratch),
+        0x81 => Some(Operation::IndexLength),
+        0xb1 => Some(Operation::IndexHeader),
+        0x02 => Some(Operation::StoreAccumulator),
+        0x03 => Some(Operation::StoreIndex),
+        0x04 => Some(Operation::Compute(Arithmetic::Add, Operand::Constant)),
+        0x14 => Some(Operation::Compute(Arithmetic::Subtract, Operand::Constant)),
+        0x24 => Some(Operation::Compute(Arithmetic::Multiply, Operand::Constant)),
+        0x34 => Some(Operation::Compute(Arithmetic::Divide, Operand::Constant)),
+        0x44 => Some(Operation::Compute(Arithmetic::Or, Operand::Constant)),
+        0x54 => Some(Operation::Compute(Arithmetic::And, Operand::Constant)),
+        0x64 => Some(Operation::Compute(Arithmetic::ShiftLeft, Operand::Constant)),
+        0x74 => Some(Operation::Compute(Arithmetic::ShiftRight, Operand::Constant)),
+        0x0c => Some(Operation::Compute(Arithmetic::Add, Operand::Index)),
+        0x1c => Some(Operation::Compute(Arithmetic::Subtract, Operand::Index)),
+        0x2c => Some(Operation::Compute(Arithmetic::Multiply, Operand::Index)),
+        0x3c => Some(Operation::Compute(Arithmetic::Divide, Operand::Index)),
+        0x4c => Some(Operation::Compute(Arithmetic::Or, Operand::Index)),
+        0x5c => Some(Operation::Compute(Arithmetic::And, Operand::Index)),
+        0x6c => Some(Operation::Compute(Arithmetic::ShiftLeft, Operand::Index)),
+        0x7c => Some(Operation::Compute(Arithmetic::ShiftRight, Operand::Index)),
+        0x84 => Some(Operation::Negate),
+        0x05 => Some(Operation::Jump),
+        0x15 => Some(Operation::Branch(Comparison::Equal, Operand::Constant)),
+        0x35 => Some(Operation::Branch(Comparison::AtLeast, Operand::Constant)),
+        0x25 => Some(Operation::Branch(Comparison::Above, Operand::Constant)),
+        0x45 => Some(Operation::Branch(Comparison::SharesBit, Operand::Constant)),
+        0x1d => Some(Operation::Branch(Comparison::Equal, Operand::Index)),
+        0x3d => Some(Operation::Branch(Comparison::AtLeast, Operand::Index)),
+        0x2d => Some(Operation::Branch(Comparison::Above, Operand::Index)),
+        0x4d => Some(Operation::Branch(Comparison::SharesBit, Operand::Index)),
+        0x06 => Some(Operation::ReturnConstant),
+        0x16 => Some(Operation::ReturnAccumulator),
+        0x07 => Some(Operation::ToIndex),
+        0x87 => Some(Operation::ToAccumulator),
+        _ => None,
+    }
+}

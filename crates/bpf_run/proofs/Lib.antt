@@ -1,0 +1,4 @@
+pub mod Chains
+pub mod Accepts
+pub mod EachEnds
+pub mod Given

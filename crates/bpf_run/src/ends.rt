@@ -1,0 +1,17 @@
+//! Who a datagram is from and to, and which socket it came in by.
+
+/// One end of a datagram's way: an IPv4 address and a UDP port.
+#[derive(Clone, Copy, Debug, PartialEq, Eq)]
+pub struct End {
+    /// The address, in network order.
+    pub addr: [u8; 4],
+    /// The port.
+    pub port: u16,
+}
+
+/// A query socket.
+#[derive(Clone, Copy, Debug, PartialEq, Eq)]
+pub enum Socket {
+    /// The socket for the Internet Cache Protocol (RFC 2186).
+    Icp,
+}

@@ -1,0 +1,48 @@
+//! The interpreter.
+
+ghost use Rattle.std.specs.Prelude.{◌≡◌, ℕ, ◌≤◌, length};
+ghost use Rattle.bpf_run.specs.Chain.{Gives};
+ghost use Rattle.bpf_run.specs.Verdict.{verdict_of, steps_of};
+
+use crate::machine::{Machine, Outcome, execute};
+use crate::packet::Packet;
+use bpf_check::Checked;
+
+/// A filter's answer, and how many instructions it took.
+#[derive(Clone, Copy, Debug, PartialEq, Eq)]
+pub struct Verdict {
+    /// What the filter ended with.
+    pub value: u32,
+    /// The executed instructions, the ending one included.
+    pub steps: u16,
+}
+
+/// Runs an accepted program on a packet. It ends within as many steps as it has instructions.
+///
+/// A load of which an octet is outside the packet, and a division by an index register of 0, end
+/// the run with the value 0.
+pub fn judge(program: &Checked, packet: &Packet<'_>) -> Verdict
+    ensures gives { Gives program.now packet.now result.value result.steps }
+    ensures within { result.steps ≤ length program.now }
+    ensures value { result.value ≡ verdict_of program.now packet.now }
+    ensures steps { result.steps ≡ steps_of program.now packet.now }
+    ensures only { (v n : ℕ) → Gives program.now packet.now v n → (v ≡ result.value) × (n ≡ result.steps) }
+{
+    let insns = program.insns();
+    let mut machine = Machine::new();
+    let mut place = 0;
+    let mut steps = 0;
+    'run: loop {
+        match execute(&insns[place], &mut machine, packet) {
+            Outcome::Next => place += 1,
+            Outcome::Skip(distance) => place += 1 + distance,
+            Outcome::End(value) => {
+                return Verdict {
+                    value,
+                    steps: steps + 1,
+                };
+            }
+        }
+        steps += 1;
+    }
+}

@@ -1,0 +1,184 @@
+//! The machine, and what one instruction does to it.
+
+ghost use Rattle.std.specs.Prelude.{◌≡◌, ◌<◌, ◌≤◌, ◌+◌, ◌^◌, ◌↔◌, length, Some, IsSome, IfSome, IfNone, slice_get, if◌then◌else◌};
+ghost use Rattle.bpf_run.specs.Machine.{loaded, computed, compare, row, effect};
+ghost use Rattle.bpf_run.specs.Outcome.{Leads};
+ghost use Rattle.bpf_run.specs.Start.{start};
+
+use crate::packet::Packet;
+use bpf_check::insn::Insn;
+use bpf_check::operation::{Arithmetic, Comparison, Operand, Operation, Width, decode};
+
+/// The words that a program works on.
+#[derive(Clone, Copy, Debug, PartialEq, Eq)]
+pub struct Machine {
+    /// The accumulator.
+    pub a: u32,
+    /// The index register.
+    pub x: u32,
+    /// The scratch memory.
+    pub scratch: [u32; 16],
+}
+
+/// What an instruction leads to. The definitions speak of it; the interpreter changes a machine in
+/// place and answers an `Outcome`.
+#[derive(Clone, Copy, Debug, PartialEq, Eq)]
+pub enum Step {
+    /// The next instruction, with this machine.
+    Next(Machine),
+    /// The instruction that is so many further, with the same machine.
+    Skip(u32),
+    /// The end, with this value.
+    End(u32),
+}
+
+impl Machine {
+    /// The machine before the first instruction.
+    pub(crate) fn new() -> Machine
+        ensures { result ≡ start }
+    {
+        Machine {
+            a: 0,
+            x: 0,
+            scratch: [0; 16],
+        }
+    }
+}
+
+/// Where an instruction leads, when the machine has been changed.
+#[derive(Clone, Copy, Debug, PartialEq, Eq)]
+pub enum Outcome {
+    /// The next instruction.
+    Next,
+    /// The instruction that is so many further.
+    Skip(usize),
+    /// The end, with this value.
+    End(u32),
+}
+
+/// Does one instruction. Its code has an operation, it does not divide by the constant 0, and its
+/// scratch word exists.
+#[inline(always)]
+pub(crate) fn execute(insn: &Insn, machine: &mut Machine, packet: &Packet<'_>) -> Outcome
+    requires { IsSome (effect insn.now packet.now machine.old) }
+    ensures { Leads (effect insn.now packet.now machine.old) result machine.old machine.new }
+{
+    match decode(insn.code) {
+        Some(operation) => perform(operation, insn, machine, packet),
+        None => unreachable!(),
+    }
+}
+
+// Does an operation: a row for each.
+#[inline(always)]
+fn perform(operation: Operation, insn: &Insn, machine: &mut Machine, packet: &Packet<'_>) -> Outcome
+    requires { IsSome (row operation insn.now packet.now machine.old) }
+    ensures { Leads (row operation insn.now packet.now machine.old) result machine.old machine.new }
+{
+    match operation {
+        Operation::LoadAbsolute(width) => {
+            let Some(word) = load(packet, insn.k as u64, width) else {
+                return Outcome::End(0);
+            };
+            machine.a = word;
+        }
+        Operation::LoadIndirect(width) => {
+            let Some(word) = load(packet, machine.x as u64 + insn.k as u64, width) else {
+                return Outcome::End(0);
+            };
+            machine.a = word;
+        }
+        Operation::LoadConstant => machine.a = insn.k,
+        Operation::LoadScratch => machine.a = machine.scratch[insn.k as usize],
+        Operation::LoadLength => machine.a = packet.len(),
+        Operation::IndexConstant => machine.x = insn.k,
+        Operation::IndexScratch => machine.x = machine.scratch[insn.k as usize],
+        Operation::IndexLength => machine.x = packet.len(),
+        Operation::IndexHeader => {
+            let Some(octet) = packet.octet(insn.k as u64) else {
+                return Outcome::End(0);
+            };
+            machine.x = 4 * (octet as u32 & 0xf);
+        }
+        Operation::StoreAccumulator => machine.scratch[insn.k as usize] = machine.a,
+        Operation::StoreIndex => machine.scratch[insn.k as usize] = machine.x,
+        Operation::Compute(arithmetic, Operand::Constant) => {
+            machine.a = compute(arithmetic, machine.a, insn.k);
+        }
+        Operation::Compute(Arithmetic::Divide, Operand::Index) if machine.x == 0 => {
+            return Outcome::End(0);
+        }
+        Operation::Compute(arithmetic, Operand::Index) => {
+            machine.a = compute(arithmetic, machine.a, machine.x);
+        }
+        Operation::Negate => machine.a = 0u32.wrapping_sub(machine.a),
+        Operation::Jump => return Outcome::Skip(insn.k as usize),
+        Operation::Branch(comparison, Operand::Constant) => {
+            return branch(insn, holds(comparison, machine.a, insn.k));
+        }
+        Operation::Branch(comparison, Operand::Index) => {
+            return branch(insn, holds(comparison, machine.a, machine.x));
+        }
+        Operation::ReturnConstant => return Outcome::End(insn.k),
+        Operation::ReturnAccumulator => return Outcome::End(machine.a),
+        Operation::ToIndex => machine.x = machine.a,
+        Operation::ToAccumulator => machine.a = machine.x,
+    }
+    Outcome::Next
+}
+
+// The two ways of a conditional jump.
+#[inline(always)]
+fn branch(insn: &Insn, holds: bool) -> Outcome
+    ensures { result ≡ Outcome.Skip (if holds then insn.now.jt else insn.now.jf) }
+{
+    Outcome::Skip(if holds {
+        insn.jt as usize
+    } else {
+        insn.jf as usize
+    })
+}
+
+// The octets from a place as a number, if they are inside.
+#[inline(always)]
+fn load(packet: &Packet<'_>, place: u64, width: Width) -> Option<u32>
+    requires { place < 2 ^ 33 }
+    ensures { result ≡ loaded width packet.now place }
+{
+    match width {
+        Width::Byte => Some(packet.octet(place)? as u32),
+        Width::Half => packet.half(place),
+        Width::Word => packet.word(place),
+    }
+}
+
+// The two words computed.
+#[inline(always)]
+fn compute(arithmetic: Arithmetic, a: u32, b: u32) -> u32
+    requires { arithmetic ≡ Arithmetic.Divide → 0 < b }
+    ensures { result ≡ computed arithmetic a b }
+{
+    match arithmetic {
+        Arithmetic::Add => a.wrapping_add(b),
+        Arithmetic::Subtract => a.wrapping_sub(b),
+        Arithmetic::Multiply => a.wrapping_mul(b),
+        Arithmetic::Divide => a / b,
+        Arithmetic::Or => a | b,
+        Arithmetic::And => a & b,
+        Arithmetic::ShiftLeft => a.checked_shl(b).unwrap_or(0),
+        Arithmetic::ShiftRight => a.checked_shr(b).unwrap_or(0),
+    }
+}
+
+// Whether the comparison of the two words holds.
+#[inline(always)]
+fn holds(comparison: Comparison, a: u32, b: u32) -> bool
+    ensures { result ≡ compare comparison a b }
+{
+    match comparison {
+        Comparison::Equal => a == b,
+        Comparison::AtLeast => a >= b,
+        Comparison::Above => a > b,
+        Comparison::SharesBit => a & b != 0,
+    }
+}

@@ -1,0 +1,202 @@
+//! A datagram as a filter sees it.
+
+ghost use Rattle.std.specs.Prelude.{◌≡◌, ◌<◌, ◌≤◌, ◌+◌, ◌↔◌, ◌^◌, length, Some, IsSome, IfSome, slice_get};
+ghost use Rattle.bpf_run.specs.Machine.{loaded};
+ghost use Rattle.bpf_run.specs.Packet.{filter_packet, header_of};
+
+use crate::ends::End;
+use bpf_check::operation::Width;
+use std::marker::Model;
+
+/// The most octets of a payload: what a UDP datagram over IPv4 can carry.
+pub const MOST_PAYLOAD: usize = 65_507;
+
+/// The octets of the header before a payload.
+pub const HEADER: usize = 28;
+
+/// A filter packet: 28 header octets that are made up from the ends and the length, and the payload,
+/// which is borrowed. Contracts see the list of its octets.
+#[derive(Debug, Drop)]
+pub struct Packet<'a> {
+    header: [u8; HEADER],
+    payload: &'a [u8],
+    // How many places of the payload begin two octets of it, and four.
+    halves: u64,
+    words: u64,
+}
+
+impl<'a> Model for Packet<'a> {
+    ghost use Rattle.std.specs.Prelude.{List, ℕ, ◌≡◌, ◌≤◌, ◌-◌, ◌++◌, length};
+
+    ghost Value = { List ℕ };
+
+    ghost view = { λ p. p.header ++ p.payload.now };
+
+    ghost invariant = { λ p. (length p.payload.now ≤ 65507) × (p.halves ≡ length p.payload.now - 1) × (p.words ≡ length p.payload.now - 3) };
+}
+
+impl<'a> Packet<'a> {
+    /// The filter packet of a payload, unless that has more than 65,507 octets.
+    #[inline(always)]
+    pub fn new(from: End, to: End, payload: &'a [u8]) -> Option<Packet<'a>>
+        ensures exists { IsSome result ↔ (length payload.now ≤ 65507) }
+        ensures value { IfSome result (λ packet. packet ≡ filter_packet from to payload.now) }
+    {
+        if payload.len() > MOST_PAYLOAD {
+            return None;
+        }
+        Some(Packet {
+            header: header(from, to, payload.len() as u16),
+            payload,
+            halves: payload.len().saturating_sub(1) as u64,
+            words: payload.len().saturating_sub(3) as u64,
+        })
+    }
+
+    /// How many octets there are, the header's among them.
+    #[inline(always)]
+    pub(crate) fn len(&self) -> u32
+        ensures { result ≡ length self.now }
+    {
+        (HEADER + self.payload.len()) as u32
+    }
+
+    /// The octet at a place, if it is inside.
+    #[inline(always)]
+    pub(crate) fn octet(&self, place: u64) -> Option<u8>
+        ensures { result ≡ slice_get self.now place }
+    {
+        let at = in_payload(place);
+        if at < self.payload.len() as u64 {
+            return Some(self.payload[at as usize]);
+        }
+        if place < HEADER as u64 {
+            return Some(self.header[place as usize]);
+        }
+        None
+    }
+
+    /// The two octets from a place as a number, if both are inside.
+    #[inline(always)]
+    pub(crate) fn half(&self, place: u64) -> Option<u32>
+        requires { place < 2 ^ 34 }
+        ensures { result ≡ loaded Width.Half self.now place }
+    {
+        let at = in_payload(place);
+        if at < self.halves {
+            return Some(half_at(self.payload, at as usize));
+        }
+        if place < HEADER as u64 - 1 {
+            return Some(half_at(&self.header, place as usize));
+        }
+        self.split_half(place)
+    }
+
+    /// The four octets from a place as a number, if all of them are inside.
+    #[inline(always)]
+    pub(crate) fn word(&self, place: u64) -> Option<u32>
+        requires { place < 2 ^ 34 }
+        ensures { result ≡ loaded Width.Word self.now place }
+    {
+        let at = in_payload(place);
+        if at < self.words {
+            return Some(word_at(self.payload, at as usize));
+        }
+        if place < HEADER as u64 - 3 {
+            return Some(word_at(&self.header, place as usize));
+        }
+        self.split_word(place)
+    }
+
+    // Two octets that may lie on both sides of the header's end, or outside.
+    #[inline(always)]
+    fn split_half(&self, place: u64) -> Option<u32>
+        requires { place < 2 ^ 35 }
+        ensures value { result ≡ loaded Width.Half self.now place }
+        ensures small { IfSome result (λ value. value < 65536) }
+    {
+        let low = self.octet(place + 1)?;
+        let high = self.octet(place)?;
+        Some(high as u32 * 256 + low as u32)
+    }
+
+    // Four octets that may lie on both sides of the header's end, or outside.
+    #[inline(always)]
+    fn split_word(&self, place: u64) -> Option<u32>
+        requires { place < 2 ^ 34 }
+        ensures { result ≡ loaded Width.Word self.now place }
+    {
+        let low = self.split_half(place + 2)?;
+        let high = self.split_half(place)?;
+        Some(high * 65_536 + low)
+    }
+}
+
+// A place as one of the payload. Where it is in the header, this is past each payload.
+#[inline(always)]
+fn in_payload(place: u64) -> u64
+    ensures header { place < 28 → 2 ^ 40 < result }
+    ensures payload { 28 ≤ place → place ≡ 28 + result }
+{
+    place.wrapping_sub(HEADER as u64)
+}
+
+// The two octets from a place as a number.
+#[inline(always)]
+fn half_at(octets: &[u8], at: usize) -> u32
+    requires { at + 1 < length octets.now }
+    ensures { loaded Width.Half octets.now at ≡ Some result }
+{
+    octets[at] as u32 * 256 + octets[at + 1] as u32
+}
+
+// The four octets from a place as a number.
+#[inline(always)]
+fn word_at(octets: &[u8], at: usize) -> u32
+    requires { at + 3 < length octets.now }
+    ensures { loaded Width.Word octets.now at ≡ Some result }
+{
+    u32::from_be_bytes([octets[at], octets[at + 1], octets[at + 2], octets[at + 3]])
+}
+
+// The octets before a payload of so many octets.
+#[inline(always)]
+fn header(from: End, to: End, payload: u16) -> [u8; HEADER]
+    requires { payload ≤ 65507 }
+    ensures { result ≡ header_of from to payload }
+{
+    let total = (28 + payload).to_be_bytes();
+    let udp = (8 + payload).to_be_bytes();
+    let source = from.port.to_be_bytes();
+    let target = to.port.to_be_bytes();
+    [
+        0x45,
+        0,
+        total[0],
+        total[1],
+        0,
+        0,
+        0,
+        0,
+        64,
+        17,
+        0,
+        0,
+        from.addr[0],
+        from.addr[1],
+        from.addr[2],
+        from.addr[3],
+        to.addr[0],
+        to.addr[1],
+        to.addr[2],
+        to.addr[3],
+        source[0],
+        source[1],
+        target[0],
+        target[1],
+        udp[0],
+        udp[1],
+        0,
+        0,
+    ]
+}

@@ -1,0 +1,122 @@
+//! The node over whole lists of events.
+
+use bpf_check::{Insn, check};
+use filter_slots::{Datagram, End, Moment, Socket};
+use node_core::{Action, Config, Event, Network, Node, Out, run_events};
+use std::sync::Arc;
+use std::test::Fail;
+
+const NEIGHBOUR: End = End {
+    addr: [10, 0, 0, 9],
+    port: 3130,
+};
+
+const OWN: End = End {
+    addr: [10, 0, 0, 1],
+    port: 3130,
+};
+
+/// An ICP query for `http://a/`.
+const QUERY: &str = "010200220000000100000000000000000000000000000000687474703a2f2f612f00";
+
+/// The MISS that answers it from 10.0.0.1.
+const MISS: &str = "0302001e0000000100000000000000000a000001687474703a2f2f612f00";
+
+/// A MISS from 10.0.0.9.
+const REPLY: &str = "0302001e0000000100000000000000000a000009687474703a2f2f612f00";
+
+/// Lets queries in, and nothing else.
+const QUERIES_ONLY: [Insn; 4] = [
+    Insn {
+        code: 48,
+        jt: 0,
+        jf: 0,
+        k: 28,
+    },
+    Insn {
+        code: 21,
+        jt: 0,
+        jf: 1,
+        k: 1,
+    },
+    Insn {
+        code: 6,
+        jt: 0,
+        jf: 0,
+        k: 65_535,
+    },
+    Insn {
+        code: 6,
+        jt: 0,
+        jf: 0,
+        k: 0,
+    },
+];
+
+/// A node at 10.0.0.1 whose neighbours are in 10.0.0.0/8.
+fn node_of(rt: &HostRuntime) -> Result<Node, Fail> {
+    let mut allowed = Vec::new(rt.alloc());
+    allowed.push(Network {
+        addr: [10, 0, 0, 0],
+        prefix: 8,
+    })?;
+    let addr = OWN.addr;
+    let htcp = End { addr, port: 4827 };
+    Node::new(Config {
+        icp: OWN,
+        htcp,
+        allowed,
+    })
+    .map_err(|_| Fail::from("the configuration is refused"))
+}
+
+/// A datagram from the neighbour to the own ICP end.
+fn arrival(rt: &HostRuntime, octets: &str, now: u64) -> Result<Event, Fail> {
+    let payload = hex::decode(rt.alloc(), octets).map_err(|_| "no octets")?;
+    let datagram = Datagram::new(Socket::Icp, NEIGHBOUR, OWN, payload).map_err(
+        |_| "too many octets",
+    )?;
+    let now = Moment::new(now).ok_or("no moment")?;
+    Ok(Event::Datagram {
+        datagram: Arc::new(rt.alloc(), datagram)?,
+        now,
+    })
+}
+
+/// A swap of the ICP socket's filter.
+fn swap(rt: &HostRuntime, insns: &[Insn]) -> Result<Event, Fail> {
+    let program = check(insns.to_vec(rt.alloc())?).map_err(|_| "refused")?;
+    Ok(Event::Swap {
+        socket: Socket::Icp,
+        program: Some(Arc::new(rt.alloc(), program)?),
+    })
+}
+
+/// The octets that an event sends to the neighbour, none where it sends nothing.
+fn sent(rt: &HostRuntime, out: &Out) -> Result<String, Fail> {
+    match out.actions() {
+        [] => Ok(String::new(rt.alloc())),
+        [Action::Send { to, payload, .. }] if *to == NEIGHBOUR => {
+            Ok(hex::encode(rt.alloc(), payload.as_slice())?)
+        }
+        _ => Err(Fail::from("other actions")),
+    }
+}
+
+#[test]
+fn a_run_takes_all_events(rt: HostRuntime) -> Result<(), Fail> {
+    let mut node = node_of(&rt)?;
+    let mut events = Vec::new(rt.alloc());
+    events.push(swap(&rt, &QUERIES_ONLY)?)?;
+    events.push(arrival(&rt, QUERY, 5)?)?;
+    events.push(arrival(&rt, REPLY, 6)?)?;
+    let outs = run_events(rt.alloc(), &mut node, &events).map_err(|_| "no memory")?;
+    assert_eq!(rt; outs.len(), 3);
+    for (out, wanted) in outs.iter().zip(["", MISS, ""]) {
+        assert_eq!(rt; sent(&rt, out)?.as_str(), wanted);
+    }
+    let counters = node.stats().icp;
+    assert_eq!(rt; (counters.judged, counters.rejected), (2, 1));
+    assert_eq!(rt; (counters.cut, counters.malformed), (0, 0));
+    Ok(())
+}

@@ -1,0 +1,68 @@
+-- The text of a script, line by line.
+use Rattle.std.proofs.Common.{◌≡◌, ℕ, Bool, true, false, cond, not, List, [], ◌∷◌, ◌++◌, refl, ap, ◌∙◌, sym}
+use Rattle.bpf_run.specs.declared.ends.End.{End}
+use Rattle.node_core.specs.declared.action.Action.{Action}
+use Rattle.node_core.specs.Settings.{Settings, are_fit}
+use Rattle.node_core.specs.Happening.{Happening}
+use Rattle.node_core.specs.Run.{answers}
+use Rattle.node_core.specs.State.{State, opening, HasTaken, state_after, actions_at}
+use Rattle.feed_script.specs.ScriptLine.{ScriptLine, sets, goes, happens, refuses, asks, blank, wrong, script_of}
+use Rattle.feed_script.specs.Printed.{actions_text, refuse_text, stats_text}
+use Rattle.feed_script.specs.Script.{setting, started, well_placed, usual, set_by, settings_from, after_go, event_of, events_of, woven, run_text, text}
+use Rattle.feed_script.specs.Ahead.{preparing, running, text_ahead}
+
+-- what is known of a node: one event after another
+pub record NodeLaws : Type 0 where
+  pub taken : (old : State) (event : Happening) → HasTaken old (state_after old event) (event ∷ []) (actions_at old event ∷ [])
+  pub more : (old mid new : State) (events : List Happening) (event : Happening) (outs : List (List Action)) (actions : List Action)
+      → HasTaken old mid events outs → HasTaken mid new (event ∷ []) (actions ∷ []) → HasTaken old new (events ++ event ∷ []) (outs ++ actions ∷ [])
+  pub sent : (old : State) (event : Happening) (events : List Happening)
+      → answers old.plain old.filters (event ∷ events) ≡ actions_at old event ∷ answers (state_after old event).plain (state_after old event).filters events
+
+-- the answers to all events, woven, are those that come line by line
+ahead-running : (laws : NodeLaws) (start : State) (own : End) (past : List Happening) (outs : List (List Action)) (mid : State) (ls : List ScriptLine) → HasTaken start mid past outs
+    → text_ahead (running own mid) ls ≡ woven start own past (well_placed started ls) (answers mid.plain mid.filters (events_of own (well_placed started ls)))
+ahead-running laws start own past outs mid [] h = refl
+ahead-running laws start own past outs mid (sets x ∷ ls) h = refl
+ahead-running laws start own past outs mid (goes ∷ ls) h = refl
+ahead-running laws start own past outs mid (happens o ∷ ls) h =
+    let e = event_of own o in
+    let rest = well_placed started ls in
+    ap (λ t. actions_text (actions_at mid e) ++ t)
+    (ahead-running laws start own (past ++ e ∷ []) (outs ++ actions_at mid e ∷ []) (state_after mid e) ls
+    (laws.more start mid (state_after mid e) past e outs (actions_at mid e) h (laws.taken mid e)))
+    ∙ ap (woven start own past (happens o ∷ rest)) (sym (laws.sent mid e (events_of own rest)))
+ahead-running laws start own past outs mid (refuses fault ∷ ls) h =
+    ap (λ t. refuse_text fault ++ t) (ahead-running laws start own past outs mid ls h)
+ahead-running laws start own past outs mid (asks ∷ ls) h =
+    let rest = well_placed started ls in
+    ap (λ t. stats_text mid.stats ++ t) (ahead-running laws start own past outs mid ls h)
+    ∙ ap (λ k. stats_text k ++ woven start own past rest (answers mid.plain mid.filters (events_of own rest))) h.stats
+ahead-running laws start own past outs mid (blank ∷ ls) h = ahead-running laws start own past outs mid ls h
+ahead-running laws start own past outs mid (wrong ∷ ls) h = refl
+
+-- nothing was taken yet
+taken-nothing : (s : State) → HasTaken s s [] []
+taken-nothing s = record { plain = refl; filters = refl; stats = refl; sent = refl }
+
+-- the start, where the settings are fit, or a wrong line where not
+ahead-go : (laws : NodeLaws) (s : Settings) (ls : List ScriptLine) (fit : Bool)
+    → cond (not fit) [] ([] ++ text_ahead (running s.icp (opening s)) ls)
+    ≡ run_text (settings_from s (cond (not fit) [] (goes ∷ well_placed started ls))) (after_go (cond (not fit) [] (goes ∷ well_placed started ls)))
+ahead-go laws s ls true = ahead-running laws (opening s) s.icp [] [] (opening s) ls (taken-nothing (opening s))
+ahead-go laws s ls false = refl
+
+ahead-setup : (laws : NodeLaws) (s : Settings) (ls : List ScriptLine)
+    → text_ahead (preparing s) ls ≡ run_text (settings_from s (well_placed (setting s) ls)) (after_go (well_placed (setting s) ls))
+ahead-setup laws s [] = refl
+ahead-setup laws s (sets x ∷ ls) = ahead-setup laws (set_by s x) ls
+ahead-setup laws s (goes ∷ ls) = ahead-go laws s ls (are_fit s)
+ahead-setup laws s (happens o ∷ ls) = refl
+ahead-setup laws s (refuses fault ∷ ls) = refl
+ahead-setup laws s (asks ∷ ls) = refl
+ahead-setup laws s (blank ∷ ls) = ahead-setup laws s ls
+ahead-setup laws s (wrong ∷ ls) = refl
+
+-- what a fresh engine prints is the text of the script
+pub text_ahead-fresh : NodeLaws → (b : List ℕ) → text_ahead (preparing usual) (script_of b) ≡ text b
+text_ahead-fresh laws b = ahead-setup laws usual (script_of b)

@@ -1,0 +1,6 @@
+use Rattle.std.proofs.Common.{arith, tests}
+use Rattle.feed_script.proofs.FieldLemmas.{words_of_other}
+use Rattle.feed_script.proofs.item.line_of.Goals as goal
+
+pub returns-in_default-clause-line : goal.returns-in_default-clause-line
+returns-in_default-clause-line c = words_of_other c.args.fields.now (search (arith, tests)) (search (arith, tests)) (search (arith, tests)) (search (arith, tests))

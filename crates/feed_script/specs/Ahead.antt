@@ -1,0 +1,101 @@
+-- What is still to be printed, for lines that are still to come.
+-- These words serve the contracts of private functions.
+use Rattle.std.specs.Prelude.{◌≡◌, ℕ, ◌+◌, false, List, [], ◌∷◌, ◌++◌, Option, Some, None, if◌then◌else◌}
+use Rattle.bpf_run.specs.declared.ends.End.{End}
+use Rattle.node_core.specs.Settings.{Settings, settings_of}
+use Rattle.node_core.specs.State.{State, opening, actions_at, state_after}
+use Rattle.feed_script.specs.declared.engine.Phase.{Phase}
+use Rattle.feed_script.specs.declared.engine.Phase.TheVariants.{Setup, Running}
+use Rattle.feed_script.specs.declared.engine.Engine.{Engine}
+use Rattle.feed_script.specs.declared.engine.Stop.{Stop}
+use Rattle.feed_script.specs.declared.engine.Stop.TheVariants.{Line, NoMemory}
+use Rattle.feed_script.specs.ScriptLine.{ScriptLine, sets, goes, happens, refuses, asks, script_of}
+use Rattle.feed_script.specs.Printed.{actions_text, refuse_text, stats_text}
+use Rattle.feed_script.specs.Written.{EndsWithBreak, NoBreak}
+use Rattle.feed_script.specs.Script.{Stage, setting, started, is_misplaced, first_misplaced, set_by, event_of}
+
+-- what is known between two lines: settings before the start, and a node after it
+pub data Standing : Type 0 where
+  preparing : Settings → Standing
+  running : (own : End) (state : State) → Standing
+
+abbrev pub standing_of : Phase → Standing
+standing_of (Setup config) = preparing (settings_of config)
+standing_of (Running station) = running station.own station.node
+
+abbrev pub stage_of : Standing → Stage
+stage_of (preparing s) = setting s
+stage_of (running own state) = started
+
+-- what one line prints
+abbrev pub printed : Standing → ScriptLine → List ℕ
+printed (running own state) (happens o) = actions_text (actions_at state (event_of own o))
+printed (running own state) (refuses fault) = refuse_text fault
+printed (running own state) asks = stats_text state.stats
+printed _ _ = []
+
+-- what is known after one line
+abbrev pub next : Standing → ScriptLine → Standing
+next (preparing s) (sets x) = preparing (set_by s x)
+next (preparing s) goes = running s.icp (opening s)
+next (running own state) (happens o) = running own (state_after state (event_of own o))
+next standing _ = standing
+
+-- the text that these lines still give
+abbrev pub text_ahead : Standing → List ScriptLine → List ℕ
+text_ahead standing [] = []
+text_ahead standing (l ∷ ls) = if is_misplaced (stage_of standing) l then [] else printed standing l ++ text_ahead (next standing l) ls
+
+-- what is printed, and which line is the first wrong one, if these octets come after whole lines
+abbrev pub text_after : Engine → List ℕ → List ℕ
+text_after e rest = text_ahead (standing_of e.phase) (script_of rest)
+
+abbrev pub wrong_after : Engine → List ℕ → Option ℕ
+wrong_after e rest = first_misplaced (stage_of (standing_of e.phase)) (e.number + 1) (script_of rest)
+
+-- the same where they come after the begun line
+abbrev pub text_left : Engine → List ℕ → List ℕ
+text_left e rest = text_after e (e.line.items ++ rest)
+
+abbrev pub wrong_left : Engine → List ℕ → Option ℕ
+wrong_left e rest = wrong_after e (e.line.items ++ rest)
+
+-- A line was obeyed that prints nothing.
+pub record Moves (old : Phase) (line : ScriptLine) (new : Phase) : Type 0 where
+  pub placed : is_misplaced (stage_of (standing_of old)) line ≡ false
+  pub after : standing_of new ≡ next (standing_of old) line
+
+-- A line was obeyed: it is in place, and what it prints was printed.
+pub record Obeys (old : Phase) (line : ScriptLine) (printed_old : List ℕ) (new : Phase) (printed_new : List ℕ) : Type 0 where
+  pub placed : is_misplaced (stage_of (standing_of old)) line ≡ false
+  pub after : standing_of new ≡ next (standing_of old) line
+  pub shown : printed_new ≡ printed_old ++ printed (standing_of old) line
+
+-- An engine took a piece, and printed: some lines are whole now, and whatever comes, the whole text and the first wrong line
+-- stay the same.
+pub record Takes (old : Engine) (piece printed_old : List ℕ) (new : Engine) (printed_new : List ℕ) : Type 0 where
+  pub whole : List ℕ
+  pub parts : old.line.items ++ piece ≡ whole ++ new.line.items
+  pub ended : EndsWithBreak whole
+  pub text : (rest : List ℕ) → printed_old ++ text_after old (whole ++ rest) ≡ printed_new ++ text_after new rest
+  pub wrong_line : (rest : List ℕ) → wrong_after old (whole ++ rest) ≡ wrong_after new rest
+  pub partial : NoBreak new.line.items
+
+-- An engine stopped within a piece: at its first wrong line, with all text printed, or for memory, with a prefix printed.
+abbrev pub StopsBy : Engine → List ℕ → List ℕ → List ℕ → Stop → Type 0
+StopsBy old piece printed_old printed_new (Line n) = (rest : List ℕ) → (printed_old ++ text_left old (piece ++ rest) ≡ printed_new) × (wrong_left old (piece ++ rest) ≡ Some n)
+StopsBy old piece printed_old printed_new NoMemory = (rest : List ℕ) → (more : List ℕ) × (printed_old ++ text_left old (piece ++ rest) ≡ printed_new ++ more)
+
+-- The input ended: all text is printed, and no line was wrong.
+pub record Ends (old : Engine) (printed_old printed_new : List ℕ) : Type 0 where
+  pub text : printed_old ++ text_left old [] ≡ printed_new
+  pub wrong_line : wrong_left old [] ≡ None
+
+-- The input ended, and its last line is wrong, or there was no memory for it.
+abbrev pub EndsBy : Engine → List ℕ → List ℕ → Stop → Type 0
+EndsBy old printed_old printed_new (Line n) = (printed_old ++ text_left old [] ≡ printed_new) × (wrong_left old [] ≡ Some n)
+EndsBy old printed_old printed_new NoMemory = (more : List ℕ) × (printed_old ++ text_left old [] ≡ printed_new ++ more)
+
+-- What an engine printed for a piece is a front of the text that the piece gives.
+abbrev pub PrintsFront : Engine → List ℕ → List ℕ → List ℕ → Type 0
+PrintsFront old piece printed_old printed_new = (more : List ℕ) × (printed_old ++ text_left old piece ≡ printed_new ++ more)

@@ -1,0 +1,9 @@
+pub mod Ahead
+pub mod Fault
+pub mod Item
+pub mod Lexis
+pub mod Printed
+pub mod Script
+pub mod ScriptLine
+pub mod Told
+pub mod Written

@@ -1,0 +1,66 @@
+-- What is printed.
+use Rattle.std.specs.Prelude.{ℕ, List, ◌++◌, length, slice_index, codes, decimal, ◌==◌, if◌then◌else◌}
+use Rattle.std.specs.List.{flat_map}
+use Rattle.hex.specs.Hex.{encode_lower}
+use Rattle.bpf_check.specs.declared.checked.CheckFault.{CheckFault}
+use Rattle.bpf_check.specs.declared.checked.CheckFault.TheVariants.{Empty, TooLong, UnknownCode, ZeroDivisor, BadScratch, BadJump, NoReturn}
+use Rattle.bpf_run.specs.declared.ends.End.{End}
+use Rattle.bpf_run.specs.declared.ends.Socket.{Socket}
+use Rattle.bpf_run.specs.declared.ends.Socket.TheVariants.{Icp}
+use Rattle.node_core.specs.declared.action.Action.{Action}
+use Rattle.node_core.specs.declared.action.Action.TheVariants.{Send}
+use Rattle.node_core.specs.declared.stats.Counters.{Counters}
+use Rattle.node_core.specs.declared.stats.Stats.{Stats}
+
+-- octets in hexadecimal, `-` for none
+abbrev pub octets_text : List ℕ → List ℕ
+octets_text bytes = if length bytes == 0 then codes "-" else encode_lower bytes
+
+-- an address, as `10.0.0.1`
+abbrev pub address_text : List ℕ → List ℕ
+address_text addr =
+    decimal (slice_index addr 0) ++ codes "." ++ decimal (slice_index addr 1) ++ codes "."
+    ++ decimal (slice_index addr 2) ++ codes "." ++ decimal (slice_index addr 3)
+
+-- an end, as `10.0.0.1:3130`
+abbrev pub end_text : End → List ℕ
+end_text end = address_text end.addr ++ codes ":" ++ decimal end.port
+
+-- the name of a socket
+abbrev pub socket_text : Socket → List ℕ
+socket_text Icp = codes "icp"
+
+-- the line of an action
+abbrev pub action_text : Action → List ℕ
+action_text (Send socket to payload) =
+    codes "send " ++ socket_text socket ++ codes " " ++ end_text to ++ codes " " ++ octets_text payload ++ codes "\n"
+
+-- the actions of one event, one a line, and then a full stop
+abbrev pub actions_text : List Action → List ℕ
+actions_text actions = flat_map action_text actions ++ codes ".\n"
+
+-- a fault's number, and its place or `-`
+abbrev pub fault_words : CheckFault → List ℕ
+fault_words Empty = codes "1 -"
+fault_words TooLong = codes "2 -"
+fault_words (UnknownCode place) = codes "3 " ++ decimal place
+fault_words (ZeroDivisor place) = codes "4 " ++ decimal place
+fault_words (BadScratch place) = codes "5 " ++ decimal place
+fault_words (BadJump place) = codes "6 " ++ decimal place
+fault_words NoReturn = codes "7 -"
+
+-- the line of a program that is refused
+abbrev pub refuse_text : CheckFault → List ℕ
+refuse_text fault = codes "refuse " ++ fault_words fault ++ codes "\n"
+
+-- a number after a space
+abbrev pub field_text : ℕ → List ℕ
+field_text n = codes " " ++ decimal n
+
+-- a socket's counters
+abbrev pub counters_text : Counters → List ℕ
+counters_text c = field_text c.judged ++ field_text c.rejected ++ field_text c.cut ++ field_text c.malformed ++ codes "\n"
+
+-- the counters of both sockets, a line each
+abbrev pub stats_text : Stats → List ℕ
+stats_text s = codes "stats icp" ++ counters_text s.icp ++ codes "stats htcp" ++ counters_text s.htcp

@@ -1,0 +1,111 @@
+-- The text that a script is answered with, and its first wrong line.
+use Rattle.std.specs.Prelude.{ℕ, ◌+◌, Bool, true, false, not, List, [], ◌∷◌, ◌++◌, Option, Some, None, if◌then◌else◌}
+use Rattle.bpf_run.specs.declared.ends.End.{End}
+use Rattle.bpf_run.specs.declared.ends.Socket.TheVariants.{Icp}
+use Rattle.node_core.specs.declared.action.Action.{Action}
+use Rattle.node_core.specs.Settings.{Settings, are_fit}
+use Rattle.node_core.specs.Happening.{Happening, arrives, swaps}
+use Rattle.node_core.specs.Run.{answers}
+use Rattle.node_core.specs.Counters.{counted}
+use Rattle.node_core.specs.State.{State, opening}
+use Rattle.feed_script.specs.ScriptLine.{Setting, owns, allows, Occurrence, receives, changes, ScriptLine, sets, goes, happens, refuses, asks, blank, wrong, script_of}
+use Rattle.feed_script.specs.Printed.{actions_text, refuse_text, stats_text}
+
+-- the settings of a script that sets nothing: 10.0.0.1, ports 3130 and 4827, and no network
+abbrev pub usual : Settings
+usual = record {
+  icp = record { addr = 10 ∷ 0 ∷ 0 ∷ 1 ∷ []; port = 3130 };
+  htcp = record { addr = 10 ∷ 0 ∷ 0 ∷ 1 ∷ []; port = 4827 };
+  allowed = [];
+}
+
+-- an own address replaces the one before, a network is added
+abbrev pub set_by : Settings → Setting → Settings
+set_by s (owns addr) = record {
+  icp = record { addr = addr; port = s.icp.port };
+  htcp = record { addr = addr; port = s.htcp.port };
+  allowed = s.allowed;
+}
+set_by s (allows network) = record { icp = s.icp; htcp = s.htcp; allowed = s.allowed ++ network ∷ [] }
+
+-- before the start a script has settings
+pub data Stage : Type 0 where
+  setting : Settings → Stage
+  started : Stage
+
+-- the stage after a line
+abbrev pub stage_after : Stage → ScriptLine → Stage
+stage_after (setting s) (sets x) = setting (set_by s x)
+stage_after (setting s) goes = started
+stage_after stage _ = stage
+
+-- Whether a line may not stand here. Before the start there are only settings, then `go`, where the node takes them; and
+-- after it there are only the others.
+abbrev pub is_misplaced : Stage → ScriptLine → Bool
+is_misplaced (setting s) (sets x) = false
+is_misplaced (setting s) goes = not (are_fit s)
+is_misplaced (setting s) blank = false
+is_misplaced (setting s) _ = true
+is_misplaced started (sets x) = true
+is_misplaced started goes = true
+is_misplaced started wrong = true
+is_misplaced started _ = false
+
+-- the number of the first misplaced line, where the first line is numbered n
+abbrev pub first_misplaced : Stage → ℕ → List ScriptLine → Option ℕ
+first_misplaced stage n [] = None
+first_misplaced stage n (l ∷ ls) = if is_misplaced stage l then Some n else first_misplaced (stage_after stage l) (n + 1) ls
+
+-- the lines before the first misplaced one
+abbrev pub well_placed : Stage → List ScriptLine → List ScriptLine
+well_placed stage [] = []
+well_placed stage (l ∷ ls) = if is_misplaced stage l then [] else l ∷ well_placed (stage_after stage l) ls
+
+-- the settings that the lines before the start make of these
+abbrev pub settings_from : Settings → List ScriptLine → Settings
+settings_from s [] = s
+settings_from s (goes ∷ ls) = s
+settings_from s (sets x ∷ ls) = settings_from (set_by s x) ls
+settings_from s (_ ∷ ls) = settings_from s ls
+
+-- the lines after the start
+abbrev pub after_go : List ScriptLine → List ScriptLine
+after_go [] = []
+after_go (goes ∷ ls) = ls
+after_go (_ ∷ ls) = after_go ls
+
+-- the event that a line tells of: a datagram comes to the own end
+abbrev pub event_of : End → Occurrence → Happening
+event_of own (receives from payload now) = arrives (record { socket = Icp; from = from; to = own; payload = payload }) now
+event_of own (changes program) = swaps Icp program
+
+-- all events, in order
+abbrev pub events_of : End → List ScriptLine → List Happening
+events_of own [] = []
+events_of own (happens o ∷ ls) = event_of own o ∷ events_of own ls
+events_of own (_ ∷ ls) = events_of own ls
+
+-- the answers to all events, printed, with the refused programs and the counters over the events before at their places
+abbrev pub woven : State → End → List Happening → List ScriptLine → List (List Action) → List ℕ
+woven start own past [] answered = []
+woven start own past (happens o ∷ ls) [] = []
+woven start own past (happens o ∷ ls) (a ∷ answered) = actions_text a ++ woven start own (past ++ event_of own o ∷ []) ls answered
+woven start own past (refuses fault ∷ ls) answered = refuse_text fault ++ woven start own past ls answered
+woven start own past (asks ∷ ls) answered = stats_text (counted start.stats start.filters past) ++ woven start own past ls answered
+woven start own past (_ ∷ ls) answered = woven start own past ls answered
+
+-- the text of the lines after the start: all events are gathered first
+abbrev pub run_text : Settings → List ScriptLine → List ℕ
+run_text s ls = woven (opening s) s.icp [] ls (answers (opening s).plain (opening s).filters (events_of s.icp ls))
+
+-- the text of lines that are all in place
+abbrev pub text_of_lines : List ScriptLine → List ℕ
+text_of_lines ls = run_text (settings_from usual ls) (after_go ls)
+
+-- The text of a script: that of the lines before its first wrong one.
+abbrev pub text : List ℕ → List ℕ
+text b = text_of_lines (well_placed (setting usual) (script_of b))
+
+-- the number of a script's first wrong line, counted from 1
+abbrev pub first_wrong : List ℕ → Option ℕ
+first_wrong b = first_misplaced (setting usual) 1 (script_of b)

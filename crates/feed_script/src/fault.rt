@@ -1,0 +1,36 @@
+//! Why a feed stops.
+ghost use Rattle.std.specs.Prelude.{◌≡◌, Some};
+ghost use Rattle.std.specs.Fmt.{decimal};
+
+use std::fmt;
+
+/// Why a feed stops.
+#[derive(Clone, Copy, Debug, PartialEq)]
+pub enum FeedFault {
+    /// The line of this number, counted from 1, is wrong.
+    Line(u64),
+    /// The reader failed, or gave more than 1,000,000,000 octets.
+    Read,
+    /// The writer failed.
+    Write,
+    /// There was no memory.
+    NoMemory,
+}
+
+impl fmt::Display for FeedFault {
+    ghost use Rattle.feed_script.specs.Fault.{fault_text};
+
+    ghost output = { λ f. Some (fault_text f) };
+
+    fn fmt<W: fmt::Write>(&self, f: &mut fmt::Formatter<W>) -> fmt::Result {
+        match self {
+            FeedFault::Line(n) => {
+                let n = *n;
+                write!(f, "feed fault 1 line {n}")
+            }
+            FeedFault::Read => f.write_str("feed fault 2"),
+            FeedFault::Write => f.write_str("feed fault 3"),
+            FeedFault::NoMemory => f.write_str("feed fault 4"),
+        }
+    }
+}

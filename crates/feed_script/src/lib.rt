@@ -1,0 +1,20 @@
+//! A script of events for a node, read from any reader, and its answers, written to any writer. The script is text: a line
+//! for each setting, event and question.
+#![tactic(auto)]
+
+mod engine;
+mod fault;
+mod item;
+mod laws;
+mod lexis;
+mod print;
+mod program;
+mod stream;
+
+pub use fault::FeedFault;
+pub use stream::feed;
+
+#[cfg(test)]
+mod memory;
+#[cfg(test)]
+mod tests;

@@ -1,0 +1,164 @@
+use super::fault::FeedFault;
+use super::memory::{Sink, Source};
+use super::stream::feed;
+use std::alloc::{AllocError, Global};
+use std::test::Fail;
+
+// In scripts and texts of this page, `Z` stands for sixteen zero octets, `U` for the URL http://a/ with its zero octet, `Q` for
+// a query for it, and `R` for a reply of 10.0.0.1 with it, after the opcode.
+const ZEROS: &[u8] = b"00000000000000000000000000000000";
+
+const URL: &[u8] = b"687474703a2f2f612f00";
+
+const QUERY: &[u8] = b"010200220000000100000000000000000000000000000000687474703a2f2f612f00";
+
+const REPLY: &[u8] = b"02001e0000000100000000000000000a000001687474703a2f2f612f00";
+
+fn expanded(alloc: Global, text: &[u8]) -> Result<Vec<u8>, AllocError> {
+    let mut whole = Vec::new(alloc);
+    for c in text {
+        match *c {
+            b'Z' => whole.extend_from_slice(ZEROS)?,
+            b'U' => whole.extend_from_slice(URL)?,
+            b'Q' => whole.extend_from_slice(QUERY)?,
+            b'R' => whole.extend_from_slice(REPLY)?,
+            c => whole.push(c)?,
+        }
+    }
+    Ok(whole)
+}
+
+// The outcome of a run, what was written, and how many calls the reader and the writer had.
+fn run(
+    alloc: Global,
+    script: &[u8],
+    fail_read: u64,
+    fail_write: u64,
+) -> (Result<(), FeedFault>, Vec<u8>, u64, u64) {
+    let mut input = Source {
+        rest: script,
+        step: 5,
+        calls: 0,
+        fail_at: fail_read,
+    };
+    let mut output = Sink {
+        held: Vec::new(alloc),
+        step: 3,
+        calls: 0,
+        fail_at: fail_write,
+    };
+    let outcome = feed(alloc, &mut input, &mut output);
+    let Source {
+        rest: _,
+        step: _,
+        calls: reads,
+        fail_at: _,
+    } = input;
+    let Sink {
+        held,
+        step: _,
+        calls: writes,
+        fail_at: _,
+    } = output;
+    (outcome, held, reads, writes)
+}
+
+const FILTERED: &[u8] =
+    b"allow 10.0.0.0/8\ngo\ns icp 6,0,0,0\nd icp 10.0.0.9:3130 Q 5\ns icp off\nd icp 10.0.0.9:3130 Q 5\n?\n";
+
+const FILTERED_TEXT: &[u8] =
+    b".\n.\n.\nsend icp 10.0.0.9:3130 03R\n.\nstats icp 2 1 0 0\nstats htcp 0 0 0 0\n";
+
+const CASES: [(&[u8], Result<(), FeedFault>, &[u8]); 16] = [
+    (FILTERED, Ok(()), FILTERED_TEXT),
+    // A source that isn't allowed, and a URL that isn't one of http.
+    (
+        b"allow 10.0.0.0/8\ngo\nd icp 192.0.2.7:3130 Q 5\nd icp 10.0.0.9:3130 0102002100000001Z6674703a2f2f612f00 5",
+        Ok(()),
+        b"send icp 192.0.2.7:3130 16R\n.\nsend icp 10.0.0.9:3130 0402001d0000000100000000000000000a0000016674703a2f2f612f00\n.\n",
+    ),
+    // A filter that lets queries through, and no replies.
+    (
+        b"allow 10.0.0.0/8\r\n\r\n# queries\r\ngo\r\ns icp 48,0,0,28;21,0,1,1;6,0,0,65535;6,0,0,0\r\nd icp 10.0.0.9:3130 Q 5\r\nd icp 10.0.0.9:3130 0302001E0000000100000000000000000A000009U 6\r\n?\r\n",
+        Ok(()),
+        b".\nsend icp 10.0.0.9:3130 03R\n.\n.\nstats icp 2 1 0 0\nstats htcp 0 0 0 0\n",
+    ),
+    // Twelve octets are handed on, and none.
+    (
+        b"allow 10.0.0.0/8\ngo\ns icp 6,0,0,40\nd icp 10.0.0.9:3130 Q 5\n?\ns icp 6,0,0,28\nd icp 10.0.0.9:3130 Q 5\n?\n",
+        Ok(()),
+        b".\n.\nstats icp 1 0 1 1\nstats htcp 0 0 0 0\n.\n.\nstats icp 2 0 2 2\nstats htcp 0 0 0 0\n",
+    ),
+    // What is no message isn't answered.
+    (
+        b"allow 10.0.0.0/8\ngo\nd icp 10.0.0.9:3130 Q00 5\nd icp 10.0.0.9:3130 0102002100000001ZU 5\nd icp 10.0.0.9:3130 0102002200000001Z68747470002f2f612f00 5\nd icp 10.0.0.9:3130 0103002200000001ZU 5\nd icp 10.0.0.9:3130 01020022000000010000000000000000000000 5\nd icp 10.0.0.9:3130 0102002200000001Z687474703a2f2f612f 5\nd icp 10.0.0.9:3130 - 5\n?\n",
+        Ok(()),
+        b".\n.\n.\n.\n.\n.\n.\nstats icp 7 0 0 7\nstats htcp 0 0 0 0\n",
+    ),
+    // Programs that are refused.
+    (
+        b"go\ns icp 52,0,0,0;6,0,0,0\ns icp 6,0,0,0;7,0,0,0\n?\n",
+        Ok(()),
+        b"refuse 4 0\nrefuse 7 -\nstats icp 0 0 0 0\nstats htcp 0 0 0 0\n",
+    ),
+    (
+        b"go\ns icp off\ns icp 65536,0,0,0\ns icp off\n",
+        Err(FeedFault::Line(3)),
+        b".\n",
+    ),
+    // The last own address is the sender of a reply, and each network is allowed.
+    (
+        b"allow 192.0.2.7/32\nown 1.2.3.4\nown 10.0.0.1\nallow 10.0.0.0/8\ngo\nd icp 10.0.0.9:3130 Q 4294967295999\nd icp 10.0.0.9:65535 Q 4294967296000\n",
+        Err(FeedFault::Line(7)),
+        b"send icp 10.0.0.9:3130 03R\n.\n",
+    ),
+    (b"", Ok(()), b""),
+    (b"own 10.0.0.2\nallow 0.0.0.0/0\n", Ok(()), b""),
+    (b"allow 10.0.0.0/33\ngo\n", Err(FeedFault::Line(1)), b""),
+    (b"own 10.0.0.256\ngo\n", Err(FeedFault::Line(1)), b""),
+    (b"s icp off\n", Err(FeedFault::Line(1)), b""),
+    (
+        b"go\n?\nown 10.0.0.2\n",
+        Err(FeedFault::Line(3)),
+        b"stats icp 0 0 0 0\nstats htcp 0 0 0 0\n",
+    ),
+    (b"go\ns  icp off\n", Err(FeedFault::Line(2)), b""),
+    (b"go\n\ns icp off\r", Err(FeedFault::Line(3)), b""),
+];
+
+#[test]
+fn scripts(rt: HostRuntime) -> Result<(), Fail> {
+    let alloc = rt.alloc();
+    for (i, (script, want, text)) in CASES.iter().enumerate() {
+        let script = expanded(alloc, *script)?;
+        let text = expanded(alloc, *text)?;
+        let (outcome, held, _, _) = run(alloc, script.as_slice(), 0, 0);
+        assert!(rt; outcome == *want, "script {i}");
+        assert!(rt; held == text, "script {i}");
+    }
+    Ok(())
+}
+
+// Each read fails in turn, and each write: a prefix was written.
+#[test]
+fn failures(rt: HostRuntime) -> Result<(), Fail> {
+    let alloc = rt.alloc();
+    let script = expanded(alloc, FILTERED)?;
+    let text = expanded(alloc, FILTERED_TEXT)?;
+    let (_, _, reads, writes) = run(alloc, script.as_slice(), 0, 0);
+    assert!(rt;
+        reads > 20 && reads < 100 && writes > 20 && writes < 100,
+        "{reads} {writes}"
+    );
+    for k in 1..=reads {
+        let (outcome, held, _, _) = run(alloc, script.as_slice(), k, 0);
+        assert!(rt; outcome == Err(FeedFault::Read), "read {k}");
+        assert!(rt; text.starts_with(held.as_slice()), "read {k}");
+    }
+    for k in 1..=writes {
+        let (outcome, held, _, _) = run(alloc, script.as_slice(), 0, k);
+        assert!(rt; outcome == Err(FeedFault::Write), "write {k}");
+        assert!(rt; text.starts_with(held.as_slice()), "write {k}");
+    }
+    Ok(())
+}

@@ -1,0 +1,4 @@
+pub mod Datagram
+pub mod Cut
+pub mod Filters
+pub mod Verdict

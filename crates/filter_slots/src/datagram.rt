@@ -1,0 +1,122 @@
+//! A datagram that came in.
+
+ghost use Rattle.std.specs.Prelude.{◌≡◌, ◌≤◌, ◌↔◌, length, IsOk, IfOk, IfErr};
+ghost use Rattle.bpf_run.specs.Packet.{filter_packet};
+ghost use Rattle.filter_slots.specs.Datagram.{ends_of};
+
+use bpf_run::packet::MOST_PAYLOAD;
+use bpf_run::{End, Packet, Socket};
+use std::marker::Model;
+
+/// A UDP datagram: the socket that it came in by, its two ends and its payload of at most 65,507
+/// octets. Contracts see a record of these.
+#[derive(Debug, Drop)]
+pub struct Datagram {
+    socket: Socket,
+    from: End,
+    to: End,
+    payload: Vec<u8>,
+}
+
+impl Model for Datagram {
+    ghost use Rattle.std.specs.Prelude.{◌≤◌, length};
+    ghost use Rattle.filter_slots.specs.Datagram.{DatagramFields};
+
+    ghost Value = { DatagramFields };
+
+    ghost view = { λ d. record { socket = d.socket; from = d.from; to = d.to; payload = d.payload.items } };
+
+    ghost invariant = { λ d. length d.payload.items ≤ 65507 };
+}
+
+impl Datagram {
+    /// The datagram, or the payload handed back where it has more than 65,507 octets.
+    pub fn new(socket: Socket, from: End, to: End, payload: Vec<u8>) -> Result<Datagram, Vec<u8>>
+        ensures accepts { IsOk result ↔ (length payload.items ≤ 65507) }
+        ensures value { IfOk result (λ datagram. datagram ≡ record { socket = socket; from = from; to = to; payload = payload.items }) }
+        ensures back { IfErr result (λ refused. refused ≡ payload) }
+    {
+        if payload.len() > MOST_PAYLOAD {
+            return Err(payload);
+        }
+        Ok(Datagram {
+            socket,
+            from,
+            to,
+            payload,
+        })
+    }
+
+    /// The socket that it came in by.
+    #[inline(always)]
+    pub fn socket(&self) -> Socket
+        ensures { result ≡ self.now.socket }
+    {
+        self.socket
+    }
+
+    /// Who sent it.
+    #[inline(always)]
+    pub fn from(&self) -> End
+        ensures { result ≡ self.now.from }
+    {
+        self.from
+    }
+
+    /// Whom it was sent to.
+    #[inline(always)]
+    pub fn to(&self) -> End
+        ensures { result ≡ self.now.to }
+    {
+        self.to
+    }
+
+    /// The payload, of at most 65,507 octets.
+    #[inline(always)]
+    pub fn payload(&self) -> &[u8]
+        ensures same { result.now ≡ self.now.payload }
+        ensures within { length self.now.payload ≤ 65507 }
+    {
+        &self.payload
+    }
+
+    /// Source address, source port, destination address and destination port, in network order.
+    pub fn ends(&self) -> [u8; 12]
+        ensures { result ≡ ends_of self.now.from self.now.to }
+    {
+        both_ends(self.from, self.to)
+    }
+
+    /// The packet that a filter sees of it.
+    #[inline(always)]
+    pub fn packet(&self) -> Packet<'_>
+        ensures { result ≡ filter_packet self.now.from self.now.to self.now.payload }
+    {
+        match Packet::new(self.from, self.to, &self.payload) {
+            Some(packet) => packet,
+            None => unreachable!(),
+        }
+    }
+}
+
+// Two ends, octet by octet.
+fn both_ends(from: End, to: End) -> [u8; 12]
+    ensures { result ≡ ends_of from to }
+{
+    let source = from.port.to_be_bytes();
+    let target = to.port.to_be_bytes();
+    [
+        from.addr[0],
+        from.addr[1],
+        from.addr[2],
+        from.addr[3],
+        source[0],
+        source[1],
+        to.addr[0],
+        to.addr[1],
+        to.addr[2],
+        to.addr[3],
+        target[0],
+        target[1],
+    ]
+}

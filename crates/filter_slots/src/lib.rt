@@ -1,0 +1,18 @@
+//! Datagrams, a filter program or none for each query socket, and what a verdict leaves of a
+//! payload.
+#![tactic(auto)]
+
+pub mod cutting;
+pub mod datagram;
+pub mod laws;
+pub mod slots;
+
+pub use bpf_check::Checked;
+pub use bpf_run::{End, Moment, Socket, Verdict};
+pub use cutting::cut;
+pub use datagram::Datagram;
+pub use slots::Slots;
+pub use std::alloc::AllocError as NoMemory;
+
+#[cfg(test)]
+mod tests;

@@ -1,0 +1,4 @@
+pub mod Texts
+pub mod Headers
+pub mod MessageOf
+pub mod Faults

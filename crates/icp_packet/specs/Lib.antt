@@ -1,0 +1,5 @@
+pub mod Message
+pub mod Fault
+pub mod Reading
+pub mod View
+pub mod Parts

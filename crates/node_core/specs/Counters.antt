@@ -1,0 +1,63 @@
+-- What is counted of the events, for each socket.
+use Rattle.std.specs.Prelude.{ℕ, ◌+◌, ◌==◌, nat_lt, not, ◌&&◌, is_none, min, Bool, true, List, [], ◌∷◌, length, if◌then◌else◌}
+use Rattle.bpf_run.specs.declared.ends.Socket.{Socket}
+use Rattle.bpf_run.specs.declared.ends.Socket.TheVariants.{Icp}
+use Rattle.filter_slots.specs.Datagram.{DatagramFields}
+use Rattle.filter_slots.specs.Filters.{Filters}
+use Rattle.filter_slots.specs.Verdict.{verdict_in_force}
+use Rattle.icp_packet.specs.Reading.{message_of}
+use Rattle.node_core.specs.declared.stats.Counters.{Counters}
+use Rattle.node_core.specs.declared.stats.Stats.{Stats}
+use Rattle.node_core.specs.Happening.{Happening, arrives, swaps}
+use Rattle.node_core.specs.Kept.{handed_on, swapped}
+
+-- a counter with more added, at most the greatest number of 64 bits
+abbrev pub plus : ℕ → ℕ → ℕ
+plus counter n = if n == 0 then counter else min (counter + n) 18446744073709551615
+
+abbrev pub one_if : Bool → ℕ
+one_if b = if b then 1 else 0
+
+-- the verdict is 0
+abbrev pub is_rejected : Filters → DatagramFields → Bool
+is_rejected filters datagram = verdict_in_force filters datagram == 0
+
+-- another verdict, and fewer octets are handed on than came
+abbrev pub is_cut : Filters → DatagramFields → Bool
+is_cut filters datagram =
+    not (is_rejected filters datagram) && nat_lt (length (handed_on filters datagram).payload) (length datagram.payload)
+
+-- whether octets are no message of the socket
+abbrev pub is_no_message : Socket → List ℕ → Bool
+is_no_message Icp octets = is_none (message_of octets)
+
+-- another verdict, and what is handed on is no message
+abbrev pub is_malformed : Filters → DatagramFields → Bool
+is_malformed filters datagram =
+    not (is_rejected filters datagram) && is_no_message datagram.socket (handed_on filters datagram).payload
+
+abbrev pub is_icp : Socket → Bool
+is_icp Icp = true
+
+-- whether an event is a datagram of the socket that passes the test
+abbrev pub one_of : (Socket → Bool) → (Filters → DatagramFields → Bool) → Filters → Happening → ℕ
+one_of here test filters (arrives datagram now) = one_if (here datagram.socket && test filters datagram)
+one_of here test filters (swaps socket program) = 0
+
+-- how many datagrams of a socket pass a test, under the filters then in force
+abbrev pub count_of : (Socket → Bool) → (Filters → DatagramFields → Bool) → Filters → List Happening → ℕ
+count_of here test filters [] = 0
+count_of here test filters (first ∷ events) = one_of here test filters first + count_of here test (swapped filters first) events
+
+-- one socket's counters after the events
+abbrev pub counted_at : (Socket → Bool) → Counters → Filters → List Happening → Counters
+counted_at here counters filters events = record {
+  judged = plus counters.judged (count_of here (λ _ _. true) filters events);
+  rejected = plus counters.rejected (count_of here is_rejected filters events);
+  cut = plus counters.cut (count_of here is_cut filters events);
+  malformed = plus counters.malformed (count_of here is_malformed filters events);
+}
+
+-- the counters of both sockets after the events
+abbrev pub counted : Stats → Filters → List Happening → Stats
+counted stats filters events = record { icp = counted_at is_icp stats.icp filters events; htcp = stats.htcp }

@@ -1,0 +1,19 @@
+-- What happens to a node, as plain values: events without their places in memory.
+use Rattle.std.specs.Prelude.{ℕ, List, Option}
+use Rattle.std.specs.Option.{option_map}
+use Rattle.std.specs.Arc.{arc_value}
+use Rattle.bpf_check.specs.declared.insn.Insn.{Insn}
+use Rattle.bpf_run.specs.declared.ends.Socket.{Socket}
+use Rattle.filter_slots.specs.Datagram.{DatagramFields}
+use Rattle.node_core.specs.declared.event.Event.{Event}
+use Rattle.node_core.specs.declared.event.Event.TheVariants as event
+
+-- a datagram arrives at a moment, or a socket's program is replaced or taken out
+pub data Happening : Type 0 where
+  arrives : (datagram : DatagramFields) (now : ℕ) → Happening
+  swaps : (socket : Socket) (program : Option (List Insn)) → Happening
+
+-- what an event says
+abbrev pub happening : Event → Happening
+happening (event.Datagram datagram now) = arrives (arc_value datagram) now
+happening (event.Swap socket program) = swaps socket (option_map (λ arc. arc_value arc) program)

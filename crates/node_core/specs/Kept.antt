@@ -1,0 +1,47 @@
+-- Which events reach the node, by the filters in force alone. No node occurs here.
+use Rattle.std.specs.Prelude.{ℕ, ◌==◌, List, [], ◌∷◌, Option, Some, None, if◌then◌else◌}
+use Rattle.filter_slots.specs.Datagram.{DatagramFields}
+use Rattle.filter_slots.specs.Filters.{Filters, with_slot}
+use Rattle.filter_slots.specs.Verdict.{verdict_in_force}
+use Rattle.filter_slots.specs.Cut.{cut_of}
+use Rattle.node_core.specs.Happening.{Happening, arrives, swaps}
+use Rattle.node_core.specs.Plain.{PlainEvent, Arrived}
+
+-- the filters after one event
+abbrev pub swapped : Filters → Happening → Filters
+swapped filters (arrives datagram now) = filters
+swapped filters (swaps socket program) = with_slot filters socket program
+
+-- the filters in force after the events
+abbrev pub filters_after : Filters → List Happening → Filters
+filters_after filters [] = filters
+filters_after filters (first ∷ events) = filters_after (swapped filters first) events
+
+-- the datagram with what its verdict lets through
+abbrev pub handed_on : Filters → DatagramFields → DatagramFields
+handed_on filters datagram = record datagram { payload = cut_of datagram.payload (verdict_in_force filters datagram) }
+
+-- what is kept of a datagram: nothing where its verdict is 0
+abbrev pub kept_datagram : Filters → DatagramFields → ℕ → Option PlainEvent
+kept_datagram filters datagram now =
+    if verdict_in_force filters datagram == 0 then None else Some (Arrived (handed_on filters datagram) now)
+
+-- what is kept of an event under the filters in force
+abbrev pub kept_event : Filters → Happening → Option PlainEvent
+kept_event filters (arrives datagram now) = kept_datagram filters datagram now
+kept_event filters (swaps socket program) = None
+
+-- what is kept at each place, under the filters in force there
+abbrev pub kept_places : Filters → List Happening → List (Option PlainEvent)
+kept_places filters [] = []
+kept_places filters (first ∷ events) = kept_event filters first ∷ kept_places (swapped filters first) events
+
+-- those that are there, in order
+abbrev pub present : {A : Type 0} → List (Option A) → List A
+present [] = []
+present (None ∷ places) = present places
+present (Some x ∷ places) = x ∷ present places
+
+-- what is kept of the events
+abbrev pub kept : Filters → List Happening → List PlainEvent
+kept filters events = present (kept_places filters events)

@@ -1,0 +1,9 @@
+pub mod Counters
+pub mod Happening
+pub mod Kept
+pub mod Plain
+pub mod Raised
+pub mod Run
+pub mod Settings
+pub mod State
+pub mod Swaps

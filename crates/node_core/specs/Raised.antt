@@ -1,0 +1,27 @@
+-- One more datagram, as the functions that count promise it to one another: no public promise speaks of these.
+use Rattle.std.specs.Prelude.{Bool}
+use Rattle.bpf_run.specs.declared.ends.Socket.{Socket}
+use Rattle.bpf_run.specs.declared.ends.Socket.TheVariants.{Icp}
+use Rattle.filter_slots.specs.Datagram.{DatagramFields}
+use Rattle.filter_slots.specs.Filters.{Filters}
+use Rattle.node_core.specs.declared.stats.Counters.{Counters}
+use Rattle.node_core.specs.declared.stats.Stats.{Stats}
+use Rattle.node_core.specs.Counters.{plus, one_if, is_rejected, is_cut, is_malformed}
+
+-- a socket's counters with one more datagram
+abbrev pub raised : Counters → Bool → Bool → Bool → Counters
+raised counters rejected was_cut malformed = record {
+  judged = plus counters.judged 1;
+  rejected = plus counters.rejected (one_if rejected);
+  cut = plus counters.cut (one_if was_cut);
+  malformed = plus counters.malformed (one_if malformed);
+}
+
+-- a socket's counters raised, and the other's as they were
+abbrev pub raised_at : Socket → Stats → Bool → Bool → Bool → Stats
+raised_at Icp stats rejected was_cut malformed = record stats { icp = raised stats.icp rejected was_cut malformed }
+
+-- the counters with one more datagram, as it is judged
+abbrev pub counted_datagram : Stats → Filters → DatagramFields → Stats
+counted_datagram stats filters datagram =
+    raised_at datagram.socket stats (is_rejected filters datagram) (is_cut filters datagram) (is_malformed filters datagram)

@@ -1,0 +1,79 @@
+//! Laws of the definitions, for the layers above.
+ghost use Rattle.std.specs.Prelude.{◌≡◌, ◌↔◌, ℕ, List, ◌∷◌, [], ◌++◌, IsTrue, unwrap_or};
+ghost use Rattle.bpf_run.specs.declared.ends.Socket.{Socket};
+ghost use Rattle.filter_slots.specs.Datagram.{DatagramFields};
+ghost use Rattle.filter_slots.specs.Filters.{Filters, slot, AreAccepted};
+ghost use Rattle.filter_slots.specs.Verdict.{verdict_in_force};
+ghost use Rattle.node_core.specs.declared.action.Action.{Action};
+ghost use Rattle.node_core.specs.Settings.{Settings, AreFit, are_fit};
+ghost use Rattle.node_core.specs.Happening.{Happening, arrives};
+ghost use Rattle.node_core.specs.Plain.{PlainNode};
+ghost use Rattle.node_core.specs.Kept.{kept, filters_after};
+ghost use Rattle.node_core.specs.Swaps.{last_swap, PutsInAccepted};
+ghost use Rattle.node_core.specs.Run.{run_node, answers};
+ghost use Rattle.node_core.specs.Counters.{counted};
+ghost use Rattle.node_core.specs.State.{State, HasTaken, state_after, actions_at};
+
+/// Taking more events goes on from what the events before left: one event, or a list of them.
+pub fn append_law()
+    ensures one { (old mid new : State) (events : List Happening) (event : Happening) (outs : List (List Action)) (actions : List Action) →
+        HasTaken old mid events outs → HasTaken mid new (event ∷ []) (actions ∷ []) → HasTaken old new (events ++ event ∷ []) (outs ++ actions ∷ []) }
+    ensures list { (old mid new : State) (events more : List Happening) (outs lists : List (List Action)) →
+        HasTaken old mid events outs → HasTaken mid new more lists → HasTaken old new (events ++ more) (outs ++ lists) }
+{}
+
+/// Taking one event reaches one state by one list of actions, and what is taken after it is taken from there.
+pub fn step_law()
+    ensures taken { (old : State) (event : Happening) → HasTaken old (state_after old event) (event ∷ []) (actions_at old event ∷ []) }
+    ensures state { (old new : State) (event : Happening) (actions : List Action) →
+        HasTaken old new (event ∷ []) (actions ∷ []) → new ≡ state_after old event }
+    ensures actions { (old new : State) (event : Happening) (actions : List Action) →
+        HasTaken old new (event ∷ []) (actions ∷ []) → actions ≡ actions_at old event }
+    ensures plain { (old : State) (event : Happening) (events : List Happening) →
+        let mid = state_after old event in
+        run_node old.plain (kept old.filters (event ∷ events)) ≡ run_node mid.plain (kept mid.filters events) }
+    ensures filters { (old : State) (event : Happening) (events : List Happening) →
+        filters_after old.filters (event ∷ events) ≡ filters_after (state_after old event).filters events }
+    ensures stats { (old : State) (event : Happening) (events : List Happening) →
+        let mid = state_after old event in
+        counted old.stats old.filters (event ∷ events) ≡ counted mid.stats mid.filters events }
+    ensures sent { (old : State) (event : Happening) (events : List Happening) →
+        let mid = state_after old event in
+        answers old.plain old.filters (event ∷ events) ≡ actions_at old event ∷ answers mid.plain mid.filters events }
+{}
+
+/// A datagram of verdict 0, put anywhere into a list of events, changes nothing later of the plain node, the filters and the
+/// actions: the events that are kept are the same, its own list of actions is empty, and all others are those of the events
+/// without it. Only counters change.
+pub fn rejected_law()
+    ensures kept { (filters : Filters) (before after : List Happening) (datagram : DatagramFields) (now : ℕ) →
+        verdict_in_force (filters_after filters before) datagram ≡ 0 →
+        kept filters (before ++ arrives datagram now ∷ after) ≡ kept filters (before ++ after) }
+    ensures filters { (filters : Filters) (before after : List Happening) (datagram : DatagramFields) (now : ℕ) →
+        filters_after filters (before ++ arrives datagram now ∷ after) ≡ filters_after filters (before ++ after) }
+    ensures answers { (node : PlainNode) (filters : Filters) (before after : List Happening) (datagram : DatagramFields) (now : ℕ) →
+        verdict_in_force (filters_after filters before) datagram ≡ 0 →
+        answers node filters (before ++ arrives datagram now ∷ after)
+        ≡ answers node filters before ++ [] ∷ answers (run_node node (kept filters before)) (filters_after filters before) after }
+    ensures without { (node : PlainNode) (filters : Filters) (before after : List Happening) →
+        answers node filters (before ++ after)
+        ≡ answers node filters before ++ answers (run_node node (kept filters before)) (filters_after filters before) after }
+{}
+
+/// The program in force is that of the last swap of its slot, or the one that stood there first.
+pub fn filters_law()
+    ensures { (socket : Socket) (filters : Filters) (events : List Happening) →
+        slot (filters_after filters events) socket ≡ unwrap_or (last_swap socket events) (slot filters socket) }
+{}
+
+/// Where each program that is put in is one that the checker accepts, so is each program in force: the verdicts in force are then
+/// those of the programs' one run.
+pub fn accepted_law()
+    ensures { (filters : Filters) (events : List Happening) →
+        AreAccepted filters → PutsInAccepted events → AreAccepted (filters_after filters events) }
+{}
+
+/// The test of settings decides whether they are fit.
+pub fn fit_law()
+    ensures { (settings : Settings) → IsTrue (are_fit settings) ↔ AreFit settings }
+{}

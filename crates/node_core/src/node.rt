@@ -1,0 +1,141 @@
+//! The node: filters in front of the plain node, counters beside it.
+ghost use Rattle.std.specs.Prelude.{◌≡◌, ◌∷◌, [], ◌↔◌, IfOk, IfErr, OnOk, OnErr, IsOk, None};
+ghost use Rattle.std.specs.Option.{option_map};
+ghost use Rattle.std.specs.Arc.{arc_value};
+ghost use Rattle.filter_slots.specs.Filters.{AreAccepted, with_slot};
+ghost use Rattle.node_core.specs.Settings.{AreFit, settings_of};
+ghost use Rattle.node_core.specs.Happening.{happening};
+ghost use Rattle.node_core.specs.Kept.{kept_datagram};
+ghost use Rattle.node_core.specs.Run.{plain_after, actions_of};
+ghost use Rattle.node_core.specs.Raised.{counted_datagram};
+
+use crate::NoMemory;
+use crate::action::Out;
+use crate::config::{Config, NodeFault};
+use crate::core_node::Core;
+use crate::event::Event;
+use crate::stats::{Counters, Stats};
+use bpf_check::Checked;
+use filter_slots::{Datagram, Moment, Slots, Socket, cut};
+use std::alloc::Global;
+use std::marker::Model;
+use std::sync::Arc;
+
+/// A node with its filters and counters. Contracts see a record of the plain node, the programs and the counters.
+#[derive(Drop)]
+pub struct Node {
+    core: Core,
+    slots: Slots,
+    stats: Stats,
+}
+
+impl Model for Node {
+    ghost use Rattle.node_core.specs.State.{State};
+
+    ghost Value = { State };
+
+    ghost view = { λ n. record { plain = n.core; filters = n.slots; stats = n.stats } };
+}
+
+impl Node {
+    ghost use Rattle.node_core.specs.State.{HasTaken, TakesNone, opening};
+
+    /// The node of a configuration, with no filter and nothing counted. It takes no memory. The fault is that a
+    /// prefix is over 32.
+    pub fn new(config: Config) -> Result<Node, NodeFault>
+        ensures accepts { IsOk result ↔ AreFit (settings_of config) }
+        ensures opens { IfOk result (λ node. node ≡ opening (settings_of config)) }
+        ensures limits { IfErr result (λ fault. fault ≡ NodeFault.Limits) }
+    {
+        if !config.is_fit() {
+            return Err(NodeFault::Limits);
+        }
+        Ok(Node {
+            core: Core::new(config),
+            slots: Slots::new(),
+            stats: Stats {
+                icp: Counters::ZERO,
+                htcp: Counters::ZERO,
+            },
+        })
+    }
+
+    /// What was counted.
+    pub fn stats(&self) -> Stats
+        ensures { result ≡ self.now.stats }
+    {
+        self.stats
+    }
+
+    /// The programs in force. Each is one that the checker accepts.
+    pub fn programs(&self) -> &Slots
+        ensures same { result.now ≡ self.now.filters }
+        ensures accepted { AreAccepted self.now.filters }
+    {
+        self.slots.facts();
+        &self.slots
+    }
+
+    /// Takes one event, and writes its actions to an empty `out`. An error says that there was no memory, or that a
+    /// program has too many owners: the node is as before, and `out` is empty.
+    pub fn step(&mut self, alloc: Global, event: &Event, out: &mut Out) -> Result<(), NoMemory>
+        requires { out.old ≡ [] }
+        ensures taken { OnOk result (HasTaken self.old self.new (happening event.now ∷ []) (out.new ∷ [])) }
+        ensures refused { OnErr result ((self.new ≡ self.old) × (out.new ≡ [])) }
+        ensures without_memory { TakesNone self.old (happening event.now) → IsOk result }
+    {
+        match event {
+            Event::Datagram { datagram, now } => self.datagram(alloc, datagram, *now, out),
+            Event::Swap { socket, program } => self.swap(*socket, program),
+        }
+    }
+
+    /// Judges a datagram, and hands on what its verdict lets through.
+    fn datagram(
+        &mut self,
+        alloc: Global,
+        datagram: &Datagram,
+        now: Moment,
+        out: &mut Out,
+    ) -> Result<(), NoMemory>
+        requires { out.old ≡ [] }
+        ensures plain { OnOk result (self.new.plain ≡ plain_after self.old.plain (kept_datagram self.old.filters datagram.now now)) }
+        ensures actions { OnOk result (out.new ≡ actions_of self.old.plain (kept_datagram self.old.filters datagram.now now)) }
+        ensures filters { OnOk result (self.new.filters ≡ self.old.filters) }
+        ensures stats { OnOk result (self.new.stats ≡ counted_datagram self.old.stats self.old.filters datagram.now) }
+        ensures refused { OnErr result ((self.new ≡ self.old) × (out.new ≡ [])) }
+        ensures silent { actions_of self.old.plain (kept_datagram self.old.filters datagram.now now) ≡ [] → IsOk result }
+    {
+        let socket = datagram.socket();
+        let value = self.slots.force(datagram).value;
+        if value == 0 {
+            self.stats = self.stats.raised(socket, true, false, false);
+            return Ok(());
+        }
+        let octets = cut(datagram, value);
+        let malformed = self.core.datagram(alloc, datagram, octets, now, out)?;
+        let shorter = octets.len() < datagram.payload().len();
+        self.stats = self.stats.raised(socket, false, shorter, malformed);
+        Ok(())
+    }
+
+    /// Replaces a program, or takes it out.
+    fn swap(&mut self, socket: Socket, program: &Option<Arc<Checked>>) -> Result<(), NoMemory>
+        ensures plain { OnOk result (self.new.plain ≡ self.old.plain) }
+        ensures filters { OnOk result (self.new.filters ≡ with_slot self.old.filters socket (option_map (λ arc. arc_value arc) program.now)) }
+        ensures stats { OnOk result (self.new.stats ≡ self.old.stats) }
+        ensures refused { OnErr result (self.new ≡ self.old) }
+        ensures emptied { program.now ≡ None → IsOk result }
+    {
+        match program {
+            None => {
+                let _ = self.slots.clear(socket);
+            }
+            Some(program) => {
+                let program = Arc::try_clone(program)?;
+                let _ = self.slots.install(socket, program);
+            }
+        }
+        Ok(())
+    }
+}

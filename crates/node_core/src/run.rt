@@ -1,0 +1,47 @@
+//! Whole lists of events.
+ghost use Rattle.std.specs.Prelude.{◌≤◌, length, take, map, IfOk, IfErr};
+ghost use Rattle.node_core.specs.Happening.{happening};
+ghost use Rattle.node_core.specs.State.{HasTaken};
+
+use crate::action::Out;
+use crate::event::Event;
+use crate::node::Node;
+use std::alloc::Global;
+
+/// Memory, or the sharing of a program, was refused: the first `done` events were taken, and `outs` are their actions.
+#[derive(Debug, Drop)]
+pub struct RunFault {
+    /// How many events were taken.
+    pub done: usize,
+    /// The actions of each of them.
+    pub outs: Vec<Out>,
+}
+
+/// Takes the events in order, and gives the actions of each. The node and the actions are those of a node without
+/// filters, given what the filters keep of the events.
+pub fn run_events(alloc: Global, node: &mut Node, events: &[Event]) -> Result<Vec<Out>, RunFault>
+    ensures all { IfOk result (λ outs. HasTaken node.old node.new (map happening events.now) outs.items) }
+    ensures some { IfErr result (λ fault. (fault.done ≤ length events.now)
+        × HasTaken node.old node.new (take fault.done (map happening events.now)) fault.outs.items) }
+{
+    let mut outs = match Vec::with_capacity(alloc, events.len()) {
+        Ok(outs) => outs,
+        Err(_) => {
+            return Err(RunFault {
+                done: 0,
+                outs: Vec::new(alloc),
+            });
+        }
+    };
+    for (i, event) in events.iter().enumerate() {
+        let mut out = match Out::new(alloc) {
+            Ok(out) => out,
+            Err(_) => return Err(RunFault { done: i, outs }),
+        };
+        match node.step(alloc, event, &mut out) {
+            Ok(()) => outs.push(out).unwrap(),
+            Err(_) => return Err(RunFault { done: i, outs }),
+        }
+    }
+    Ok(outs)
+}
