@@ -1,2 +1,4 @@
 pub mod Faults
 mod RefusalLemmas
+pub mod ListingNumbers
+pub mod ListingFaults

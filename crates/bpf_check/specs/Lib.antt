@@ -3,3 +3,4 @@ pub mod Accepted
 pub mod Refusal
 pub mod Insn
 pub mod Same
+pub mod Listing

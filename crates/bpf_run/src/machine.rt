@@ -117,7 +117,7 @@ fn perform(operation: Operation, insn: &Insn, machine: &mut Machine, packet: &Pa
             return branch(insn, holds(comparison, machine.a, insn.k));
         }
         Operation::Branch(comparison, Operand::Index) => {
-            return branch(insn, holds(comparison, machine.a, machine.x));
+            return branch(insn, holds_of_registers(comparison, machine.a, machine.x));
         }
         Operation::ReturnConstant => return Outcome::End(insn.k),
         Operation::ReturnAccumulator => return Outcome::End(machine.a),
@@ -181,4 +181,12 @@ fn holds(comparison: Comparison, a: u32, b: u32) -> bool
         Comparison::Above => a > b,
         Comparison::SharesBit => a & b != 0,
     }
+}
+
+// The same of A and X. Were it inlined, LLVM would compare the two before each instruction, whatever that is.
+#[inline(never)]
+fn holds_of_registers(comparison: Comparison, a: u32, x: u32) -> bool
+    ensures { result ≡ compare comparison a x }
+{
+    holds(comparison, a, x)
 }

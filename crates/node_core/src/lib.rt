@@ -14,7 +14,7 @@ mod stats;
 pub use action::{Action, Out, Payload};
 pub use config::{Config, Network, NodeFault};
 pub use event::Event;
-pub use laws::{append_law, filters_law, fit_law, rejected_law, step_law};
+pub use laws::{accepted_law, append_law, filters_law, fit_law, rejected_law, step_law};
 pub use node::Node;
 pub use run::{RunFault, run_events};
 pub use stats::{Counters, Stats};

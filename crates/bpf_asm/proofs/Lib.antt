@@ -1,0 +1,15 @@
+pub mod TokenLemmas
+pub mod Fill
+pub mod Codes
+pub mod OneRow
+pub mod Values
+pub mod Bodies
+pub mod Resolving
+pub mod Places
+pub mod Passes
+pub mod Jumps
+pub mod Final
+pub mod Decimals
+pub mod Written
+pub mod WrittenLines
+pub mod ReadBack

@@ -1,0 +1,241 @@
+-- The first pass, a line at a time: what it gathers, and which fault is the first.
+use Rattle.std.proofs.Common.{◌≡◌, ℕ, ◌+◌, ◌*◌, ◌<◌, ◌≤◌, ◌⊎◌, inl, inr, List, [], ◌∷◌, length, Bool, true, false, cond, Option, Some, None, refl, ap, sym, ◌∙◌, subst, arith}
+use Rattle.std.specs.Prelude.{slice_get}
+use Rattle.std.specs.Str.{bytes_eq}
+use Rattle.std.proofs.lemmas.Slice.Eq.{bytes_eq-Decides}
+use Rattle.std.proofs.lemmas.Option.{slice_get_within}
+use Rattle.std.proofs.lemmas.List.{length_push}
+use Rattle.bpf_check.specs.declared.operation.Operand.TheVariants.{Constant, Index}
+use Rattle.bpf_check.specs.declared.operation.Operation.{Operation}
+use Rattle.bpf_check.specs.declared.operation.Operation.TheVariants.{Jump, Branch}
+use Rattle.bpf_asm.specs.declared.fault.AsmFault.{AsmFault}
+use Rattle.bpf_asm.specs.declared.fault.AsmFault.TheVariants as faults
+use Rattle.bpf_asm.specs.Assembly.{label_of, body_of, has_body, place_of, LabelAt, IsBody, IsMnemonic, FirstWord, WrongNumber, BodyFault, IsDouble, LineFault, JumpFault, FaultAt, IsFirstFault, IsAnswer}
+use Rattle.bpf_asm.specs.Drafts.{Draft, Keeps, IsDraft, Labelled, LabelRefused, Drafted, BodyRefused, IsTable, IsDraftAt, AreDrafts, NoneBefore}
+use Rattle.bpf_asm.proofs.Bodies.{one_body}
+use Rattle.bpf_asm.proofs.Places.{moved, place_yes, place_no, body_true, body_false}
+use Rattle.bpf_asm.proofs.Resolving.{each_pushed}
+
+-- ---- the time of a fault
+
+raised : (ls : List (List (List ℕ))) (time next : ℕ) → next ≡ time + 1 → NoneBefore ls time → ((other : AsmFault) → FaultAt ls time other → ⊥) → NoneBefore ls next
+raised ls time next e none not when other h =
+    let low = none when other h in
+    let apart : when ≡ time → ⊥ = (λ same. not other (subst (λ (t : ℕ). FaultAt ls t other) same h)) in
+    omega arith
+
+double_from : (ls : List (List (List ℕ))) (n m : ℕ) (line there : List (List ℕ)) (other : AsmFault) → slice_get ls n ≡ Some line → slice_get ls m ≡ Some there → LineFault ls (3 * n) m there other → IsDouble ls n line
+double_from ls n m line there (faults.DoubleLabel k) here found h = moved (IsDouble ls) ls m n there line (omega (arith, h.1)) found here h.2
+double_from ls n m line there (faults.TooLong k) here found h = absurd (omega (arith, h.1))
+double_from ls n m line there _ here found h = absurd (omega (arith, h.0))
+
+body_from : (ls : List (List (List ℕ))) (n m : ℕ) (line there : List (List ℕ)) (other : AsmFault) → slice_get ls n ≡ Some line → slice_get ls m ≡ Some there → LineFault ls (3 * n + 1) m there other → BodyFault (body_of line) (n + 1) other
+body_from ls n m line there (faults.DoubleLabel k) here found h = absurd (omega (arith, h.1))
+body_from ls n m line there (faults.TooLong k) here found h = absurd (omega (arith, h.1))
+body_from ls n m line there fault here found h = moved (λ k l. BodyFault (body_of l) (k + 1) fault) ls m n there line (omega (arith, h.0)) found here h.1
+
+limit_from : (ls : List (List (List ℕ))) (n m : ℕ) (line there : List (List ℕ)) (other : AsmFault) → slice_get ls n ≡ Some line → slice_get ls m ≡ Some there → LineFault ls (3 * n + 2) m there other → (has_body line ≡ true) × (512 ≤ place_of ls n)
+limit_from ls n m line there (faults.DoubleLabel k) here found h = absurd (omega (arith, h.1))
+limit_from ls n m line there (faults.TooLong k) here found h = moved (λ k l. (has_body l ≡ true) × (512 ≤ place_of ls k)) ls m n there line (omega (arith, h.1)) found here (h.2, h.3)
+limit_from ls n m line there _ here found h = absurd (omega (arith, h.0))
+
+too_late : (ls : List (List (List ℕ))) (n m time : ℕ) (line there : List (List ℕ)) (other : AsmFault) → slice_get ls n ≡ Some line → time < 3 * n + 3 → JumpFault ls time m there other → ⊥
+too_late ls n m time line there other here early h = let within = slice_get_within ls n line here in omega (arith, h.after)
+
+double_at : (ls : List (List (List ℕ))) (n : ℕ) (line : List (List ℕ)) (other : AsmFault) → slice_get ls n ≡ Some line → FaultAt ls (3 * n) other → IsDouble ls n line
+double_at ls n line other here h = elim h.3 [
+  | inl a ↦ double_from ls n h.0 line h.1 other here h.2 a
+  | inr b ↦ absurd (too_late ls n h.0 (3 * n) line h.1 other here (omega arith) b)
+]
+
+body_at : (ls : List (List (List ℕ))) (n : ℕ) (line : List (List ℕ)) (other : AsmFault) → slice_get ls n ≡ Some line → FaultAt ls (3 * n + 1) other → BodyFault (body_of line) (n + 1) other
+body_at ls n line other here h = elim h.3 [
+  | inl a ↦ body_from ls n h.0 line h.1 other here h.2 a
+  | inr b ↦ absurd (too_late ls n h.0 (3 * n + 1) line h.1 other here (omega arith) b)
+]
+
+limit_at : (ls : List (List (List ℕ))) (n : ℕ) (line : List (List ℕ)) (other : AsmFault) → slice_get ls n ≡ Some line → FaultAt ls (3 * n + 2) other → (has_body line ≡ true) × (512 ≤ place_of ls n)
+limit_at ls n line other here h = elim h.3 [
+  | inl a ↦ limit_from ls n h.0 line h.1 other here h.2 a
+  | inr b ↦ absurd (too_late ls n h.0 (3 * n + 2) line h.1 other here (omega arith) b)
+]
+
+-- ---- the label of a line
+
+eq_itself : (w : List ℕ) → bytes_eq w w ≡ true
+eq_itself w = (bytes_eq-Decides w w).1 refl
+
+none_not_some : {A : Type 0} (o : Option A) (x : A) → o ≡ None → o ≡ Some x → ⊥
+none_not_some o x e f = absurd (cc)
+
+none_labelled : (ls : List (List (List ℕ))) (n : ℕ) (look new : List ℕ → Option ℕ) (place : ℕ) (line : List (List ℕ)) (o : Option (List ℕ)) → label_of line ≡ o → IsTable ls n look → Labelled look new place o → IsDouble ls n line → ⊥
+none_labelled ls n look new place line None e table h d = absurd (let f = d.named in cc)
+none_labelled ls n look new place line (Some label) e table h d =
+    let same : label ≡ d.label = (let f = d.named in cc) in
+    table.missing d.label (ap look (sym same) ∙ h.0) d.earlier d.before d.first
+
+pub after_label : (ls : List (List (List ℕ))) (n : ℕ) (look new : List ℕ → Option ℕ) (place : ℕ) (line : List (List ℕ)) → slice_get ls n ≡ Some line → IsTable ls n look → Labelled look new place (label_of line) → NoneBefore ls (3 * n) → NoneBefore ls (3 * n + 1)
+after_label ls n look new place line here table h none =
+    raised ls (3 * n) (3 * n + 1) refl none (λ other f. none_labelled ls n look new place line (label_of line) refl table h (double_at ls n line other here f))
+
+pub label_answer : (ls : List (List (List ℕ))) (n : ℕ) (look : List ℕ → Option ℕ) (line : List (List ℕ)) (fault : AsmFault) → slice_get ls n ≡ Some line → IsTable ls n look → NoneBefore ls (3 * n) → LabelRefused look (n + 1) (label_of line) fault → IsAnswer ls fault
+label_answer ls n look line (faults.DoubleLabel k) here table none h = record {
+  time = 3 * n;
+  has = (let l = h.1.0 in let f = table.found l h.1.2 h.1.3 in
+      (n, line, here, inl (h.0, refl, record { label = l; named = h.1.1; earlier = f.0; before = f.1; first = f.2 })));
+  first = none;
+}
+label_answer ls n look line faults.NoMemory here table none h = tt
+label_answer ls n look line _ here table none h = absurd h
+
+lt_cases : (a m : ℕ) → a < m + 1 → (a < m) ⊎ (a ≡ m)
+lt_cases a m h = grind arith
+
+label_same : (ls : List (List (List ℕ))) (n m : ℕ) (line : List (List ℕ)) (label : List ℕ) → slice_get ls n ≡ Some line → m ≡ n → LabelAt ls m label → label_of line ≡ Some label
+label_same ls n m line label here e h = moved (λ k l. label_of l ≡ Some label) ls m n h.0 line e h.1 here h.2
+
+table_with : (ls : List (List (List ℕ))) (n : ℕ) (look new : List ℕ → Option ℕ) (line : List (List ℕ)) (o : Option (List ℕ)) → slice_get ls n ≡ Some line → label_of line ≡ o → IsTable ls n look → Labelled look new (place_of ls n) o → IsTable ls (n + 1) new
+table_with ls n look new line None here named table h = record { found = found; missing = missing; unique = unique }
+  where
+    found : (label : List ℕ) (place : ℕ) → new label ≡ Some place → (m : ℕ) × (m < n + 1) × LabelAt ls m label × (place_of ls m ≡ place)
+    found label place e = let f = table.found label place (sym (h label) ∙ e) in (f.0, omega (arith, f.1), f.2, f.3)
+
+    earlier : (m : ℕ) (label : List ℕ) → m < n + 1 → LabelAt ls m label → m < n
+    earlier m label below at = elim (lt_cases m n below) [ inl lt ↦ lt | inr e ↦ absurd (none_not_some (label_of line) label named (label_same ls n m line label here e at)) ]
+
+    missing : (label : List ℕ) → new label ≡ None → (m : ℕ) → m < n + 1 → LabelAt ls m label → ⊥
+    missing label e m below at = table.missing label (sym (h label) ∙ e) m (earlier m label below at) at
+
+    unique : (k m : ℕ) (label : List ℕ) → k < n + 1 → m < n + 1 → LabelAt ls k label → LabelAt ls m label → k ≡ m
+    unique k m label a b f g = table.unique k m label (earlier k label a f) (earlier m label b g) f g
+table_with ls n look new line (Some own) here named table h = record { found = found; missing = missing; unique = unique }
+  where
+    looked : (b : Bool) (label : List ℕ) (place : ℕ) → bytes_eq own label ≡ b → cond b (Some (place_of ls n)) (look label) ≡ Some place → (m : ℕ) × (m < n + 1) × LabelAt ls m label × (place_of ls m ≡ place)
+    looked true label place is e =
+        let same : own ≡ label = (bytes_eq-Decides own label).0 is in
+        (n, omega arith, (line, here, named ∙ ap (λ (l : List ℕ). Some l) same), cc)
+    looked false label place is e = let f = table.found label place e in (f.0, omega (arith, f.1), f.2, f.3)
+
+    found : (label : List ℕ) (place : ℕ) → new label ≡ Some place → (m : ℕ) × (m < n + 1) × LabelAt ls m label × (place_of ls m ≡ place)
+    found label place e = looked (bytes_eq own label) label place refl (sym (h.1 label) ∙ e)
+
+    own_at : (m : ℕ) (label : List ℕ) → m ≡ n → LabelAt ls m label → own ≡ label
+    own_at m label e at = let f = label_same ls n m line label here e at in cc
+
+    unnamed : (b : Bool) (label : List ℕ) → bytes_eq own label ≡ b → cond b (Some (place_of ls n)) (look label) ≡ None → (look label ≡ None) × (own ≡ label → ⊥)
+    unnamed true label is e = absurd (cc)
+    unnamed false label is e = (e, λ same. (let t : bytes_eq own label ≡ true = (bytes_eq-Decides own label).1 same in absurd (cc)))
+
+    missing : (label : List ℕ) → new label ≡ None → (m : ℕ) → m < n + 1 → LabelAt ls m label → ⊥
+    missing label e m below at =
+        let u = unnamed (bytes_eq own label) label refl (sym (h.1 label) ∙ e) in
+        elim (lt_cases m n below) [ inl lt ↦ table.missing label u.0 m lt at | inr same ↦ u.1 (own_at m label same at) ]
+
+    not_earlier : (m k : ℕ) (label : List ℕ) → m < n → k ≡ n → LabelAt ls m label → LabelAt ls k label → ⊥
+    not_earlier m k label lt e f g = table.missing label (ap look (sym (own_at k label e g)) ∙ h.0) m lt f
+
+    unique : (k m : ℕ) (label : List ℕ) → k < n + 1 → m < n + 1 → LabelAt ls k label → LabelAt ls m label → k ≡ m
+    unique k m label a b f g = elim (lt_cases k n a) [
+      | inl lt ↦ elim (lt_cases m n b) [ inl less ↦ table.unique k m label lt less f g | inr e ↦ absurd (not_earlier k m label lt e f g) ]
+      | inr e ↦ elim (lt_cases m n b) [ inl less ↦ absurd (not_earlier m k label less e g f) | inr d ↦ e ∙ sym d ]
+    ]
+
+pub table_more : (ls : List (List (List ℕ))) (n : ℕ) (look new : List ℕ → Option ℕ) (line : List (List ℕ)) → slice_get ls n ≡ Some line → IsTable ls n look → Labelled look new (place_of ls n) (label_of line) → IsTable ls (n + 1) new
+table_more ls n look new line here table h = table_with ls n look new line (label_of line) here refl table h
+
+-- ---- the body of a line
+
+pub is_mnemonic_of : (body : List (List ℕ)) (code : ℕ) (operation : Operation) (ws : List (List ℕ)) → IsBody body code operation ws → FirstWord IsMnemonic body
+is_mnemonic_of [] code operation ws is = absurd (let e = is.spelled in cc)
+is_mnemonic_of (w ∷ ts) code operation ws is = (code, operation, is.row, (let e = is.spelled in cc))
+
+pub first_word : (body : List (List ℕ)) → FirstWord IsMnemonic body → FirstWord (λ word. IsMnemonic word → ⊥) body → ⊥
+first_word [] h g = h
+first_word (w ∷ ts) h g = g h
+
+number_kept : (d : Draft) (o : Operation) (ws : List (List ℕ)) → Keeps d o ws → WrongNumber ws o → ⊥
+number_kept d o [] keeps wrong = wrong
+number_kept d Jump (w ∷ ws) keeps wrong = wrong
+number_kept d (Branch test Index) (w ∷ ws) keeps wrong = wrong
+number_kept d (Branch test Constant) (w ∷ []) keeps wrong = wrong d.k keeps
+number_kept d (Branch test Constant) (w ∷ l ∷ []) keeps wrong = keeps
+number_kept d (Branch test Constant) (w ∷ l ∷ m ∷ []) keeps wrong = wrong d.k keeps.0
+number_kept d (Branch test Constant) (w ∷ l ∷ m ∷ v ∷ ws) keeps wrong = keeps
+number_kept d _ (w ∷ []) keeps wrong = wrong d.k keeps
+number_kept d _ (w ∷ v ∷ ws) keeps wrong = keeps
+
+pub no_body_fault : (body : List (List ℕ)) (d : Draft) (line : ℕ) (fault : AsmFault) → IsDraft body d → BodyFault body line fault → ⊥
+no_body_fault body d line (faults.Mnemonic k) is h = first_word body (is_mnemonic_of body d.code d.operation is.ws is.written) h.1
+no_body_fault body d line (faults.Operand k) is h = h.2 (d.code, d.operation, is.ws, is.written)
+no_body_fault body d line (faults.Number k) is h =
+    let p = h.1 in
+    let e = one_body body p.0 d.code p.1 d.operation p.2 is.ws p.3 is.written in
+    number_kept d d.operation is.ws is.kept (subst (λ (ws : List (List ℕ)). WrongNumber ws d.operation) e.words (subst (WrongNumber p.2) e.operation p.4))
+no_body_fault body d line _ is h = h
+
+pub no_empty_fault : (line : ℕ) (fault : AsmFault) → BodyFault [] line fault → ⊥
+no_empty_fault line (faults.Mnemonic k) h = h.1
+no_empty_fault line (faults.Operand k) h = h.1
+no_empty_fault line (faults.Number k) h = absurd (let e = h.1.3.spelled in cc)
+no_empty_fault line _ h = h
+
+drafted_fine : (old new : List Draft) (line : ℕ) (body : List (List ℕ)) (fault : AsmFault) → Drafted old new line body → BodyFault body line fault → ⊥
+drafted_fine old new line [] fault h f = no_empty_fault line fault f
+drafted_fine old new line (t ∷ ts) fault h f = no_body_fault (t ∷ ts) h.0 line fault h.2 f
+
+pub after_body : (ls : List (List (List ℕ))) (n : ℕ) (old new : List Draft) (line : List (List ℕ)) → slice_get ls n ≡ Some line → Drafted old new (n + 1) (body_of line) → NoneBefore ls (3 * n + 1) → NoneBefore ls (3 * n + 2)
+after_body ls n old new line here h none =
+    raised ls (3 * n + 1) (3 * n + 2) (omega arith) none (λ other f. drafted_fine old new (n + 1) (body_of line) other h (body_at ls n line other here f))
+
+limit_kept : (ls : List (List (List ℕ))) (n : ℕ) (old new : List Draft) (line : List (List ℕ)) (body : List (List ℕ)) → body_of line ≡ body → length old ≡ place_of ls n → Drafted old new (n + 1) body → (has_body line ≡ true) × (512 ≤ place_of ls n) → ⊥
+limit_kept ls n old new line [] e count h f = absurd (let g = body_false line e in let k = f.0 in cc)
+limit_kept ls n old new line (t ∷ ts) e count h f = omega (arith, h.4, f.1)
+
+pub after_limit : (ls : List (List (List ℕ))) (n : ℕ) (old new : List Draft) (line : List (List ℕ)) → slice_get ls n ≡ Some line → AreDrafts ls n old → Drafted old new (n + 1) (body_of line) → NoneBefore ls (3 * n + 2) → NoneBefore ls (3 * (n + 1))
+after_limit ls n old new line here drafts h none =
+    raised ls (3 * n + 2) (3 * (n + 1)) (omega arith) none (λ other f. limit_kept ls n old new line (body_of line) refl drafts.count h (limit_at ls n line other here f))
+
+drafts_with : (ls : List (List (List ℕ))) (n : ℕ) (old new : List Draft) (line body : List (List ℕ)) → slice_get ls n ≡ Some line → body_of line ≡ body → AreDrafts ls n old → Drafted old new (n + 1) body → AreDrafts ls (n + 1) new
+drafts_with ls n old new line [] here e drafts h =
+    let step = place_no ls n line here (body_false line e) in
+    rw h (record { count = drafts.count ∙ sym step; short = drafts.short; each = drafts.each })
+drafts_with ls n old new line (t ∷ ts) here e drafts h =
+    let step = place_yes ls n line here (body_true line t ts e) in
+    let long = length_push old h.0 in
+    rw h.1 (record {
+      count = (let c = drafts.count in omega arith);
+      short = omega (arith, h.4);
+      each = each_pushed (IsDraftAt ls) old h.0 drafts.each (record {
+        n = n;
+        line = line;
+        found = here;
+        here = sym drafts.count;
+        draft = rw e h.2;
+        numbered = h.3;
+      });
+    })
+
+pub drafts_more : (ls : List (List (List ℕ))) (n : ℕ) (old new : List Draft) (line : List (List ℕ)) → slice_get ls n ≡ Some line → AreDrafts ls n old → Drafted old new (n + 1) (body_of line) → AreDrafts ls (n + 1) new
+drafts_more ls n old new line here drafts h = drafts_with ls n old new line (body_of line) here refl drafts h
+
+body_first : (ls : List (List (List ℕ))) (n : ℕ) (line : List (List ℕ)) (fault : AsmFault) → NoneBefore ls (3 * n + 1) → FaultAt ls (3 * n + 1) fault → IsFirstFault ls fault
+body_first ls n line fault none has = record { time = 3 * n + 1; has = has; first = none }
+
+some_body : (line body : List (List ℕ)) → body_of line ≡ body → 0 < length body → has_body line ≡ true
+some_body line [] e h = absurd (omega arith)
+some_body line (t ∷ ts) e h = body_true line t ts e
+
+pub body_answer : (ls : List (List (List ℕ))) (n : ℕ) (old : List Draft) (line : List (List ℕ)) (fault : AsmFault) → slice_get ls n ≡ Some line → AreDrafts ls n old → NoneBefore ls (3 * n + 1) → BodyRefused old (n + 1) (body_of line) fault → IsAnswer ls fault
+body_answer ls n old line (faults.TooLong k) here drafts none h = record {
+  time = 3 * n + 2;
+  has = (n, line, here, inl (h.0, refl, some_body line (body_of line) refl h.2, (let c = drafts.count in omega (arith, h.1))));
+  first = raised ls (3 * n + 1) (3 * n + 2) (omega arith) none (λ other f. no_body_fault (body_of line) h.3.0 (n + 1) other h.3.1 (body_at ls n line other here f));
+}
+body_answer ls n old line faults.NoMemory here drafts none h = tt
+body_answer ls n old line (faults.Mnemonic k) here drafts none h = body_first ls n line (faults.Mnemonic k) none (n, line, here, inl (refl, h))
+body_answer ls n old line (faults.Operand k) here drafts none h = body_first ls n line (faults.Operand k) none (n, line, here, inl (refl, h))
+body_answer ls n old line (faults.Number k) here drafts none h = body_first ls n line (faults.Number k) none (n, line, here, inl (refl, h))
+body_answer ls n old line _ here drafts none h = absurd h
+
+pub none_at_start : (ls : List (List (List ℕ))) → NoneBefore ls 0
+none_at_start ls when other h = omega arith

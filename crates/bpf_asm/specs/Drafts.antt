@@ -1,0 +1,145 @@
+-- What the assembler keeps between its two passes. No public contract rests on it.
+use Rattle.std.specs.Prelude.{◌≡◌, ℕ, ◌+◌, ◌<◌, ◌≤◌, ◌^◌, List, [], ◌∷◌, ◌++◌, length, Option, Some, None, slice_get, if◌then◌else◌}
+use Rattle.std.specs.Str.{bytes_eq}
+use Rattle.bpf_check.specs.declared.insn.Insn.{Insn}
+use Rattle.bpf_check.specs.declared.operation.Operand.TheVariants.{Constant, Index}
+use Rattle.bpf_check.specs.declared.operation.Operation.{Operation}
+use Rattle.bpf_check.specs.declared.operation.Operation.TheVariants.{Jump, Branch}
+use Rattle.bpf_asm.specs.declared.draft.Draft as code
+use Rattle.bpf_asm.specs.declared.fault.AsmFault.{AsmFault}
+use Rattle.bpf_asm.specs.declared.fault.AsmFault.TheVariants as faults
+use Rattle.bpf_asm.specs.Number.{IsNumber}
+use Rattle.bpf_asm.specs.Assembly.{LabelAt, place_of, body_of, IsBody, BodyFault, IsBranch, FaultAt}
+
+-- an instruction whose labels are not resolved yet
+pub record Draft : Type 0 where
+  pub line : ℕ
+  pub code : ℕ
+  pub operation : Operation
+  pub k : ℕ
+  pub first : List ℕ
+  pub second : List ℕ
+
+-- a draft without where its labels lie
+abbrev pub shown_draft : code.Draft → Draft
+shown_draft d = record { line = d.line; code = d.code; operation = d.operation; k = d.k; first = d.first.now; second = d.second.now }
+
+-- the words of an operation are kept in the draft
+abbrev pub Keeps : Draft → Operation → List (List ℕ) → Type 0
+Keeps d Jump (l ∷ []) = (d.k ≡ 0) × (d.first ≡ l)
+Keeps d (Branch test Constant) (w ∷ l ∷ m ∷ []) = IsNumber w d.k × (d.first ≡ l) × (d.second ≡ m)
+Keeps d (Branch test Index) (l ∷ m ∷ []) = (d.k ≡ 0) × (d.first ≡ l) × (d.second ≡ m)
+Keeps d operation (w ∷ []) = IsNumber w d.k
+Keeps d operation [] = d.k ≡ 0
+Keeps d _ _ = ⊥
+
+-- the draft is of this body
+pub record IsDraft (body : List (List ℕ)) (d : Draft) : Type 0 where
+  pub ws : List (List ℕ)
+  pub written : IsBody body d.code d.operation ws
+  pub kept : Keeps d d.operation ws
+
+-- why a body gives no draft
+abbrev pub DraftFault : List (List ℕ) → ℕ → AsmFault → Type 0
+DraftFault body line faults.NoMemory = Unit {0}
+DraftFault body line fault = BodyFault body line fault
+
+-- what the label of a line does to the places of labels
+abbrev pub Labelled : (List ℕ → Option ℕ) → (List ℕ → Option ℕ) → ℕ → Option (List ℕ) → Type 0
+Labelled old new place None = (other : List ℕ) → new other ≡ old other
+Labelled old new place (Some label) = (old label ≡ None) × ((other : List ℕ) → new other ≡ (if bytes_eq label other then Some place else old other))
+
+-- why the label of a line is refused
+abbrev pub LabelRefused : (List ℕ → Option ℕ) → ℕ → Option (List ℕ) → AsmFault → Type 0
+LabelRefused old line label (faults.DoubleLabel n) = (n ≡ line) × ((l : List ℕ) × (label ≡ Some l) × (place : ℕ) × (old l ≡ Some place))
+LabelRefused old line label faults.NoMemory = Unit {0}
+LabelRefused old line label fault = ⊥
+
+-- what the body of a line does to the drafts
+abbrev pub Drafted : List Draft → List Draft → ℕ → List (List ℕ) → Type 0
+Drafted old new line [] = new ≡ old
+Drafted old new line (t ∷ ts) = (d : Draft) × (new ≡ old ++ d ∷ []) × IsDraft (t ∷ ts) d × (d.line ≡ line) × (length old < 512)
+
+-- why the body of a line is refused
+abbrev pub BodyRefused : List Draft → ℕ → List (List ℕ) → AsmFault → Type 0
+BodyRefused old line body (faults.TooLong n) = (n ≡ line) × (512 ≤ length old) × (0 < length body) × ((d : Draft) × IsDraft body d)
+BodyRefused old line body fault = DraftFault body line fault
+
+-- the places of the labels of the lines before n, no two of them the same
+pub record IsTable (ls : List (List (List ℕ))) (n : ℕ) (look : List ℕ → Option ℕ) : Type 0 where
+  pub found : (label : List ℕ) (place : ℕ) → look label ≡ Some place → (m : ℕ) × (m < n) × LabelAt ls m label × (place_of ls m ≡ place)
+  pub missing : (label : List ℕ) → look label ≡ None → (m : ℕ) → m < n → LabelAt ls m label → ⊥
+  pub unique : (k m : ℕ) (label : List ℕ) → k < n → m < n → LabelAt ls k label → LabelAt ls m label → k ≡ m
+
+-- the draft is of a line, which lies at this place
+pub record IsDraftAt (ls : List (List (List ℕ))) (place : ℕ) (d : Draft) : Type 0 where
+  pub n : ℕ
+  pub line : List (List ℕ)
+  pub found : slice_get ls n ≡ Some line
+  pub here : place_of ls n ≡ place
+  pub draft : IsDraft (body_of line) d
+  pub numbered : d.line ≡ n + 1
+
+-- the drafts of the lines before n
+pub record AreDrafts (ls : List (List (List ℕ))) (n : ℕ) (ds : List Draft) : Type 0 where
+  pub count : length ds ≡ place_of ls n
+  pub short : length ds ≤ 512
+  pub each : (place : ℕ) (d : Draft) → slice_get ds place ≡ Some d → IsDraftAt ls place d
+
+-- each fault comes at this time or later
+abbrev pub NoneBefore : List (List (List ℕ)) → ℕ → Type 0
+NoneBefore ls time = (when : ℕ) (other : AsmFault) → FaultAt ls when other → time ≤ when
+
+-- the instruction of a draft, once its labels are resolved
+abbrev pub Resolves : (List ℕ → Option ℕ) → ℕ → Insn → Draft → Operation → Type 0
+Resolves look place i d Jump = (look d.first ≡ Some (place + 1 + i.k)) × (i.jt ≡ 0) × (i.jf ≡ 0)
+Resolves look place i d (Branch test side) = (i.k ≡ d.k) × (look d.first ≡ Some (place + 1 + i.jt)) × (look d.second ≡ Some (place + 1 + i.jf)) × (i.jt < 2 ^ 8) × (i.jf < 2 ^ 8)
+Resolves look place i d operation = (i.k ≡ d.k) × (i.jt ≡ 0) × (i.jf ≡ 0)
+
+-- the instruction is the draft at this place
+abbrev pub IsResolved : (List ℕ → Option ℕ) → ℕ → Draft → Insn → Type 0
+IsResolved look place d i = (i.code ≡ d.code) × Resolves look place i d d.operation
+
+-- the labels of a draft, from the left
+abbrev pub labels_kept : Draft → Operation → List (List ℕ)
+labels_kept d Jump = d.first ∷ []
+labels_kept d (Branch test side) = d.first ∷ d.second ∷ []
+labels_kept d operation = []
+
+-- the label of a jump at a place names a later one, which is near enough
+abbrev pub FineLabel : (List ℕ → Option ℕ) → ℕ → Operation → List ℕ → Type 0
+FineLabel look place operation label = (distance : ℕ) × (look label ≡ Some (place + 1 + distance)) × (IsBranch operation → distance < 256)
+
+-- the label of a jump at a place doesn't
+abbrev pub WrongLabel : (List ℕ → Option ℕ) → ℕ → Operation → List ℕ → ℕ → AsmFault → Type 0
+WrongLabel look place operation label line (faults.NoLabel n) = (n ≡ line) × (look label ≡ None)
+WrongLabel look place operation label line (faults.Backward n) = (n ≡ line) × ((target : ℕ) × (look label ≡ Some target) × (target ≤ place))
+WrongLabel look place operation label line (faults.Far n) = (n ≡ line) × IsBranch operation × ((target : ℕ) × (look label ≡ Some target) × (place + 256 < target))
+WrongLabel look place operation label line fault = ⊥
+
+-- the first label of a draft that is wrong
+pub record Unresolved (look : List ℕ → Option ℕ) (place : ℕ) (d : Draft) (fault : AsmFault) : Type 0 where
+  pub j : ℕ
+  pub one_of_two : j < 2
+  pub label : List ℕ
+  pub named : slice_get (labels_kept d d.operation) j ≡ Some label
+  pub wrong : WrongLabel look place d.operation label d.line fault
+  pub before : (i : ℕ) (l : List ℕ) → i < j → slice_get (labels_kept d d.operation) i ≡ Some l → FineLabel look place d.operation l
+
+-- the instructions are those of the drafts
+pub record AreResolved (look : List ℕ → Option ℕ) (ds : List Draft) (p : List Insn) : Type 0 where
+  pub count : length p ≡ length ds
+  pub each : (place : ℕ) (i : Insn) → slice_get p place ≡ Some i → (d : Draft) × (slice_get ds place ≡ Some d) × IsResolved look place d i
+
+-- the first draft with a wrong label
+pub record FirstUnresolved (look : List ℕ → Option ℕ) (ds : List Draft) (fault : AsmFault) : Type 0 where
+  pub place : ℕ
+  pub d : Draft
+  pub found : slice_get ds place ≡ Some d
+  pub wrong : Unresolved look place d fault
+  pub before : (q : ℕ) (e : Draft) → q < place → slice_get ds q ≡ Some e → (i : Insn) × IsResolved look q e i
+
+-- what the second pass may answer in place of instructions
+abbrev pub ResolveAnswer : (List ℕ → Option ℕ) → List Draft → AsmFault → Type 0
+ResolveAnswer look ds faults.NoMemory = Unit {0}
+ResolveAnswer look ds fault = FirstUnresolved look ds fault

@@ -1,0 +1,12 @@
+pub mod Form
+pub mod Text
+pub mod Token
+pub mod Spelling
+pub mod Number
+pub mod Reading
+pub mod Shown
+pub mod Marks
+pub mod Labels
+pub mod Assembly
+pub mod Drafts
+pub mod Cleared

@@ -1,0 +1,73 @@
+-- The reading of tokens, step by step as the code does it. No public contract rests on it.
+use Rattle.std.specs.Prelude.{◌≡◌, ℕ, List, [], ◌∷◌, ◌++◌, Bool, true, false, Option, Some, None, option_and_then, if◌then◌else◌}
+use Rattle.std.specs.Option.{option_map}
+use Rattle.std.specs.Str.{bytes_eq}
+use Rattle.bpf_check.specs.declared.operation.Operation.{Operation}
+use Rattle.bpf_asm.specs.Form.{mnemonic}
+use Rattle.bpf_asm.specs.Token.{is_numeral, starts_word, is_label}
+use Rattle.bpf_asm.specs.Spelling.{Kind, a_number, a_label, exactly, kinds}
+
+-- the word of an open place, and the tokens behind it
+pub record Front : Type 0 where
+  pub word : List ℕ
+  pub left : List (List ℕ)
+
+-- the number at the front of the tokens, the empty word where there is none
+abbrev pub number_front : List (List ℕ) → Option Front
+number_front [] = Some (record { word = []; left = [] })
+number_front ([] ∷ ts) = None
+number_front ((c ∷ cs) ∷ ts) =
+    if is_numeral (c ∷ cs) then Some (record { word = c ∷ cs; left = ts })
+    else (if starts_word (c ∷ cs) then None else Some (record { word = []; left = (c ∷ cs) ∷ ts }))
+
+-- the label at the front of the tokens
+abbrev pub label_front : List (List ℕ) → Option Front
+label_front [] = None
+label_front (t ∷ ts) = if is_label t then Some (record { word = t; left = ts }) else None
+
+-- the tokens behind this one
+abbrev pub left_of : List ℕ → List (List ℕ) → Option (List (List ℕ))
+left_of token [] = None
+left_of token (t ∷ ts) = if bytes_eq t token then Some ts else None
+
+-- nothing is left
+abbrev pub none_left : List (List ℕ) → Option (List (List ℕ))
+none_left [] = Some []
+none_left (t ∷ ts) = None
+
+-- the words in the open places of the tokens
+abbrev pub fill : List Kind → List (List ℕ) → Option (List (List ℕ))
+fill [] ts = none_left ts
+fill (a_number ∷ ks) ts = option_and_then (λ x. option_map (λ ws. x.word ∷ ws) (fill ks x.left)) (number_front ts)
+fill (a_label ∷ ks) ts = option_and_then (λ x. option_map (λ ws. x.word ∷ ws) (fill ks x.left)) (label_front ts)
+fill (exactly token ∷ ks) ts = option_and_then (λ left. fill ks left) (left_of token ts)
+
+-- whether the tokens were read, and then their words stand behind the older ones
+abbrev pub Fills : Bool → List (List ℕ) → List (List ℕ) → Option (List (List ℕ)) → Type 0
+Fills true old new read = option_map (λ ws. old ++ ws) read ≡ Some new
+Fills false old new read = read ≡ None
+
+-- a row of the table of codes, and the words in its open places
+pub record Row : Type 0 where
+  pub code : ℕ
+  pub operation : Operation
+  pub words : List (List ℕ)
+
+-- the words in the open places of an operation
+abbrev pub row_words : Operation → List ℕ → List (List ℕ) → Option (List (List ℕ))
+row_words operation word ts = if bytes_eq word (mnemonic operation) then fill (kinds operation) ts else None
+
+-- this row where its words were read, and otherwise a later one
+abbrev pub row_or : ℕ → Operation → Option (List (List ℕ)) → Option Row → Option Row
+row_or code operation None later = later
+row_or code operation (Some ws) later = Some (record { code = code; operation = operation; words = ws })
+
+-- the first row in which the tokens are written
+abbrev pub find_row : List (ℕ × Operation) → List ℕ → List (List ℕ) → Option Row
+find_row [] word ts = None
+find_row (row ∷ rows) word ts = row_or row.0 row.1 (row_words row.1 word ts) (find_row rows word ts)
+
+-- whether a row has the mnemonic
+abbrev pub has_mnemonic : List (ℕ × Operation) → List ℕ → Bool
+has_mnemonic [] word = false
+has_mnemonic (row ∷ rows) word = if bytes_eq word (mnemonic row.1) then true else has_mnemonic rows word

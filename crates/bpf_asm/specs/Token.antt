@@ -1,0 +1,58 @@
+-- The tokens of a line: words of letters, digits and `_`, and every other octet that is no blank by itself.
+-- A word that begins with a digit is there for a number, any other for a name. `;` ends the line.
+use Rattle.std.specs.Prelude.{ℕ, List, [], ◌∷◌, ◌++◌, Bool, false, ◌||◌, ◌&&◌, not, length, min, take, drop, codes, ◌==◌, if◌then◌else◌}
+use Rattle.std.specs.Char.{is_ascii_alphanumeric, is_ascii_digit, is_ascii_hexdigit}
+use Rattle.std.specs.List.{list_all}
+use Rattle.std.specs.Str.{bytes_eq}
+
+-- a letter, a digit or `_`
+abbrev pub is_word_octet : ℕ → Bool
+is_word_octet c = is_ascii_alphanumeric c || (c == 95)
+
+-- a space or a tab
+abbrev pub is_blank : ℕ → Bool
+is_blank c = (c == 32) || (c == 9)
+
+-- a word that has ended, if there is one
+abbrev pub ended : List ℕ → List (List ℕ)
+ended [] = []
+ended (c ∷ cs) = (c ∷ cs) ∷ []
+
+-- a token of one octet, where it isn't a blank
+abbrev pub mark : ℕ → List (List ℕ)
+mark c = if is_blank c then [] else (c ∷ []) ∷ []
+
+-- the tokens of what is left of a line, where `word` stands before it and goes on; `;` begins a comment
+abbrev pub tokens_after : List ℕ → List ℕ → List (List ℕ)
+tokens_after word [] = ended word
+tokens_after word (c ∷ cs) =
+    if is_word_octet c then tokens_after (word ++ c ∷ []) cs
+    else (if c == 59 then ended word else (ended word ++ mark c) ++ tokens_after [] cs)
+
+-- the tokens of a line
+abbrev pub tokens : List ℕ → List (List ℕ)
+tokens line = tokens_after [] line
+
+-- the first octets of a word, two where it has them
+abbrev pub first_two : List ℕ → List ℕ
+first_two word = take (min 2 (length word)) word
+
+-- the octets behind these
+abbrev pub after_two : List ℕ → List ℕ
+after_two word = drop (min 2 (length word)) word
+
+-- digits, or `0x` and hexadecimal digits, perhaps none
+unfoldable pub is_numeral : List ℕ → Bool
+is_numeral word =
+    if bytes_eq (first_two word) (codes "0x") then list_all is_ascii_hexdigit (after_two word)
+    else list_all is_ascii_digit word
+
+-- begins with an octet of a word
+abbrev pub starts_word : List ℕ → Bool
+starts_word [] = false
+starts_word (c ∷ cs) = is_word_octet c
+
+-- a word that doesn't begin with a digit
+abbrev pub is_label : List ℕ → Bool
+is_label [] = false
+is_label (c ∷ cs) = is_word_octet c && not (is_ascii_digit c)

@@ -1,0 +1,25 @@
+//! Assembler text of classic BPF programs, to instructions and back: `assemble` and `to_text`.
+//!
+//! One instruction stands on a line, lower case; a line may begin with a label and `:`, or have only
+//! that; `;` begins a comment. Numbers are decimal, or hexadecimal behind `0x`.
+#![tactic(auto)]
+
+mod assembly;
+mod draft;
+pub mod fault;
+mod form;
+mod labels;
+pub mod laws;
+mod number;
+mod resolve;
+mod rows;
+mod spelling;
+mod text;
+mod token;
+
+pub use assembly::assemble;
+pub use fault::AsmFault;
+pub use text::{NoMemory, to_text};
+
+#[cfg(test)]
+mod tests;

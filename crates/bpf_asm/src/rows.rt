@@ -1,0 +1,181 @@
+//! The table of codes, searched by the tokens of a line.
+
+ghost use Rattle.std.specs.Prelude.{◌≡◌, map, IfOk};
+ghost use Rattle.std.specs.Option.{option_map};
+ghost use Rattle.bpf_check.specs.Operation.{table};
+ghost use Rattle.bpf_asm.specs.Shown.{shown_row, octets};
+ghost use Rattle.bpf_asm.specs.Reading.{row_words, find_row, has_mnemonic};
+
+use crate::form::{mnemonic_of, pieces_of};
+use crate::spelling::words_in;
+use bpf_check::operation::{Arithmetic, Comparison, Operand, Operation, Width};
+use std::alloc::{AllocError, Global};
+
+/// The row that a line is written in, and the words in its open places.
+#[derive(Drop)]
+pub struct Row<'a> {
+    pub code: u16,
+    pub operation: Operation,
+    pub words: Vec<&'a [u8]>,
+}
+
+// Each code with its operation.
+fn rows() -> &'static [(u16, Operation)]
+    ensures { result.now ≡ table }
+{
+    &[
+        (0x20, Operation::LoadAbsolute(Width::Word)),
+        (0x28, Operation::LoadAbsolute(Width::Half)),
+        (0x30, Operation::LoadAbsolute(Width::Byte)),
+        (0x40, Operation::LoadIndirect(Width::Word)),
+        (0x48, Operation::LoadIndirect(Width::Half)),
+        (0x50, Operation::LoadIndirect(Width::Byte)),
+        (0x00, Operation::LoadConstant),
+        (0x60, Operation::LoadScratch),
+        (0x80, Operation::LoadLength),
+        (0x01, Operation::IndexConstant),
+        (0x61, Operation::IndexScratch),
+        (0x81, Operation::IndexLength),
+        (0xb1, Operation::IndexHeader),
+        (0x02, Operation::StoreAccumulator),
+        (0x03, Operation::StoreIndex),
+        (0x04, Operation::Compute(Arithmetic::Add, Operand::Constant)),
+        (
+            0x14,
+            Operation::Compute(Arithmetic::Subtract, Operand::Constant),
+        ),
+        (
+            0x24,
+            Operation::Compute(Arithmetic::Multiply, Operand::Constant),
+        ),
+        (
+            0x34,
+            Operation::Compute(Arithmetic::Divide, Operand::Constant),
+        ),
+        (0x44, Operation::Compute(Arithmetic::Or, Operand::Constant)),
+        (0x54, Operation::Compute(Arithmetic::And, Operand::Constant)),
+        (
+            0x64,
+            Operation::Compute(Arithmetic::ShiftLeft, Operand::Constant),
+        ),
+        (
+            0x74,
+            Operation::Compute(Arithmetic::ShiftRight, Operand::Constant),
+        ),
+        (0x0c, Operation::Compute(Arithmetic::Add, Operand::Index)),
+        (
+            0x1c,
+            Operation::Compute(Arithmetic::Subtract, Operand::Index),
+        ),
+        (
+            0x2c,
+            Operation::Compute(Arithmetic::Multiply, Operand::Index),
+        ),
+        (0x3c, Operation::Compute(Arithmetic::Divide, Operand::Index)),
+        (0x4c, Operation::Compute(Arithmetic::Or, Operand::Index)),
+        (0x5c, Operation::Compute(Arithmetic::And, Operand::Index)),
+        (
+            0x6c,
+            Operation::Compute(Arithmetic::ShiftLeft, Operand::Index),
+        ),
+        (
+            0x7c,
+            Operation::Compute(Arithmetic::ShiftRight, Operand::Index),
+        ),
+        (0x84, Operation::Negate),
+        (0x05, Operation::Jump),
+        (
+            0x15,
+            Operation::Branch(Comparison::Equal, Operand::Constant),
+        ),
+        (
+            0x35,
+            Operation::Branch(Comparison::AtLeast, Operand::Constant),
+        ),
+        (
+            0x25,
+            Operation::Branch(Comparison::Above, Operand::Constant),
+        ),
+        (
+            0x45,
+            Operation::Branch(Comparison::SharesBit, Operand::Constant),
+        ),
+        (0x1d, Operation::Branch(Comparison::Equal, Operand::Index)),
+        (0x3d, Operation::Branch(Comparison::AtLeast, Operand::Index)),
+        (0x2d, Operation::Branch(Comparison::Above, Operand::Index)),
+        (
+            0x4d,
+            Operation::Branch(Comparison::SharesBit, Operand::Index),
+        ),
+        (0x06, Operation::ReturnConstant),
+        (0x16, Operation::ReturnAccumulator),
+        (0x07, Operation::ToIndex),
+        (0x87, Operation::ToAccumulator),
+    ]
+}
+
+// The words in the open places of an operation, where the line is written in it.
+fn words_of_row<'a>(
+    alloc: Global,
+    operation: Operation,
+    word: &[u8],
+    tokens: &[&'a [u8]],
+) -> Result<Option<Vec<&'a [u8]>>, AllocError>
+    ensures { IfOk result (λ found. option_map (λ v. octets v.items) found ≡ row_words operation word.now (octets tokens.now)) }
+{
+    if word != mnemonic_of(operation).as_bytes() {
+        return Ok(None);
+    }
+    words_in(alloc, pieces_of(operation), tokens)
+}
+
+// The first of the rows that the tokens are written in.
+fn find_in<'a>(
+    alloc: Global,
+    rows: &[(u16, Operation)],
+    word: &[u8],
+    tokens: &[&'a [u8]],
+) -> Result<Option<Row<'a>>, AllocError>
+    ensures { IfOk result (λ found. option_map shown_row found ≡ find_row rows.now word.now (octets tokens.now)) }
+{
+    for row in rows {
+        if let Some(words) = words_of_row(alloc, row.1, word, tokens)? {
+            return Ok(Some(Row {
+                code: row.0,
+                operation: row.1,
+                words,
+            }));
+        }
+    }
+    Ok(None)
+}
+
+/// The first row of the table that the tokens are written in.
+pub fn row_of<'a>(
+    alloc: Global,
+    word: &[u8],
+    tokens: &[&'a [u8]],
+) -> Result<Option<Row<'a>>, AllocError>
+    ensures { IfOk result (λ found. option_map shown_row found ≡ find_row table word.now (octets tokens.now)) }
+{
+    find_in(alloc, rows(), word, tokens)
+}
+
+// Whether one of the rows has the mnemonic.
+fn is_mnemonic_in(rows: &[(u16, Operation)], word: &[u8]) -> bool
+    ensures { result ≡ has_mnemonic rows.now word.now }
+{
+    for row in rows {
+        if word == mnemonic_of(row.1).as_bytes() {
+            return true;
+        }
+    }
+    false
+}
+
+/// Whether a word is a mnemonic.
+pub fn is_mnemonic(word: &[u8]) -> bool
+    ensures { result ≡ has_mnemonic table word.now }
+{
+    is_mnemonic_in(rows(), word)
+}

@@ -1,0 +1,148 @@
+-- Listings: which text stands for which instructions, and which faults a text has.
+-- A text is seen by its lines, of which the first is at 0. Faults number lines from 1.
+use Rattle.std.specs.Prelude.{◌≡◌, ◌≢◌, ℕ, ◌+◌, ◌-◌, ◌*◌, ◌<◌, ◌≤◌, ◌^◌, ◌⊎◌, List, [], ◌∷◌, length, map, min, Option, Some, None, Bool, true, ◌||◌, not, slice_get, ◌==◌}
+use Rattle.std.specs.List.{slice_split, filter, list_all}
+use Rattle.std.specs.Char.{is_ascii_digit}
+use Rattle.bpf_check.specs.declared.insn.Insn.{Insn}
+use Rattle.bpf_check.specs.declared.listing.ListingFault.{ListingFault}
+use Rattle.bpf_check.specs.declared.listing.ListingFault.TheVariants.{BadCount, BadLine, OutOfRange, TooLong, Missing, Extra, NoMemory}
+
+-- a space or a tab
+abbrev pub is_blank : ℕ → Bool
+is_blank c = (c == 32) || (c == 9)
+
+-- a part with an octet
+abbrev pub is_some_word : List ℕ → Bool
+is_some_word part = not (length part == 0)
+
+-- the words of a line, which spaces and tabs part
+abbrev pub words : List ℕ → List (List ℕ)
+words line = filter is_some_word (slice_split is_blank line)
+
+-- the number that n and then these digits spell
+abbrev pub value_after : ℕ → List ℕ → ℕ
+value_after n [] = n
+value_after n (c ∷ cs) = value_after (n * 10 + (c - 48)) cs
+
+-- the number that a word of digits spells
+abbrev pub value : List ℕ → ℕ
+value word = value_after 0 word
+
+-- the value, or the largest of 64 bits where it is larger
+abbrev pub capped : List ℕ → ℕ
+capped word = min (value word) (2 ^ 64 - 1)
+
+-- digits alone
+abbrev pub is_numeral : List ℕ → Bool
+is_numeral word = list_all is_ascii_digit word
+
+-- the line has these numbers and nothing else
+pub record Says (line : List ℕ) (ns : List ℕ) : Type 0 where
+  pub numerals : list_all is_numeral (words line) ≡ true
+  pub values : map value (words line) ≡ ns
+
+-- the line at a place has these numbers
+abbrev pub SaysAt : List (List ℕ) → ℕ → List ℕ → Type 0
+SaysAt ls at ns = (l : List ℕ) × (slice_get ls at ≡ Some l) × Says l ns
+
+-- the numbers of an instruction, in the order of a line
+abbrev pub fields : Insn → List ℕ
+fields i = i.code ∷ i.jt ∷ i.jf ∷ i.k ∷ []
+
+-- each number is within its field
+abbrev pub InRange : Insn → Type 0
+InRange i = (i.code < 2 ^ 16) × (i.jt < 2 ^ 8) × (i.jf < 2 ^ 8) × (i.k < 2 ^ 32)
+
+-- the lines are a listing of the program
+pub record IsListing (ls : List (List ℕ)) (p : List Insn) : Type 0 where
+  pub count : SaysAt ls 0 (length p ∷ [])
+  pub short : length p ≤ 512
+  pub each : (place : ℕ) (i : Insn) → slice_get p place ≡ Some i → SaysAt ls (place + 1) (fields i) × InRange i
+  pub rest : (at : ℕ) (l : List ℕ) → length p < at → slice_get ls at ≡ Some l → words l ≡ []
+
+-- one of the numbers is above its field
+abbrev pub IsTooLarge : ℕ → ℕ → ℕ → ℕ → Type 0
+IsTooLarge code jt jf k = (2 ^ 16 ≤ code) ⊎ (2 ^ 8 ≤ jt) ⊎ (2 ^ 8 ≤ jf) ⊎ (2 ^ 32 ≤ k)
+
+-- the line isn't four numbers
+abbrev pub NotFour : List ℕ → Type 0
+NotFour line = (code jt jf k : ℕ) → Says line (code ∷ jt ∷ jf ∷ k ∷ []) → ⊥
+
+-- the line is four numbers, one of them above its field
+abbrev pub FourTooLarge : List ℕ → Type 0
+FourTooLarge line = (code : ℕ) × (jt : ℕ) × (jf : ℕ) × (k : ℕ) × Says line (code ∷ jt ∷ jf ∷ k ∷ []) × IsTooLarge code jt jf k
+
+-- the line of the instruction at a place, below the count, has a fault
+pub record FaultIn (ls : List (List ℕ)) (line : ℕ) (P : List ℕ → Type 0) : Type 0 where
+  pub count : ℕ
+  pub counted : SaysAt ls 0 (count ∷ [])
+  pub after : 2 ≤ line
+  pub below : line < count + 2
+  pub text : List ℕ
+  pub found : slice_get ls (line - 1) ≡ Some text
+  pub fault : P text
+
+-- the faults of a text, each by itself
+abbrev pub HasFault : List (List ℕ) → ListingFault → Type 0
+HasFault ls BadCount = (n : ℕ) → SaysAt ls 0 (n ∷ []) → ⊥
+HasFault ls TooLong = (n : ℕ) × SaysAt ls 0 (n ∷ []) × (512 < n)
+HasFault ls Missing = (n : ℕ) × SaysAt ls 0 (n ∷ []) × (length ls ≤ n)
+HasFault ls (BadLine line) = FaultIn ls line NotFour
+HasFault ls (OutOfRange line) = FaultIn ls line FourTooLarge
+HasFault ls (Extra line) = (n : ℕ) × SaysAt ls 0 (n ∷ []) × (n + 2 ≤ line) × (l : List ℕ) × (slice_get ls (line - 1) ≡ Some l) × (words l ≢ [])
+HasFault ls NoMemory = ⊥
+
+-- the order of the faults: by line, a missing one at the line that is not there
+abbrev pub rank : List (List ℕ) → ListingFault → ℕ
+rank ls BadCount = 0
+rank ls TooLong = 1
+rank ls (BadLine line) = line
+rank ls (OutOfRange line) = line
+rank ls Missing = length ls + 1
+rank ls (Extra line) = line
+rank ls NoMemory = 0
+
+-- each fault of the text comes at this rank or later
+abbrev pub NoneBefore : List (List ℕ) → ℕ → Type 0
+NoneBefore ls r = (other : ListingFault) → HasFault ls other → r ≤ rank ls other
+
+-- the text has this fault, and none that comes before it
+pub record IsFirstFault (ls : List (List ℕ)) (fault : ListingFault) : Type 0 where
+  pub has : HasFault ls fault
+  pub first : NoneBefore ls (rank ls fault)
+
+-- what a reader may answer in place of a program: no memory, or the first fault
+abbrev pub IsAnswer : List (List ℕ) → ListingFault → Type 0
+IsAnswer ls NoMemory = Unit {0}
+IsAnswer ls fault = IsFirstFault ls fault
+
+-- the fault of a line by itself, where the line is numbered so
+abbrev pub LineFault : List ℕ → ℕ → ListingFault → Type 0
+LineFault line at (BadLine n) = (n ≡ at) × NotFour line
+LineFault line at (OutOfRange n) = (n ≡ at) × FourTooLarge line
+LineFault line at NoMemory = Unit {0}
+LineFault line at _ = ⊥
+
+-- the fault of the first line by itself
+abbrev pub CountFault : List ℕ → ListingFault → Type 0
+CountFault line BadCount = (n : ℕ) → Says line (n ∷ []) → ⊥
+CountFault line TooLong = (n : ℕ) × Says line (n ∷ []) × (512 < n)
+CountFault line NoMemory = Unit {0}
+CountFault line _ = ⊥
+
+-- the number of a fault
+abbrev pub fault_number : ListingFault → ℕ
+fault_number BadCount = 1
+fault_number (BadLine line) = 2
+fault_number (OutOfRange line) = 3
+fault_number TooLong = 4
+fault_number Missing = 5
+fault_number (Extra line) = 6
+fault_number NoMemory = 7
+
+-- the line of a fault
+abbrev pub fault_line : ListingFault → Option ℕ
+fault_line (BadLine line) = Some line
+fault_line (OutOfRange line) = Some line
+fault_line (Extra line) = Some line
+fault_line fault = None

@@ -1,0 +1,28 @@
+-- A message that was signed is good when it is read.
+use Rattle.std.proofs.Common.{◌≡◌, ℕ, ◌<◌, List, refl, sym, ap, subst, ◌∙◌, arith}
+use Rattle.std.specs.Prelude.{◌↔◌}
+use Rattle.htcp_packet.specs.Message.{Message, Spells}
+use Rattle.htcp_packet.specs.Reading.{Received}
+use Rattle.htcp_packet.specs.Writing.{data_text}
+use Rattle.htcp_packet.specs.Signing.{IsGood, sealed}
+use Rattle.htcp_packet.proofs.Whole.{one_message}
+
+-- whoever reads what was written finds the signature good, but at the last second
+pub good_as_made : (m : Message) (ends name secret : List ℕ) (seconds : ℕ) (o raw : List ℕ) (n : Message) → Spells o (data_text m) (sealed m ends name secret seconds) → Spells o raw n → (IsGood (record { message = n; raw = raw }) ends secret seconds ↔ (seconds < 4294967295))
+good_as_made m ends name secret seconds o raw n written read = (before_last, good_before_last)
+  where
+    made : Message → List ℕ → Received
+    made x y = record { message = x; raw = y }
+
+    same : made (sealed m ends name secret seconds) (data_text m) ≡ made n raw
+    same =
+        let one = one_message o (data_text m) raw (sealed m ends name secret seconds) n written read in
+        ap (λ (x : Message). made x (data_text m)) one.0 ∙ ap (made n) one.1
+
+    before_last : IsGood (made n raw) ends secret seconds → seconds < 4294967295
+    before_last good =
+        let seal = subst (λ (r : Received). IsGood r ends secret seconds) (sym same) good in
+        omega (arith, seal.lasts)
+
+    good_before_last : seconds < 4294967295 → IsGood (made n raw) ends secret seconds
+    good_before_last lt = subst (λ (r : Received). IsGood r ends secret seconds) same (record { signature = refl; begun = omega arith; lasts = omega arith })

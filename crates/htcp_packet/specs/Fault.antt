@@ -1,0 +1,31 @@
+-- What is wrong with octets that spell no message. Each condition is of the octets alone.
+use Rattle.std.specs.Prelude.{◌≢◌, ℕ, ◌<◌, ◌⊎◌, List, length, drop, slice_index}
+use Rattle.byteorder.specs.Endian.{big_number}
+use Rattle.htcp_packet.specs.declared.fault.HtcpFault.{HtcpFault}
+use Rattle.htcp_packet.specs.declared.fault.HtcpFault.TheVariants as faults
+use Rattle.htcp_packet.specs.Message.{Body, Auth, HoldsBody, HoldsAuth}
+use Rattle.htcp_packet.specs.Reading.{data_octets, auth_octets, form_at}
+
+-- the condition of each fault: too short for LENGTH and versions; another LENGTH; another MAJOR; DATA's LENGTH isn't
+-- whole, under 8, or more than what is left; OP-DATA doesn't hold its form; the octets behind DATA are no AUTH
+abbrev pub HasFault : HtcpFault → List ℕ → Type 0
+HasFault faults.Short octets = length octets < 4
+HasFault faults.Length octets = big_number 2 octets ≢ length octets
+HasFault faults.Major octets = slice_index octets 2 ≢ 0
+HasFault faults.Data octets = (length (drop 4 octets) < 2) ⊎ ((big_number 2 (drop 4 octets) < 8) ⊎ (length (drop 4 octets) < big_number 2 (drop 4 octets)))
+HasFault faults.Text octets = (body : Body) → HoldsBody (form_at (data_octets octets)) body (drop 8 (data_octets octets)) → ⊥
+HasFault faults.Auth octets = (auth : Auth) → HoldsAuth auth (auth_octets octets) → ⊥
+
+-- the order of the faults
+abbrev pub place : HtcpFault → ℕ
+place faults.Short = 1
+place faults.Length = 2
+place faults.Major = 3
+place faults.Data = 4
+place faults.Text = 5
+place faults.Auth = 6
+
+-- the fault of the octets: the first whose condition holds
+pub record IsFaultOf (octets : List ℕ) (fault : HtcpFault) : Type 0 where
+  pub holds : HasFault fault octets
+  pub first : (other : HtcpFault) → place other < place fault → HasFault other octets → ⊥

@@ -1,0 +1,10 @@
+pub mod Message
+pub mod View
+pub mod Equality
+pub mod Equals
+pub mod Reading
+pub mod Fault
+pub mod Fields
+pub mod Signing
+pub mod Writing
+pub mod Lengths

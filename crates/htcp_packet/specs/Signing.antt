@@ -1,0 +1,63 @@
+-- Signatures (RFC 2756, with this project's choice of what they cover): when one is good, and the one that is made.
+-- Ends are 12 octets: address and port of the sender, then of the receiver. Times are seconds since 1970 UTC.
+use Rattle.std.specs.Prelude.{◌≡◌, ℕ, ◌+◌, ◌<◌, ◌≤◌, min, Bool, ◌&&◌, nat_le, nat_lt, if◌then◌else◌, List, ◌∷◌, ◌++◌}
+use Rattle.std.specs.Str.{bytes_eq}
+use Rattle.byteorder.specs.Endian.{big_bytes}
+use Rattle.hmac_md5.specs.Hmac.{hmac}
+use Rattle.htcp_packet.specs.declared.verifying.Sign.{Sign}
+use Rattle.htcp_packet.specs.declared.verifying.Sign.TheVariants.{Absent, Good, Bad}
+use Rattle.htcp_packet.specs.Message.{Auth, unsigned, signed, Seal, Message, countstr}
+use Rattle.htcp_packet.specs.Reading.{Received}
+use Rattle.htcp_packet.specs.Writing.{data_text}
+
+-- what a signature covers: the ends, MAJOR 0, MINOR, SIG-TIME, SIG-EXPIRE, DATA as transmitted, and KEY-NAME with its length
+abbrev pub covered : List ℕ → ℕ → ℕ → ℕ → List ℕ → List ℕ → List ℕ
+covered ends minor time expire raw key_name =
+    ends ++ (0 ∷ minor ∷ big_bytes 4 time ++ big_bytes 4 expire ++ (raw ++ countstr key_name))
+
+-- the seal's signature is that of the message, its time has come but for a minute, and it hasn't expired
+pub record IsGoodSeal (s : Seal) (minor : ℕ) (raw ends secret : List ℕ) (seconds : ℕ) : Type 0 where
+  pub signature : s.signature ≡ hmac secret (covered ends minor s.time s.expire raw s.key_name)
+  pub begun : s.time ≤ seconds + 60
+  pub lasts : seconds < s.expire
+
+-- the same of an AUTH, which has to be signed
+abbrev pub IsGoodAuth : Auth → ℕ → List ℕ → List ℕ → List ℕ → ℕ → Type 0
+IsGoodAuth unsigned minor raw ends secret seconds = ⊥
+IsGoodAuth (signed s) minor raw ends secret seconds = IsGoodSeal s minor raw ends secret seconds
+
+-- a message that was sent between these ends is signed with the secret, at this second
+abbrev pub IsGood : Received → List ℕ → List ℕ → ℕ → Type 0
+IsGood r ends secret seconds = IsGoodAuth r.message.auth r.message.minor r.raw ends secret seconds
+
+-- the same as a test that computes
+abbrev pub good_seal : Seal → ℕ → List ℕ → List ℕ → List ℕ → ℕ → Bool
+good_seal s minor raw ends secret seconds =
+    bytes_eq s.signature (hmac secret (covered ends minor s.time s.expire raw s.key_name))
+    && nat_le s.time (seconds + 60) && nat_lt seconds s.expire
+
+-- what an AUTH says
+abbrev pub auth_sign : Auth → ℕ → List ℕ → List ℕ → List ℕ → ℕ → Sign
+auth_sign unsigned minor raw ends secret seconds = Absent
+auth_sign (signed s) minor raw ends secret seconds = if good_seal s minor raw ends secret seconds then Good else Bad
+
+-- what the signature of a message says
+abbrev pub sign_of : Received → List ℕ → List ℕ → ℕ → Sign
+sign_of r ends secret seconds = auth_sign r.message.auth r.message.minor r.raw ends secret seconds
+
+-- the second at which a signature expires that is made at this one
+abbrev pub expiry : ℕ → ℕ
+expiry seconds = min (seconds + 60) 4294967295
+
+-- the seal that a key of this name and secret puts on a message
+abbrev pub seal_for : Message → List ℕ → List ℕ → List ℕ → ℕ → Seal
+seal_for m ends name secret seconds = record {
+  time = seconds;
+  expire = expiry seconds;
+  key_name = name;
+  signature = hmac secret (covered ends m.minor seconds (expiry seconds) (data_text m) name);
+}
+
+-- the message with that seal, whatever its AUTH was
+abbrev pub sealed : Message → List ℕ → List ℕ → List ℕ → ℕ → Message
+sealed m ends name secret seconds = record m { auth = signed (seal_for m ends name secret seconds) }

@@ -1,0 +1,180 @@
+//! Messages, borrowed from the datagram that spells them.
+
+ghost use Rattle.std.specs.Prelude.{◌≡◌, ◌↔◌, ◌<◌, ◌^◌, IsTrue};
+ghost use Rattle.std.specs.Cmp.{on_per, on_equiv, partial_equiv_from_equiv};
+ghost use Rattle.std.specs.Ordering.{on};
+ghost use Rattle.htcp_packet.specs.Message.{form_of};
+ghost use Rattle.htcp_packet.specs.View.{shown, shown_body};
+ghost use Rattle.htcp_packet.specs.Equality.{same_message};
+ghost use Rattle.htcp_packet.specs.Equals.{messages_equiv};
+ghost use Rattle.htcp_packet.specs.Writing.{FitsForm, IsWritable};
+
+/// The form of an operation's data, OP-DATA.
+#[derive(Clone, Copy, Debug, PartialEq, Eq)]
+pub enum Form {
+    Empty,
+    Specifier,
+    Clear,
+    Detail,
+    CacheHeaders,
+    Opaque,
+}
+
+impl Form {
+    /// The form that the operation, the answer code and the flags give.
+    pub fn of(opcode: u8, response: u8, f1: bool, rr: bool) -> Form
+        ensures { result ≡ form_of opcode response f1 rr }
+    {
+        if rr {
+            if f1 {
+                return Form::Opaque;
+            }
+            match (opcode, response) {
+                (0 | 4, _) => Form::Empty,
+                (1, 0) => Form::Detail,
+                (1, 1) => Form::CacheHeaders,
+                _ => Form::Opaque,
+            }
+        } else {
+            match opcode {
+                0 => Form::Empty,
+                1 => Form::Specifier,
+                4 => Form::Clear,
+                _ => Form::Opaque,
+            }
+        }
+    }
+}
+
+/// SPECIFIER: what is asked for (RFC 2756, section 3.2).
+#[derive(Clone, Copy, Debug, PartialEq, Eq)]
+pub struct Specifier<'a> {
+    pub method: &'a [u8],
+    pub uri: &'a [u8],
+    pub version: &'a [u8],
+    pub headers: &'a [u8],
+}
+
+/// DETAIL: what is held (RFC 2756, section 3.2).
+#[derive(Clone, Copy, Debug, PartialEq, Eq)]
+pub struct Detail<'a> {
+    pub response_headers: &'a [u8],
+    pub entity_headers: &'a [u8],
+    pub cache_headers: &'a [u8],
+}
+
+/// OP-DATA: the data of an operation.
+#[derive(Clone, Copy, Debug, PartialEq, Eq)]
+pub enum HtcpBody<'a> {
+    /// Of NOP, and of the answer to CLR.
+    Empty,
+    /// Of a request TST.
+    Specifier(Specifier<'a>),
+    /// Of a request CLR. A reason is under 16.
+    Clear {
+        reason: u8,
+        specifier: Specifier<'a>,
+    },
+    /// Of the answer to TST where something is held.
+    Detail(Detail<'a>),
+    /// Of the answer to TST where nothing is held.
+    CacheHeaders(&'a [u8]),
+    /// Of everything else, not looked into.
+    Opaque(&'a [u8]),
+}
+
+/// AUTH: the signature of a message, and its times in seconds since 1970 UTC.
+#[derive(Clone, Copy, Debug, PartialEq, Eq)]
+pub enum HtcpAuth<'a> {
+    Unsigned,
+    Signed {
+        time: u32,
+        expire: u32,
+        key_name: &'a [u8],
+        signature: &'a [u8],
+    },
+}
+
+/// A message, and its DATA as received.
+///
+/// `rr` tells an answer from a request. `f1` is RD in a request (an answer is wanted) and MO in an answer (its
+/// code is one of the protocol's own, whatever the operation).
+#[derive(Clone, Copy, Debug)]
+pub struct HtcpView<'a> {
+    pub minor: u8,
+    /// Under 16.
+    pub opcode: u8,
+    /// Under 16.
+    pub response: u8,
+    pub f1: bool,
+    pub rr: bool,
+    pub trans: u32,
+    pub body: HtcpBody<'a>,
+    /// The octets of DATA, padding and reserved bits included. It is no part of a message's equality.
+    pub raw: &'a [u8],
+    pub auth: HtcpAuth<'a>,
+}
+
+impl<'a> PartialEq for HtcpView<'a> {
+    ghost eq = { on shown same_message };
+
+    ghost laws = { on_per shown (partial_equiv_from_equiv messages_equiv) };
+
+    /// Whether both are the same message. The octets of their DATA aren't looked at.
+    fn eq(&self, other: &HtcpView<'a>) -> bool
+        ensures value { result ≡ on shown same_message self.now other.now }
+        ensures same { IsTrue result ↔ (shown self.now ≡ shown other.now) }
+    {
+        self.minor == other.minor
+            && self.opcode == other.opcode
+            && self.response == other.response
+            && self.f1 == other.f1
+            && self.rr == other.rr
+            && self.trans == other.trans
+            && self.body == other.body
+            && self.auth == other.auth
+    }
+}
+
+impl<'a> Eq for HtcpView<'a> {
+    ghost laws = { on_equiv shown messages_equiv };
+}
+
+// Whether the body has this form, and a reason fits its four bits.
+fn fits_form(form: Form, body: &HtcpBody<'_>) -> bool
+    ensures { IsTrue result ↔ FitsForm form (shown_body body.now) }
+{
+    match (form, body) {
+        (Form::Empty, HtcpBody::Empty)
+        | (Form::Specifier, HtcpBody::Specifier(_))
+        | (Form::Detail, HtcpBody::Detail(_))
+        | (Form::CacheHeaders, HtcpBody::CacheHeaders(_))
+        | (Form::Opaque, HtcpBody::Opaque(_)) => true,
+        (
+            Form::Clear,
+            HtcpBody::Clear {
+                reason,
+                specifier: _,
+            },
+        ) => *reason < 16,
+        _ => false,
+    }
+}
+
+impl<'a> HtcpView<'a> {
+    /// Whether the message can be written: operation and answer code are under 16, the body has the form that
+    /// they and the flags give, and a reason is under 16.
+    pub fn is_writable(&self) -> bool
+        ensures { IsTrue result ↔ IsWritable (shown self.now) }
+    {
+        let form = Form::of(self.opcode, self.response, self.f1, self.rr);
+        self.opcode < 16 && self.response < 16 && fits_form(form, &self.body)
+    }
+
+    // The numbers of a view are in range.
+    pub(crate) fn is_in_range(&self)
+        ensures { self.now.trans < 2 ^ 32 }
+    {
+        let _trans = self.trans;
+    }
+}

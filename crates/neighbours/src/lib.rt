@@ -1,0 +1,25 @@
+//! The neighbours of a cache: their configuration, signing keys, smoothed times, misses and order.
+#![tactic(auto)]
+
+mod checking;
+mod fault;
+mod key;
+mod laws;
+mod neighbour;
+mod octets;
+mod rank;
+mod table;
+
+pub use fault::ConfigFault;
+pub use filter_slots::{End, Moment, Socket};
+pub use key::Key;
+pub use laws::{
+    irreflexive_law, one_way_law, order_law, test_law, through_law, total_law, transitive_law,
+};
+pub use neighbour::{Neighbour, Role};
+pub use octets::Octets;
+pub use rank::{Ranked, is_before};
+pub use table::{Mark, Table};
+
+#[cfg(test)]
+mod tests;

@@ -1,0 +1,20 @@
+//! The order of peers that replied.
+
+ghost use Rattle.std.specs.Prelude.{◌≡◌};
+ghost use Rattle.neighbours.specs.Rank.{before};
+
+/// The place of a neighbour in the configuration, with its smoothed time.
+#[derive(Clone, Copy, Debug)]
+pub struct Ranked {
+    pub n: usize,
+    pub s: u32,
+}
+
+/// Whether `a` is before `b`: by time over weight, and of equals the one configured first.
+pub fn is_before(a: Ranked, a_weight: u32, b: Ranked, b_weight: u32) -> bool
+    ensures { result ≡ before a a_weight b b_weight }
+{
+    let left = a.s as u64 * b_weight as u64;
+    let right = b.s as u64 * a_weight as u64;
+    left < right || (left == right && a.n < b.n)
+}

@@ -1,0 +1,97 @@
+use crate::{ConfigFault, End, Key, Neighbour, Octets, Ranked, Role, Socket, Table};
+use std::alloc::{AllocError, Global};
+
+// A neighbour at 10.0.0.(its last octet), with a key of one octet or none.
+fn neighbour(
+    alloc: Global,
+    last: u8,
+    weight: u32,
+    key: Option<u8>,
+) -> Result<Neighbour, AllocError> {
+    let key = match key {
+        None => None,
+        Some(octet) => Some(Octets::new(vec![in alloc; octet]?)),
+    };
+    Ok(Neighbour {
+        kind: Role::Parent,
+        protocol: Socket::Icp,
+        end: End {
+            addr: [10, 0, 0, last],
+            port: 3130,
+        },
+        http_port: 3128,
+        weight,
+        key,
+    })
+}
+
+// So many neighbours at ends of their own, and then one with this end, weight and key.
+fn neighbours(
+    alloc: Global,
+    count: u8,
+    last: u8,
+    weight: u32,
+    key: Option<u8>,
+) -> Result<Vec<Neighbour>, AllocError> {
+    let mut list = Vec::new(alloc);
+    for i in 0..count {
+        list.push(neighbour(alloc, i, 1, None)?)?;
+    }
+    list.push(neighbour(alloc, last, weight, key)?)?;
+    Ok(list)
+}
+
+fn keys(alloc: Global, names: &[u8]) -> Result<Vec<Key>, AllocError> {
+    let mut list = Vec::new(alloc);
+    for name in names {
+        list.push(Key {
+            name: Octets::new(vec![in alloc; *name]?),
+            secret: Octets::new(vec![in alloc; 1, 2, 3]?),
+        })?;
+    }
+    Ok(list)
+}
+
+#[test]
+fn first_faults(rt: HostRuntime) -> Result<(), AllocError> {
+    let cases: [(u8, u8, u32, Option<u8>, &[u8], Option<ConfigFault>); 9] = [
+        (2, 9, 100, Some(b'k'), b"k", None),
+        (63, 63, 1, None, b"", None),
+        (64, 64, 1, None, b"", Some(ConfigFault::Count)),
+        (64, 0, 0, None, b"", Some(ConfigFault::Count)),
+        (2, 0, 0, None, b"", Some(ConfigFault::DoubleAddress)),
+        (2, 9, 0, None, b"", Some(ConfigFault::Weight)),
+        (2, 9, 101, Some(b'k'), b"", Some(ConfigFault::Weight)),
+        (2, 9, 1, Some(b'k'), b"j", Some(ConfigFault::KeyName)),
+        (2, 9, 1, Some(b'k'), b"kk", Some(ConfigFault::KeyName)),
+    ];
+    for (count, last, weight, key, names, fault) in cases {
+        let list = neighbours(rt.alloc(), count, last, weight, key)?;
+        let made = Table::new(rt.alloc(), list, keys(rt.alloc(), names)?);
+        assert!(rt; made.err() == fault, "{count} {last} {weight}");
+    }
+    Ok(())
+}
+
+#[test]
+fn times_and_misses(rt: HostRuntime) -> Result<(), AllocError> {
+    let list = neighbours(rt.alloc(), 0, 2, 2, None)?;
+    let Ok(mut table) = Table::new(rt.alloc(), list, keys(rt.alloc(), b"k")?) else {
+        return Err(AllocError);
+    };
+    for (ms, time) in [(40, 320), (70, 350), (65_535, 65_842), (1_000_000, 123_147)] {
+        assert!(rt; table.len() == 1);
+        table.sample(0, ms);
+        assert!(rt; table.time(0) == Some(time), "{ms}");
+    }
+    for miss in 0..21 {
+        assert!(rt; table.len() == 1);
+        assert!(rt; table.is_up(0) == (miss < 20), "{miss}");
+        table.missed(0);
+    }
+    assert!(rt; table.len() == 1);
+    table.replied(0);
+    assert!(rt; table.is_up(0));
+    assert!(rt; !table.before(Ranked { n: 0, s: 8 }, Ranked { n: 0, s: 8 }));
+    Ok(())
+}

@@ -1,0 +1,4 @@
+mod CutLemmas
+mod PairLemmas
+mod PlainLemmas
+mod SumLemmas

@@ -1,0 +1,138 @@
+-- What the words on a store's pairs give at the cache that holds them.
+use Rattle.std.proofs.Common.{◌≡◌, ℕ, ◌+◌, ◌-◌, ◌^◌, ◌<◌, ◌≤◌, Bool, true, false, not, cond, bytes_eq, List, [], ◌∷◌, length, min, take, filter, get_or, option_map, Option, Some, None, refl, sym, ap, ◌∙◌, arith}
+use Rattle.std.specs.List.{AllByRecursion, IsDistinct}
+use Rattle.std.specs.Map.{keys_of, lookup, lookup_entry, remove_entry}
+use Rattle.std.specs.Option.{option_map_or}
+use Rattle.std.specs.Cmp.Lexicographic.{bytes_decides, nat_list_eq_equiv}
+use Rattle.std.proofs.lemmas.List.{take_all}
+use Rattle.std.proofs.lemmas.List.Sums.{sum_by-cons, sum_by_more}
+use Rattle.std.proofs.lemmas.Option.{slice_get-get_or, slice_get_within, get_or_from_slice_get}
+use Rattle.std.proofs.lemmas.Map.Keys.{IsDistinct-head, IsDistinct-tail}
+use Rattle.lru.specs.LruCache.{LruCache, lru_cache, last_entry, put_entries}
+use Rattle.lru.proofs.CallerLemmas.{Contains-lookup_entry}
+use Rattle.lru.proofs.Pairs.{lookup-lookup_entry}
+use Rattle.object_store.specs.declared.entry.Entry.{Entry}
+use Rattle.object_store.specs.Pairs.{Pair, octets_in, size_of, octets_of, entry_at, without}
+
+-- keys that pass the test of a key are that key
+pub same_key : (a b : List ℕ) → bytes_eq a b ≡ true → a ≡ b
+same_key a b h = (bytes_decides a b).0 h
+
+module _ (test : List ℕ → Bool) where
+  kept : (pairs : List Pair) → AllByRecursion (λ k. test k ≡ false) (keys_of pairs) → filter (λ pair. not (test pair.0)) pairs ≡ pairs
+  kept [] h = refl
+  kept (pair ∷ pairs) h = rw h.0 (ap (λ (l : List Pair). pair ∷ l) (kept pairs h.1))
+
+  module _ (eq : List ℕ → List ℕ → Bool) (one : (x y : List ℕ) → test x ≡ true → test y ≡ eq x y) where
+    apart : (k : List ℕ) (ks : List (List ℕ)) → test k ≡ true → AllByRecursion (λ y. eq k y ≡ false) ks → AllByRecursion (λ y. test y ≡ false) ks
+    apart k [] t h = tt
+    apart k (y ∷ ks) t h = (one k y t ∙ h.0, apart k ks t h.1)
+
+    -- where keys are apart, to leave a key out is to remove its first pair
+    pub filter-removes : (pairs : List Pair) → IsDistinct eq (keys_of pairs) → filter (λ pair. not (test pair.0)) pairs ≡ remove_entry test pairs
+    filter-removes [] d = refl
+    filter-removes (pair ∷ pairs) d =
+        (elim (test pair.0) as (λ b. test pair.0 ≡ b → cond (not b) (pair ∷ filter (λ p. not (test p.0)) pairs) (filter (λ p. not (test p.0)) pairs) ≡ cond b pairs (pair ∷ remove_entry test pairs)) [
+          | true ↦ λ t. kept pairs (apart pair.0 (keys_of pairs) t (IsDistinct-head eq pair.0 (keys_of pairs) d))
+          | false ↦ λ t. ap (λ (l : List Pair). pair ∷ l) (filter-removes pairs (IsDistinct-tail eq pair.0 (keys_of pairs) d))
+        ]) refl
+
+  -- a key that isn't found: nothing is removed
+  pub remove-absent : (pairs : List Pair) → lookup test pairs ≡ None → remove_entry test pairs ≡ pairs
+  remove-absent [] h = refl
+  remove-absent (pair ∷ pairs) h =
+      (elim (test pair.0) as (λ b. test pair.0 ≡ b → cond b (Some pair.1) (lookup test pairs) ≡ None → cond b pairs (pair ∷ remove_entry test pairs) ≡ pair ∷ pairs) [
+        | true ↦ λ t g. absurd cc
+        | false ↦ λ t g. ap (λ (l : List Pair). pair ∷ l) (remove-absent pairs g)
+      ]) refl h
+
+-- at the keys of a store
+pub without-removes : (key : List ℕ) (pairs : List Pair) → IsDistinct bytes_eq (keys_of pairs) → without key pairs ≡ remove_entry (bytes_eq key) pairs
+without-removes key pairs d = filter-removes (bytes_eq key) bytes_eq (nat_list_eq_equiv.congr key) pairs d
+
+pub octets-cons : (pair : Pair) (pairs : List Pair) → octets_of (pair ∷ pairs) ≡ size_of pair.0 pair.1 + octets_of pairs
+octets-cons pair pairs = sum_by-cons (λ (p : Pair). size_of p.0 p.1) pair pairs
+
+-- what is removed leaves the octets of the others
+pub remove-octets : (key : List ℕ) (entry : Entry) (pairs : List Pair) → entry_at key pairs ≡ Some entry
+    → octets_of (remove_entry (bytes_eq key) pairs) + size_of key entry ≡ octets_of pairs
+remove-octets key entry [] h = absurd cc
+remove-octets key entry (pair ∷ pairs) h =
+    (elim (bytes_eq key pair.0) as (λ b. bytes_eq key pair.0 ≡ b → cond b (Some pair.1) (lookup (bytes_eq key) pairs) ≡ Some entry
+    → octets_of (cond b pairs (pair ∷ remove_entry (bytes_eq key) pairs)) + size_of key entry ≡ octets_of (pair ∷ pairs)) [
+      | true ↦ λ t g. let k : key ≡ pair.0 = same_key key pair.0 t in let e : entry ≡ pair.1 = cc in
+          rw (k, e) (omega (arith, octets-cons pair pairs))
+      | false ↦ λ t g. omega (arith, remove-octets key entry pairs g, octets-cons pair pairs, octets-cons pair (remove_entry (bytes_eq key) pairs))
+    ]) refl h
+
+-- the last pair, and the octets of those before it
+pub last-none : (pairs : List Pair) (sum : ℕ) → last_entry pairs ≡ None → sum ≡ octets_of pairs → sum ≡ octets_of (take (length pairs - 1) pairs)
+last-none [] sum h e = e
+last-none (pair ∷ pairs) sum h e =
+    let some = slice_get-get_or (pair ∷ pairs) (length (pair ∷ pairs) - 1) pair (omega arith) in absurd cc
+
+pub last-octets : (pairs : List Pair) (key : List ℕ) (entry : Entry) → last_entry pairs ≡ Some (key, entry)
+    → octets_of (take (length pairs - 1) pairs) + size_of key entry ≡ octets_of pairs
+last-octets pairs key entry h =
+    let before : length pairs - 1 < length pairs = slice_get_within pairs (length pairs - 1) (key, entry) h in
+    let at : get_or pairs (length pairs - 1) (key, entry) ≡ (key, entry) = get_or_from_slice_get pairs (length pairs - 1) (key, entry) (key, entry) h in
+    let whole : take (length pairs - 1 + 1) pairs ≡ pairs = take_all (length pairs - 1 + 1) pairs (omega arith) in
+    let more : octets_of (take (length pairs - 1 + 1) pairs) ≡ octets_of (take (length pairs - 1) pairs) + size_of (get_or pairs (length pairs - 1) (key, entry)).0 (get_or pairs (length pairs - 1) (key, entry)).1
+    = sum_by_more (λ (p : Pair). size_of p.0 p.1) pairs (length pairs - 1) (key, entry) before in
+    let here : size_of (get_or pairs (length pairs - 1) (key, entry)).0 (get_or pairs (length pairs - 1) (key, entry)).1 ≡ size_of key entry = ap (λ (p : Pair). size_of p.0 p.1) at in
+    let all : octets_of (take (length pairs - 1 + 1) pairs) ≡ octets_of pairs = ap octets_of whole in
+    omega (arith, more, here, all)
+
+-- what a put into the cache leaves: the pair in front of the others
+put-at : (key : List ℕ) (entry : Entry) (pairs : List Pair) (cap : ℕ) (found : Option Pair) → lookup_entry (bytes_eq key) pairs ≡ found
+    → length pairs ≤ cap - 1
+    → option_map_or (λ (e : Pair). (e.0, entry) ∷ remove_entry (bytes_eq key) pairs) found ((key, entry) ∷ take (cap - 1) pairs) ≡ (key, entry) ∷ remove_entry (bytes_eq key) pairs
+put-at key entry pairs cap None h few =
+    let absent : lookup (bytes_eq key) pairs ≡ None = sym (lookup-lookup_entry (bytes_eq key) pairs) ∙ ap (option_map (λ (e : Pair). e.1)) h in
+    rw (take_all (cap - 1) pairs few, remove-absent (bytes_eq key) pairs absent)
+put-at key entry pairs cap (Some pair) h few =
+    let same : key ≡ pair.0 = same_key key pair.0 (Contains-lookup_entry (bytes_eq key) pairs pair h).1 in
+    ap (λ (k : List ℕ). (k, entry) ∷ remove_entry (bytes_eq key) pairs) (sym same)
+
+pub put-is : (cache : LruCache (List ℕ) Entry) (key : List ℕ) (entry : Entry) → length cache.entries ≤ cache.cap - 1 → IsDistinct bytes_eq (keys_of cache.entries)
+    → put_entries bytes_eq cache key entry ≡ (key, entry) ∷ without key cache.entries
+put-is cache key entry few d =
+    put-at key entry cache.entries cache.cap (lookup_entry (bytes_eq key) cache.entries) refl few
+    ∙ ap (λ (l : List Pair). (key, entry) ∷ l) (sym (without-removes key cache.entries d))
+
+-- the octets after a put under a key that wasn't there, and under one that was
+pub put-new : (key : List ℕ) (entry : Entry) (pairs : List Pair) → IsDistinct bytes_eq (keys_of pairs) → entry_at key pairs ≡ None
+    → octets_of ((key, entry) ∷ without key pairs) ≡ octets_of pairs + size_of key entry
+put-new key entry pairs d h =
+    let left : octets_of (without key pairs) ≡ octets_of pairs = ap octets_of (without-removes key pairs d ∙ remove-absent (bytes_eq key) pairs h) in
+    omega (arith, left, octets-cons (key, entry) (without key pairs))
+
+pub put-old : (key : List ℕ) (entry old : Entry) (pairs : List Pair) → IsDistinct bytes_eq (keys_of pairs) → entry_at key pairs ≡ Some old
+    → octets_of ((key, entry) ∷ without key pairs) + size_of key old ≡ octets_of pairs + size_of key entry
+put-old key entry old pairs d h =
+    let left : octets_of (without key pairs) ≡ octets_of (remove_entry (bytes_eq key) pairs) = ap octets_of (without-removes key pairs d) in
+    omega (arith, left, remove-octets key old pairs h, octets-cons (key, entry) (without key pairs))
+
+-- the same with the numbers that the code has
+pub taken : (pairs : List Pair) (key : List ℕ) (entry : Entry) (n s sum : ℕ) → last_entry pairs ≡ Some (key, entry) → n ≡ length key
+    → s ≡ min (n + octets_in entry) (2 ^ 64 - 1) → sum ≡ octets_of pairs → sum < 2 ^ 64
+    → (s ≤ sum) × (sum - s ≡ octets_of (take (length pairs - 1) pairs))
+taken pairs key entry n s sum last long is total fits =
+    let parts : octets_of (take (length pairs - 1) pairs) + size_of key entry ≡ octets_of pairs = last-octets pairs key entry last in
+    (omega arith, omega arith)
+
+pub put-sum-new : (key : List ℕ) (entry : Entry) (pairs : List Pair) (sum octets : ℕ) → IsDistinct bytes_eq (keys_of pairs) → entry_at key pairs ≡ None
+    → sum ≡ octets_of pairs → octets ≡ size_of key entry → sum + octets ≡ octets_of ((key, entry) ∷ without key pairs)
+put-sum-new key entry pairs sum octets d h total size =
+    let parts : octets_of ((key, entry) ∷ without key pairs) ≡ octets_of pairs + size_of key entry = put-new key entry pairs d h in omega arith
+
+pub put-sum-old : (key : List ℕ) (entry old : Entry) (pairs : List Pair) (n s sum octets : ℕ) → IsDistinct bytes_eq (keys_of pairs) → entry_at key pairs ≡ Some old
+    → n ≡ length key → s ≡ min (n + octets_in old) (2 ^ 64 - 1) → sum ≡ octets_of pairs → octets ≡ size_of key entry → sum + octets < 2 ^ 64
+    → (s ≤ sum + octets) × (sum + octets - s ≡ octets_of ((key, entry) ∷ without key pairs))
+put-sum-old key entry old pairs n s sum octets d h long is total size fits =
+    let parts : octets_of ((key, entry) ∷ without key pairs) + size_of key old ≡ octets_of pairs + size_of key entry = put-old key entry old pairs d h in
+    (omega arith, omega arith)
+
+-- a cache by its two fields
+pub cache-is : (cache : LruCache (List ℕ) Entry) (pairs : List Pair) (cap : ℕ) → cache.entries ≡ pairs → cache.cap ≡ cap → cache ≡ lru_cache pairs cap
+cache-is cache pairs cap e g = rw (← e, ← g) refl

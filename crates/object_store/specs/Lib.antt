@@ -1,0 +1,5 @@
+pub mod Key
+pub mod Object
+pub mod Pairs
+pub mod Store
+pub mod Lending

@@ -1,0 +1,59 @@
+-- The pairs of a store: their octets, whether they are fresh, and the longest front of them within limits.
+use Rattle.std.specs.Prelude.{◌≡◌, ℕ, ◌+◌, ◌-◌, ◌*◌, ◌≤◌, nat_lt, nat_le, bytes_eq, Bool, not, ◌&&◌, if◌then◌else◌, List, [], ◌∷◌, length, take, filter, sum_by, Option, Some, None}
+use Rattle.std.specs.Map.{lookup}
+use Rattle.object_store.specs.declared.entry.Entry.{Entry}
+
+-- a key and its entry
+abbrev pub Pair : Type 0
+Pair = List ℕ × Entry
+
+-- the octets of an entry: those of the names and values of its head, and of its body
+abbrev pub octets_in : Entry → ℕ
+octets_in entry = sum_by (λ field. length field.0 + length field.1) entry.object.head + length entry.object.body
+
+-- the size of an entry under a key
+abbrev pub size_of : List ℕ → Entry → ℕ
+size_of key entry = length key + octets_in entry
+
+-- the sizes of all pairs together
+abbrev pub octets_of : List Pair → ℕ
+octets_of pairs = sum_by (λ pair. size_of pair.0 pair.1) pairs
+
+-- whether the moment, in milliseconds, is before the entry's own and its life, in seconds
+abbrev pub is_fresh : ℕ → Entry → Bool
+is_fresh now entry = nat_lt now (entry.at + 1000 * entry.object.life)
+
+-- the entry under a key
+abbrev pub entry_at : List ℕ → List Pair → Option Entry
+entry_at key pairs = lookup (bytes_eq key) pairs
+
+-- an entry that is found counts only while it is fresh
+abbrev pub fresh_only : ℕ → Option Entry → Option Entry
+fresh_only now None = None
+fresh_only now (Some entry) = if is_fresh now entry then Some entry else None
+
+-- the pairs without that of the key
+abbrev pub without : List ℕ → List Pair → List Pair
+without key pairs = filter (λ pair. not (bytes_eq key pair.0)) pairs
+
+-- a fresh entry that is found goes to the front, a stale one goes out
+abbrev pub moved : List ℕ → ℕ → List Pair → Option Entry → List Pair
+moved key now pairs None = pairs
+moved key now pairs (Some entry) = if is_fresh now entry then (key, entry) ∷ without key pairs else without key pairs
+
+-- the front of the pairs that is as long as so many entries and octets allow
+abbrev pub cut : ℕ → ℕ → List Pair → List Pair
+cut entries octets [] = []
+cut entries octets (pair ∷ pairs) =
+    if nat_le 1 entries && nat_le (size_of pair.0 pair.1) octets then pair ∷ cut (entries - 1) (octets - size_of pair.0 pair.1) pairs else []
+
+-- the pairs are within both limits
+pub record IsWithin (entries octets : ℕ) (pairs : List Pair) : Type 0 where
+  pub few : length pairs ≤ entries
+  pub small : octets_of pairs ≤ octets
+
+-- the longest front of the pairs that is within both limits
+pub record IsLongestFront (entries octets : ℕ) (pairs front : List Pair) : Type 0 where
+  pub front_is : front ≡ take (length front) pairs
+  pub within : IsWithin entries octets front
+  pub longest : (count : ℕ) → IsWithin entries octets (take count pairs) → length (take count pairs) ≤ length front

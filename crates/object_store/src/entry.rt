@@ -1,0 +1,49 @@
+//! Entries of a store.
+
+ghost use Rattle.std.specs.Prelude.{◌≡◌, ◌+◌, ◌-◌, ◌^◌, length, min, sum_by};
+ghost use Rattle.object_store.specs.Object.{head_of};
+ghost use Rattle.object_store.specs.Pairs.{is_fresh, octets_in};
+
+use crate::object::SharedObject;
+use bpf_run::Moment;
+
+/// An object, and the moment at which it was stored.
+#[derive(Debug, Drop)]
+pub struct Entry {
+    pub object: SharedObject,
+    pub at: Moment,
+}
+
+impl Entry {
+    /// Whether the moment is before `at` and the life of the object, in seconds.
+    pub fn is_fresh(&self, now: Moment) -> bool
+        ensures { result ≡ is_fresh now self.now }
+    {
+        now.millis() < self.at.millis() + 1000 * u64::from(self.object.get().life())
+    }
+}
+
+// The size of an entry under a key of so many octets: these, the names and values of the head, and
+// the body. It stays at the last number.
+pub(crate) fn size(key_octets: usize, entry: &Entry) -> u64
+    ensures { result ≡ min (key_octets + octets_in entry.now) (2 ^ 64 - 1) }
+{
+    let object = entry.object.get();
+    let head = head_octets(object.head());
+    (key_octets as u64)
+        .saturating_add(head)
+        .saturating_add(object.body().len() as u64)
+}
+
+// The octets of the names and values of a head.
+fn head_octets(head: &[(Vec<u8>, Vec<u8>)]) -> u64
+    ensures { result ≡ min (sum_by (λ field. length field.0 + length field.1) (head_of head.now)) (2 ^ 64 - 1) }
+{
+    let mut octets = 0u64;
+    for field in head {
+        octets = octets
+            .saturating_add(field.0.len() as u64)
+            .saturating_add(field.1.len() as u64);
+    }
+    octets
+}

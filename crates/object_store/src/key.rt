@@ -1,0 +1,132 @@
+//! Keys of objects.
+
+ghost use Rattle.std.specs.Prelude.{◌≡◌, ◌↔◌, IsTrue, IsOk, IfOk, IfErr, All};
+ghost use Rattle.object_store.specs.Key.{IsKey, IsKeyFault, IsVisible};
+
+use std::alloc::{AllocError, Global};
+use std::hash::{Hash, Hasher};
+use std::marker::Model;
+use std::sync::Arc;
+use thiserror::Error;
+
+/// The most octets of a key.
+pub const MOST_KEY_OCTETS: usize = 8192;
+
+const SCHEME: &[u8] = b"http://";
+
+/// Why octets give no key.
+#[derive(Clone, Copy, Debug, PartialEq, Eq, Error)]
+pub enum KeyFault {
+    /// They do not begin with `http://`, are more than 8,192, or one is outside 0x21 to 0x7e.
+    #[error("not a key")]
+    NotKey,
+    #[error("out of memory")]
+    NoMemory,
+}
+
+/// A URL as it came: it begins with `http://` and has at most 8,192 octets, each from 0x21 to
+/// 0x7e. Its octets have several owners; contracts see the list of them.
+#[derive(Debug, Drop)]
+pub struct CacheKey {
+    octets: Arc<Vec<u8>>,
+}
+
+impl Model for CacheKey {
+    ghost use Rattle.std.specs.Prelude.{List, ℕ};
+    ghost use Rattle.std.specs.Arc.{arc_value};
+    ghost use Rattle.object_store.specs.Key.{IsKey};
+
+    ghost Value = { List ℕ };
+
+    ghost view = { λ k. (arc_value k.octets).items };
+
+    ghost invariant = { λ k. IsKey (arc_value k.octets).items };
+}
+
+impl CacheKey {
+    /// The key of these octets, which a refusal hands back.
+    pub fn new(alloc: Global, octets: Vec<u8>) -> Result<CacheKey, (KeyFault, Vec<u8>)>
+        ensures sound { IsOk result → IsKey octets.items }
+        ensures value { IfOk result (λ key. key ≡ octets.items) }
+        ensures fault { IfErr result (λ refused. IsKeyFault octets.items refused.0) }
+        ensures back { IfErr result (λ refused. refused.1 ≡ octets) }
+    {
+        if !is_key(&octets) {
+            return Err((KeyFault::NotKey, octets));
+        }
+        match Arc::new(alloc, octets) {
+            Ok(octets) => Ok(CacheKey { octets }),
+            Err(refused) => Err((KeyFault::NoMemory, refused.value)),
+        }
+    }
+
+    /// One more owner of the same octets. It requests no memory, and is refused only where there
+    /// are too many owners.
+    pub fn share(&self) -> Result<CacheKey, AllocError>
+        ensures { IfOk result (λ key. key ≡ self.now) }
+    {
+        Ok(CacheKey {
+            octets: Arc::try_clone(&self.octets)?,
+        })
+    }
+
+    /// The octets.
+    #[inline(always)]
+    pub fn as_slice(&self) -> &[u8]
+        ensures value { result.now ≡ self.now }
+        ensures key { IsKey self.now }
+    {
+        self.octets.as_slice()
+    }
+}
+
+// Whether the octets are a key.
+fn is_key(octets: &[u8]) -> bool
+    ensures { IsTrue result ↔ IsKey octets.now }
+{
+    octets.len() <= MOST_KEY_OCTETS && octets.starts_with(SCHEME) && are_visible(octets)
+}
+
+// Whether each octet is visible ASCII.
+fn are_visible(octets: &[u8]) -> bool
+    ensures { IsTrue result ↔ All IsVisible octets.now }
+{
+    octets.iter().all(|&octet| 0x21 <= octet && octet <= 0x7e)
+}
+
+impl PartialEq for CacheKey {
+    ghost use Rattle.std.specs.Prelude.{◌≡◌, ◌↔◌, IsTrue, bytes_eq, nat_eq};
+    ghost use Rattle.std.specs.Cmp.{partial_equiv_from_equiv};
+    ghost use Rattle.std.specs.Cmp.Lexicographic.{nat_list_eq_equiv};
+
+    ghost eq = { bytes_eq };
+
+    ghost laws = { partial_equiv_from_equiv nat_list_eq_equiv };
+
+    fn eq(&self, other: &CacheKey) -> bool
+        ensures value { result ≡ bytes_eq self.now other.now }
+        ensures same { IsTrue result ↔ (self.now ≡ other.now) }
+    {
+        self.as_slice() == other.as_slice()
+    }
+}
+
+impl Eq for CacheKey {
+    ghost use Rattle.std.specs.Cmp.Lexicographic.{nat_list_eq_equiv};
+
+    ghost laws = { nat_list_eq_equiv };
+}
+
+impl Hash for CacheKey {
+    ghost use Rattle.std.specs.Hash as fed;
+    ghost use Rattle.std.specs.Cmp.Rules.{hashing};
+    ghost use Rattle.std.proofs.Common.{rules};
+
+    ghost hash_input = { fed.slice fed.u8 };
+
+    ghost respects_eq = { Prim.search (hashing, rules) };
+
+    fn hash<H: Hasher>(&self, state: &mut H) {
+        self.as_slice().hash(state);
+    }
+}

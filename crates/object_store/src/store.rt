@@ -1,0 +1,162 @@
+//! The store: objects by their keys, within a number of entries and of octets.
+
+ghost use Rattle.std.specs.Prelude.{◌≡◌, ◌≤◌, ◌↔◌, [], IsTrue, IsOk, IfOk, IfErr, OnOk, OnErr, is_some, option_copied};
+ghost use Rattle.std.specs.Borrow.{sem};
+ghost use Rattle.object_store.specs.Pairs.{entry_at, size_of};
+ghost use Rattle.object_store.specs.Store.{AreLimits, IsPutFault, IsStore, IsStoreFault, after_get, after_put, after_remove, fresh_at};
+ghost use Rattle.object_store.specs.Lending.{ends_as};
+
+use crate::entry::{Entry, size};
+use crate::faults::{PutFault, StoreFault};
+use crate::key::CacheKey;
+use crate::pairs::{Pairs, evict, put_pair};
+use bpf_run::Moment;
+use lru::LruCache;
+use std::alloc::Global;
+use std::marker::Model;
+
+/// The most entries that a store may be made for.
+pub const MOST_ENTRIES: u32 = 1_000_000;
+
+/// The most octets that a store may be made for.
+pub const MOST_OCTETS: u32 = 1_073_741_824;
+
+/// Entries by their keys, within a number of entries and of octets. Contracts see these limits and
+/// the list of pairs, the most recently used first.
+#[derive(Debug, Drop)]
+pub struct Store {
+    most_entries: u32,
+    most_octets: u32,
+    sum: u64,
+    pairs: Pairs,
+}
+
+impl Model for Store {
+    ghost use Rattle.object_store.specs.Store.{StoreState, IsSummed};
+
+    ghost Value = { StoreState };
+
+    ghost view = { λ s. record { most_entries = s.most_entries; most_octets = s.most_octets; pairs = s.pairs.entries } };
+
+    ghost invariant = { λ s. IsSummed s.most_entries s.most_octets s.sum s.pairs.cap s.pairs.entries };
+}
+
+impl Store {
+    /// An empty store for 1 to 1,000,000 entries and 1 to 1,073,741,824 octets.
+    pub fn new(alloc: Global, entries: u32, octets: u32) -> Result<Store, StoreFault>
+        ensures limits { IsOk result → AreLimits entries octets }
+        ensures value { IfOk result (λ store. store ≡ record { most_entries = entries; most_octets = octets; pairs = [] }) }
+        ensures fault { IfErr result (λ fault. IsStoreFault entries octets fault) }
+    {
+        if entries == 0 || entries > MOST_ENTRIES || octets == 0 || octets > MOST_OCTETS {
+            return Err(StoreFault::Limits);
+        }
+        let Ok(pairs) = LruCache::unbounded(alloc) else {
+            return Err(StoreFault::NoMemory);
+        };
+        Ok(Store {
+            most_entries: entries,
+            most_octets: octets,
+            sum: 0,
+            pairs,
+        })
+    }
+
+    /// What always holds: no key stands twice, and the pairs are within the limits. It costs
+    /// nothing.
+    pub fn facts(&self)
+        ensures { IsStore self.now }
+    {
+        let _ = self.pairs.len();
+    }
+
+    /// The entry of a key. A fresh one goes to the front, a stale one is taken out and not answered.
+    pub fn get(&mut self, key: &CacheKey, now: Moment) -> Option<&Entry>
+        ensures* changed { sem 𝓛 (ends_as self.entry (after_get key.now now self.old)) }
+        ensures value { option_copied result ≡ fresh_at key.now now self.old }
+    {
+        if !self.touch(key, now) {
+            return None;
+        }
+        match self.pairs.peek_mru() {
+            Some((_, entry)) => Some(entry),
+            None => None,
+        }
+    }
+
+    // Moves a fresh entry to the front and takes a stale one out. Answers whether there is a fresh one.
+    fn touch(&mut self, key: &CacheKey, now: Moment) -> bool
+        ensures changed { self.new ≡ after_get key.now now self.old }
+        ensures value { result ≡ is_some (fresh_at key.now now self.old) }
+    {
+        let _ = self.pairs.len();
+        let Some(entry) = self.pairs.get(key) else {
+            return false;
+        };
+        if entry.is_fresh(now) {
+            return true;
+        }
+        self.remove(key);
+        false
+    }
+
+    /// The entry of a key, where it is fresh. Nothing moves.
+    pub fn peek(&self, key: &CacheKey, now: Moment) -> Option<&Entry>
+        ensures { option_copied result ≡ fresh_at key.now now self.now }
+    {
+        let entry = self.pairs.peek(key)?;
+        if entry.is_fresh(now) {
+            Some(entry)
+        } else {
+            None
+        }
+    }
+
+    /// Whether there is an entry of this key, fresh or not.
+    pub fn holds(&self, key: &CacheKey) -> bool
+        ensures { result ≡ is_some (entry_at key.now self.now.pairs) }
+    {
+        self.pairs.contains(key)
+    }
+
+    /// Takes the entry of a key out.
+    pub fn remove(&mut self, key: &CacheKey) -> Option<Entry>
+        ensures value { result ≡ entry_at key.now self.old.pairs }
+        ensures changed { self.new ≡ after_remove key.now self.old }
+    {
+        let _ = self.pairs.len();
+        let Some(removed) = self.pairs.pop(key) else {
+            return None;
+        };
+        self.sum -= size(key.as_slice().len(), &removed);
+        Some(removed)
+    }
+
+    /// Puts an entry in front, in the place of the old one of its key. The least recently used pairs
+    /// go out until the others are within the limits. A refusal hands key and entry back.
+    pub fn put(&mut self, key: CacheKey, entry: Entry) -> Result<(), (PutFault, CacheKey, Entry)>
+        ensures fits { IsOk result → size_of key entry ≤ self.old.most_octets }
+        ensures changed { OnOk result (self.new ≡ after_put key entry self.old) }
+        ensures fault { IfErr result (λ refused. IsPutFault self.old key entry refused.0) }
+        ensures back { IfErr result (λ refused. (refused.1 ≡ key) × (refused.2 ≡ entry)) }
+        ensures unchanged { OnErr result (self.new ≡ self.old) }
+    {
+        let octets = size(key.as_slice().len(), &entry);
+        if octets > u64::from(self.most_octets) {
+            return Err((PutFault::TooLarge, key, entry));
+        }
+        match put_pair(&mut self.pairs, self.sum, key, entry, octets) {
+            Err(refused) => {
+                let (key, entry) = refused.value;
+                Err((PutFault::NoMemory, key, entry))
+            }
+            Ok(sum) => {
+                self.sum = evict(&mut self.pairs, sum, self.most_entries, self.most_octets);
+                Ok(())
+            }
+        }
+    }
+}
+
+#[cfg(test)]
+mod tests;

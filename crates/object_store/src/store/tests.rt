@@ -1,0 +1,269 @@
+//! Keys, digests, limits, and one table of calls on the store and on its plain twin.
+
+ghost use Rattle.std.specs.Prelude.{◌≡◌, is_some};
+ghost use Rattle.object_store.specs.Store.{after_get, fresh_at};
+
+use crate::plain::PlainStore;
+use crate::{CacheKey, Entry, KeyFault, Object, PutFault, SharedObject, Store, StoreFault};
+use bpf_run::Moment;
+use std::alloc::Global;
+use std::test::Fail;
+
+fn key(alloc: Global, text: &str) -> Result<CacheKey, Fail> {
+    let octets = text.as_bytes().to_vec(alloc)?;
+    CacheKey::new(alloc, octets).map_err(|_| "no key".into())
+}
+
+// An entry of so many octets of body, with no head.
+fn entry(alloc: Global, body: usize, life: u32, at: u64) -> Result<Entry, Fail> {
+    let body = vec![in alloc; 7u8; body]?;
+    let object = Object::new(200, Vec::new(alloc), body, 0, life);
+    Ok(Entry {
+        object: SharedObject::new(alloc, object)?,
+        at: Moment::new(at).ok_or("no moment")?,
+    })
+}
+
+// What a caller of `get` knows.
+fn touches(store: &mut Store, key: &CacheKey, now: Moment) -> bool
+    ensures found { result ≡ is_some (fresh_at key.now now store.old) }
+    ensures changed { store.new ≡ after_get key.now now store.old }
+{
+    store.get(key, now).is_some()
+}
+
+#[test]
+fn keys(rt: HostRuntime) -> Result<(), Fail> {
+    let alloc = rt.alloc();
+    let refused = [
+        "",
+        "http:/",
+        "ftp://a/",
+        "HTTP://a/",
+        "http://a b",
+        "http://a\x7f",
+    ];
+    for text in refused {
+        let octets = text.as_bytes().to_vec(alloc)?;
+        let refused = CacheKey::new(alloc, octets).err().ok_or("a key")?;
+        assert_eq!(rt; refused.0, KeyFault::NotKey, "{text}");
+        assert_eq!(rt; refused.1.as_slice(), text.as_bytes());
+    }
+    for (length, accepted) in [(8192, true), (8193, false)] {
+        let mut octets = b"http://!~".to_vec(alloc)?;
+        octets.resize(length, 0x61)?;
+        assert_eq!(rt; CacheKey::new(alloc, octets).is_ok(), accepted);
+    }
+    let first = key(alloc, "http://a/")?;
+    assert!(rt; first.share()? == key(alloc, "http://a/")?);
+    assert!(rt; first != key(alloc, "http://b/")?);
+    Ok(())
+}
+
+#[test]
+fn digests(rt: HostRuntime) -> Result<(), Fail> {
+    let alloc = rt.alloc();
+    let mut head = Vec::new(alloc);
+    head.push((b"a".to_vec(alloc)?, b"b".to_vec(alloc)?))?;
+    let object = Object::new(200, head, b"hi".to_vec(alloc)?, 1, 60);
+    let wanted: [u8; 16] = [
+        0xd7, 0xda, 0xfd, 0xeb, 0x90, 0x7b, 0xbf, 0x1f, 0xc4, 0xb1, 0xc3, 0xe4, 0xc9, 0xbf, 0x8c,
+        0x09,
+    ];
+    assert_eq!(rt; object.digest(), wanted);
+    let shared = SharedObject::new(alloc, object)?;
+    let second = shared.share()?;
+    let object = second.get();
+    assert_eq!(rt;
+        (object.status(), object.age(), object.life()),
+        (200, 1, 60)
+    );
+    assert_eq!(rt; object.head().len(), 1);
+    assert_eq!(rt; object.body(), b"hi".as_slice());
+    Ok(())
+}
+
+#[test]
+fn limits(rt: HostRuntime) -> Result<(), Fail> {
+    let alloc = rt.alloc();
+    let table = [
+        (0, 1, false),
+        (1, 0, false),
+        (1_000_001, 1, false),
+        (1, 1_073_741_825, false),
+        (1, 1, true),
+        (1_000_000, 1_073_741_824, true),
+    ];
+    for (entries, octets, accepted) in table {
+        let fault = Store::new(alloc, entries, octets).err();
+        let wanted = if accepted {
+            None
+        } else {
+            Some(StoreFault::Limits)
+        };
+        assert_eq!(rt; fault, wanted);
+    }
+    Ok(())
+}
+
+// A call of a store.
+#[derive(Clone, Copy)]
+enum Call {
+    Put,
+    Get,
+    Peek,
+    Holds,
+    Remove,
+}
+
+// What a call answers: the octets of a body, a fault, or nothing.
+type Answer = Result<Option<usize>, PutFault>;
+
+// A call, its key, for a put the octets of the body and the life, the moment, the answer, and the
+// keys after it, the most recently used first.
+type Row = (Call, &'static str, usize, u32, u64, Answer, &'static str);
+
+fn body_of(entry: Option<&Entry>) -> Answer {
+    Ok(entry.map(|entry| entry.object.get().body().len()))
+}
+
+fn found(yes: bool) -> Answer {
+    Ok(if yes { Some(0) } else { None })
+}
+
+fn on_store(store: &mut Store, call: Call, key: CacheKey, entry: Entry) -> Answer {
+    match call {
+        Call::Put => match store.put(key, entry) {
+            Ok(()) => Ok(None),
+            Err(refused) => Err(refused.0),
+        },
+        Call::Get => body_of(store.get(&key, entry.at)),
+        Call::Peek => body_of(store.peek(&key, entry.at)),
+        Call::Holds => found(store.holds(&key)),
+        Call::Remove => body_of(store.remove(&key).as_ref()),
+    }
+}
+
+fn on_plain(store: &mut PlainStore, call: Call, key: CacheKey, entry: Entry) -> Answer {
+    match call {
+        Call::Put => match store.put(key, entry) {
+            Ok(()) => Ok(None),
+            Err(refused) => Err(refused.0),
+        },
+        Call::Get => body_of(store.get(&key, entry.at)),
+        Call::Peek => body_of(store.peek(&key, entry.at)),
+        Call::Holds => found(store.holds(&key)),
+        Call::Remove => body_of(store.remove(&key).as_ref()),
+    }
+}
+
+// A store and its twin, which are to answer alike and hold the same pairs.
+#[derive(Drop)]
+struct Twins {
+    store: Store,
+    plain: PlainStore,
+}
+
+impl Twins {
+    fn new(alloc: Global, entries: u32, octets: u32) -> Result<Twins, Fail> {
+        Ok(Twins {
+            store: Store::new(alloc, entries, octets)?,
+            plain: PlainStore::new(alloc, entries, octets)?,
+        })
+    }
+
+    // The answer of both, if it is one.
+    fn call(&mut self, alloc: Global, row: Row) -> Result<Answer, Fail> {
+        let (call, name, body, life, at, _, _) = row;
+        let first = key(alloc, name)?;
+        let second = first.share()?;
+        let entry_of_first = entry(alloc, body, life, at)?;
+        let entry_of_second = entry(alloc, body, life, at)?;
+        let answer = on_store(&mut self.store, call, first, entry_of_first);
+        if answer != on_plain(&mut self.plain, call, second, entry_of_second) {
+            return Err("the twins answer differently".into());
+        }
+        Ok(answer)
+    }
+
+    // The eighth octets of the keys of both, the most recently used first, if they are the same.
+    fn keys(&self, alloc: Global) -> Result<Vec<u8>, Fail> {
+        let mut names = Vec::new(alloc);
+        let mut plain = self.plain.pairs().iter();
+        for (key, _) in self.store.pairs.iter() {
+            let Some((plain_key, _)) = plain.next() else {
+                return Err("the plain twin holds less".into());
+            };
+            if key != plain_key {
+                return Err("the twins hold different keys".into());
+            }
+            names.push(key.as_slice().get(7).copied().unwrap_or(0))?;
+        }
+        if plain.next().is_some() {
+            return Err("the plain twin holds more".into());
+        }
+        Ok(names)
+    }
+}
+
+const A: &str = "http://a/";
+
+const B: &str = "http://b/";
+
+const C: &str = "http://c/";
+
+const D: &str = "http://d/";
+
+// Sizes of 60, 30 and 50 octets, within 10 entries and 100 octets.
+const BY_OCTETS: [Row; 16] = [
+    (Call::Put, A, 51, 60, 1010, Ok(None), "a"),
+    (Call::Put, B, 21, 60, 1010, Ok(None), "ba"),
+    (Call::Put, C, 41, 60, 1010, Ok(None), "cb"),
+    (Call::Put, A, 92, 60, 1010, Err(PutFault::TooLarge), "cb"),
+    (Call::Put, B, 92, 60, 1010, Err(PutFault::TooLarge), "cb"),
+    (Call::Holds, A, 0, 0, 0, Ok(None), "cb"),
+    (Call::Holds, B, 0, 0, 0, Ok(Some(0)), "cb"),
+    (Call::Peek, B, 0, 0, 1020, Ok(Some(21)), "cb"),
+    (Call::Get, B, 0, 0, 1020, Ok(Some(21)), "bc"),
+    // stored at 1010 for 60 seconds
+    (Call::Get, C, 0, 0, 61009, Ok(Some(41)), "cb"),
+    (Call::Peek, B, 0, 0, 61010, Ok(None), "cb"),
+    (Call::Holds, B, 0, 0, 0, Ok(Some(0)), "cb"),
+    (Call::Get, B, 0, 0, 61010, Ok(None), "c"),
+    (Call::Remove, A, 0, 0, 0, Ok(None), "c"),
+    (Call::Put, A, 91, 60, 1010, Ok(None), "a"),
+    (Call::Remove, A, 0, 0, 0, Ok(Some(91)), ""),
+];
+
+// Within 3 entries and 1,000 octets.
+const BY_ENTRIES: [Row; 9] = [
+    (Call::Put, A, 1, 60, 1010, Ok(None), "a"),
+    (Call::Put, B, 1, 60, 1010, Ok(None), "ba"),
+    (Call::Put, C, 1, 60, 1010, Ok(None), "cba"),
+    (Call::Get, A, 0, 0, 1020, Ok(Some(1)), "acb"),
+    (Call::Put, D, 1, 60, 1010, Ok(None), "dac"),
+    (Call::Get, B, 0, 0, 1020, Ok(None), "dac"),
+    // the new entry in the place of the old one, for no second
+    (Call::Put, C, 971, 0, 1010, Ok(None), "cda"),
+    (Call::Put, C, 972, 0, 1010, Ok(None), "cd"),
+    (Call::Get, C, 0, 0, 1010, Ok(None), "d"),
+];
+
+#[test]
+fn calls(rt: HostRuntime) -> Result<(), Fail> {
+    let alloc = rt.alloc();
+    let mut twins = Twins::new(alloc, 10, 100)?;
+    for row in BY_OCTETS {
+        assert_eq!(rt; twins.call(alloc, row)?, row.5, "{}", row.6);
+        assert_eq!(rt; twins.keys(alloc)?.as_slice(), row.6.as_bytes());
+    }
+    let mut twins = Twins::new(alloc, 3, 1000)?;
+    for row in BY_ENTRIES {
+        assert_eq!(rt; twins.call(alloc, row)?, row.5, "{}", row.6);
+        assert_eq!(rt; twins.keys(alloc)?.as_slice(), row.6.as_bytes());
+    }
+    let now = Moment::new(1020).ok_or("no moment")?;
+    assert!(rt; touches(&mut twins.store, &key(alloc, D)?, now));
+    twins.store.facts();
+    Ok(())
+}

@@ -1,0 +1,5 @@
+pub mod Firsts
+pub mod Polls
+pub mod Orders
+pub mod Members
+pub mod Shapes

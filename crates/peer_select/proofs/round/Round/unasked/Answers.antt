@@ -1,0 +1,8 @@
+use Rattle.std.proofs.Common.{false, ap, ◌∙◌}
+use Rattle.peer_select.specs.Poll.{Poll, matches}
+use Rattle.peer_select.proofs.round.Round.unasked.Goals as goal
+
+pub returns-clause-matching : goal.returns-clause-matching
+returns-clause-matching c =
+    ap (λ (p : Poll). matches c.args.table.now.neighbours p.peers) c.begin.ensures
+    ∙ c.matching_law.ensures.begun c.args.table.now false c.args.now

@@ -1,0 +1,3 @@
+pub mod Poll
+pub mod Choice
+pub mod Best

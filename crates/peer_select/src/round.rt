@@ -1,0 +1,288 @@
+//! A round of queries.
+
+ghost use Rattle.std.specs.Prelude.{◌≡◌, ◌<◌, ◌≤◌, take, Some, ◌↔◌, ◌∷◌, ◌++◌, [], length, slice_get, true, false, IsTrue, ◌&&◌, nat_lt};
+ghost use Rattle.neighbours.specs.Rows.{mark_at, is_up};
+ghost use Rattle.peer_select.specs.Poll.{begun, peers_of, peers_from, decided, replied, ended, has_reply, matches, IsPoll};
+ghost use Rattle.peer_select.specs.Choice.{sources, sources_by, last_sources, listed, hit_of, parent_of};
+
+use crate::choice::{any_hit, chosen_parent, find_reply, first_hit, have_replied, parent_left};
+use crate::laws::matching_law;
+use crate::reply::{Kind, Peer, Reply, Source};
+use neighbours::{Moment, Role, Table};
+use std::marker::Model;
+
+/// A round of queries: whom it asked, and all replies in order.
+#[derive(Drop)]
+pub struct Round {
+    start: Moment,
+    asked: bool,
+    peers: [Peer; 64],
+    count: usize,
+    replies: [Reply; 64],
+    len: usize,
+    expired: bool,
+}
+
+impl Model for Round {
+    ghost use Rattle.std.specs.Prelude.{◌≤◌, take};
+    ghost use Rattle.peer_select.specs.Poll.{Poll, IsHeld};
+
+    ghost Value = { Poll };
+
+    ghost view = { λ r. record {
+      start = r.start;
+      asked = r.asked;
+      peers = take r.count r.peers;
+      replies = take r.len r.replies;
+      expired = r.expired;
+    } };
+
+    ghost invariant = { λ r. IsHeld r.count r.len r.peers r.replies (record {
+      start = r.start;
+      asked = r.asked;
+      peers = take r.count r.peers;
+      replies = take r.len r.replies;
+      expired = r.expired;
+    }) };
+}
+
+impl Round {
+    /// A round that asks all neighbours, also those that are down.
+    pub fn start(table: &Table, now: Moment) -> Round
+        ensures value { result ≡ begun table.now true now }
+        ensures matching { matches table.now.neighbours result.peers ≡ true }
+    {
+        matching_law();
+        Round::begin(table, true, now)
+    }
+
+    /// A round that asks nobody: it is decided.
+    pub fn unasked(table: &Table, now: Moment) -> Round
+        ensures value { result ≡ begun table.now false now }
+        ensures matching { matches table.now.neighbours result.peers ≡ true }
+    {
+        matching_law();
+        Round::begin(table, false, now)
+    }
+
+    fn begin(table: &Table, asked: bool, start: Moment) -> Round
+        ensures { result ≡ begun table.now asked start }
+    {
+        table.facts();
+        Round {
+            start,
+            asked,
+            peers: peers_in(table),
+            count: table.len(),
+            replies: [Reply {
+                s: 0,
+                n: 0,
+                kind: Kind::Refused,
+            }; 64],
+            len: 0,
+            expired: false,
+        }
+    }
+
+    /// What holds of every round. It does nothing.
+    pub fn facts(&self)
+        ensures { IsPoll self.now }
+    {
+        let _ = &self.replies;
+    }
+
+    /// When it began.
+    pub fn began(&self) -> Moment
+        ensures { result ≡ self.now.start }
+    {
+        self.start
+    }
+
+    /// Whether it asked the neighbour at this place.
+    pub fn asked(&self, n: usize) -> bool
+        ensures { result ≡ (self.now.asked && nat_lt n (length self.now.peers)) }
+    {
+        if !self.asked {
+            return false;
+        }
+        n < self.count
+    }
+
+    /// Whether the neighbour at this place has replied.
+    pub fn has_reply(&self, n: usize) -> bool
+        ensures { result ≡ has_reply self.now.replies n }
+    {
+        find_reply(&self.replies[..self.len], n)
+    }
+
+    /// Whether the sources are fixed.
+    pub fn decided(&self) -> bool
+        ensures { result ≡ decided self.now }
+    {
+        !self.asked
+            || self.expired
+            || any_hit(&self.replies[..self.len])
+            || have_replied(&self.replies[..self.len], &self.peers[..self.count])
+    }
+
+    /// The peer at place n replies; s is its smoothed time just after this reply's sample. On a decided round, or a
+    /// second time, it changes nothing. The table has the kinds and weights of the one that the round was made with.
+    #[tactic(auto, using(crate::proofs::Shapes::matches_length))]
+    pub fn reply(&mut self, table: &Table, n: usize, kind: Kind, s: u32)
+        requires place { n < length table.now.neighbours }
+        requires table { matches table.now.neighbours self.old.peers ≡ true }
+        ensures value { self.new ≡ replied self.old (record { s = s; n = n; kind = kind }) }
+        ensures peers { self.new.peers ≡ self.old.peers }
+    {
+        table.facts();
+        if self.decided() || self.has_reply(n) {
+            return;
+        }
+        let n = n as u8;
+        self.push(Reply { s, n, kind });
+    }
+
+    fn push(&mut self, reply: Reply)
+        requires known { reply.n < length self.old.peers }
+        requires fresh { has_reply self.old.replies reply.n ≡ false }
+        ensures { self.new ≡ record self.old { replies = self.old.replies ++ reply ∷ [] } }
+    {
+        self.replies[self.len] = reply;
+        self.len += 1;
+    }
+
+    /// The time is up. On a decided round it changes nothing.
+    pub fn expire(&mut self)
+        ensures value { self.new ≡ ended self.old }
+        ensures peers { self.new.peers ≡ self.old.peers }
+    {
+        if self.decided() {
+            return;
+        }
+        self.expired = true;
+    }
+
+    /// The source of an attempt, the first of which is 0; `origin` says whether the origin is allowed. The table has
+    /// the kinds and weights of the one that the round was made with.
+    pub fn source(&self, table: &Table, attempt: u16, origin: bool) -> Option<Source>
+        requires { matches table.now.neighbours self.now.peers ≡ true }
+        ensures { result ≡ slice_get (sources self.now origin) attempt }
+    {
+        let _ = table;
+        let hit = self.hit();
+        let parent = self.parent();
+        self.from_hit(hit, parent, attempt, origin)
+    }
+
+    fn hit(&self) -> Option<Reply>
+        ensures { result ≡ hit_of self.now.replies }
+    {
+        first_hit(&self.replies[..self.len])
+    }
+
+    fn parent(&self) -> Option<Reply>
+        ensures { result ≡ parent_of self.now.peers self.now.replies }
+    {
+        chosen_parent(&self.peers[..self.count], &self.replies[..self.len])
+    }
+
+    fn from_hit(
+        &self,
+        hit: Option<Reply>,
+        parent: Option<Reply>,
+        place: u16,
+        origin: bool,
+    ) -> Option<Source>
+        ensures { result ≡ slice_get (sources_by self.now hit parent origin) place }
+    {
+        match hit {
+            None => self.from_parent(hit, parent, place, origin),
+            Some(reply) => {
+                if place == 0 {
+                    return Some(Source::Peer(reply.n as usize));
+                }
+                self.from_parent(hit, parent, place - 1, origin)
+            }
+        }
+    }
+
+    fn from_parent(
+        &self,
+        hit: Option<Reply>,
+        parent: Option<Reply>,
+        place: u16,
+        origin: bool,
+    ) -> Option<Source>
+        ensures { result ≡ slice_get (listed parent ++ last_sources self.now hit parent origin) place }
+    {
+        match parent {
+            None => self.from_last(hit, parent, place, origin),
+            Some(reply) => {
+                if place == 0 {
+                    return Some(Source::Peer(reply.n as usize));
+                }
+                self.from_last(hit, parent, place - 1, origin)
+            }
+        }
+    }
+
+    fn from_last(
+        &self,
+        hit: Option<Reply>,
+        parent: Option<Reply>,
+        place: u16,
+        origin: bool,
+    ) -> Option<Source>
+        ensures { result ≡ slice_get (last_sources self.now hit parent origin) place }
+    {
+        if !origin {
+            return parent_left(
+                &self.replies[..self.len],
+                hit,
+                parent,
+                &self.peers[..self.count],
+                place,
+            );
+        }
+        if place == 0 {
+            return Some(Source::Origin);
+        }
+        None
+    }
+}
+
+fn peer_in(table: &Table, n: usize) -> Peer
+    requires { n < length table.now.neighbours }
+    ensures { (x : _) → slice_get table.now.neighbours n ≡ Some x →
+        result ≡ record { weight = x.weight; role = x.kind; up = is_up (mark_at table.now.marks n) } }
+{
+    let up = table.is_up(n);
+    match table.get(n) {
+        Some(neighbour) => Peer {
+            weight: neighbour.weight,
+            role: neighbour.kind,
+            up,
+        },
+        None => Peer {
+            weight: 1,
+            role: Role::Sibling,
+            up,
+        },
+    }
+}
+
+fn peers_in(table: &Table) -> [Peer; 64]
+    requires { length table.now.neighbours ≤ 64 }
+    ensures peers { take (length table.now.neighbours) result ≡ peers_of table.now }
+    ensures places { length result ≡ 64 }
+{
+    let mut peers = [Peer {
+        weight: 1,
+        role: Role::Sibling,
+        up: false,
+    }; 64];
+    for n in 0..table.len() {
+        peers[n] = peer_in(table, n);
+    }
+    peers
+}

@@ -1,0 +1,9 @@
+pub mod Lists
+pub mod Words
+pub mod Runs
+pub mod Nexts
+pub mod Places
+pub mod Keeping
+pub mod Waits
+pub mod Held
+pub mod Views

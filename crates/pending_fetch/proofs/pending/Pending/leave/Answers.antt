@@ -1,0 +1,15 @@
+use Rattle.std.proofs.Common.{vec_capacity}
+use Rattle.pending_fetch.specs.Fetches.{left}
+use Rattle.pending_fetch.specs.Slots.{held}
+use Rattle.pending_fetch.proofs.Views.{put_view, held_left}
+use Rattle.pending_fetch.proofs.pending.Pending.leave.Goals as goal
+
+pub invariant_of-self : goal.invariant_of-self
+invariant_of-self c =
+    held_left c.args.client (vec_capacity c.self.inside.clients) (vec_capacity c.leave_in.new.clients) c.self.inside.slots.items c.leave_in.new.slots.items
+    c.self.inside.clients.items c.leave_in.new.clients.items c.self.invariant c.leave_in.ensures.room c.leave_in.ensures.counted c.leave_in.ensures.list
+
+pub returns : goal.returns
+returns c =
+    put_view c.self.inside.last (held c.leave_in.new.slots.items c.leave_in.new.clients.items) (held c.self.inside.slots.items c.self.inside.clients.items)
+    (left c.args.client) c.args.self.now c.leave_in.ensures.list c.self.view_is

@@ -1,0 +1,7 @@
+use Rattle.std.proofs.Common.{vec_capacity}
+use Rattle.pending_fetch.proofs.Views.{held_none}
+use Rattle.pending_fetch.proofs.pending.Pending.new.Goals as goal
+
+pub invariant_of-result : goal.invariant_of-result
+invariant_of-result c =
+    held_none (vec_capacity c.in_ok-clients.clients) c.new.result.items c.in_ok-clients.clients.items c.in_ok-clients.ensures.exact c.new.ensures.items c.in_ok-clients.ensures.items

@@ -1,0 +1,19 @@
+use Rattle.std.proofs.Common.{length, slice_get, sym, ap, ◌∙◌, vec_capacity, arith}
+use Rattle.pending_fetch.specs.Fetches.{Fetches, waiters_of}
+use Rattle.pending_fetch.specs.Slots.{held, waiting_in}
+use Rattle.pending_fetch.proofs.Views.{few_clients}
+use Rattle.pending_fetch.proofs.pending.Pending.waiter.Goals as goal
+
+pub waiter_in-requires-clause-counted : goal.waiter_in-requires-clause-counted
+waiter_in-requires-clause-counted c = ap waiting_in c.deref.ensures.value ∙ c.self.invariant.counted ∙ sym (ap length c.deref-2.ensures.value)
+
+pub waiter_in-requires-clause-few : goal.waiter_in-requires-clause-few
+waiter_in-requires-clause-few c =
+    let few = few_clients (vec_capacity c.self.inside.clients) c.self.inside.slots.items c.self.inside.clients.items c.self.invariant in
+    omega (arith, ap length c.deref-2.ensures.value, few)
+
+pub returns : goal.returns
+returns c =
+    c.waiter_in.ensures ∙ ap (λ l. slice_get (waiters_of c.args.number (held l c.deref-2.result.now)) c.args.i) c.deref.ensures.value
+    ∙ ap (λ l. slice_get (waiters_of c.args.number (held c.self.inside.slots.items l)) c.args.i) c.deref-2.ensures.value
+    ∙ ap (λ (v : Fetches). slice_get (waiters_of c.args.number v.list) c.args.i) c.self.view_is

@@ -1,0 +1,6 @@
+pub mod Fetches
+pub mod Numbers
+pub mod Calls
+pub mod Legal
+pub mod Slots
+pub mod Places

@@ -1,0 +1,21 @@
+//! Why a fetch was not opened or joined.
+
+use thiserror::Error;
+
+/// Why no fetch was opened: the first that applies.
+#[derive(Clone, Copy, Debug, PartialEq, Eq, Error)]
+pub enum OpenFault {
+    #[error("256 fetches are pending, or 1024 clients wait")]
+    Full,
+    #[error("out of memory")]
+    NoMemory,
+}
+
+/// Why a client did not join: the first that applies.
+#[derive(Clone, Copy, Debug, PartialEq, Eq, Error)]
+pub enum JoinFault {
+    #[error("1024 clients wait")]
+    Full,
+    #[error("the client waits already")]
+    Double,
+}

@@ -1,0 +1,18 @@
+//! The pending fetches, each with its round and the clients that wait for it.
+#![tactic(auto)]
+
+mod fault;
+mod fetch;
+mod laws;
+mod pending;
+mod slot;
+mod slots;
+
+pub use fault::{JoinFault, OpenFault};
+pub use fetch::Fetch;
+pub use laws::{due_law, matching_law, next_law, place_law, waits_law};
+pub use pending::Pending;
+pub use std::alloc::AllocError as NoMemory;
+
+#[cfg(test)]
+mod tests;

@@ -1,0 +1,260 @@
+//! All pending fetches.
+
+ghost use Rattle.std.specs.Prelude.{◌≡◌, ◌<◌, ◌≤◌, ◌↔◌, ◌&&◌, [], ◌∷◌, length, slice_get, Some, None, IfOk, IfErr, OnOk, OnErr, IsTrue, true, false, nat_le, option_map, if◌then◌else◌};
+ghost use Rattle.std.specs.List.{list_all, list_any};
+ghost use Rattle.pending_fetch.specs.Numbers.{IsNext};
+ghost use Rattle.pending_fetch.specs.Fetches.{changed, with_reply, with_end, with_next, numbers, starts, fetch_of, has_number, shared_number, all_waiters, waits, waiters_of, left, without, first_due, next_number, opened, fresh, owner_of};
+ghost use Rattle.pending_fetch.specs.Calls.{is_crowded, is_full, join_fault, join_answer, join_list, may_advance, fits, told, shown};
+ghost use Rattle.pending_fetch.specs.Legal.{IsLegal};
+ghost use Rattle.pending_fetch.specs.Slots.{as_fetch, slot_told};
+
+use crate::fault::{JoinFault, OpenFault};
+use crate::fetch::Fetch;
+use crate::slot::Slot;
+use crate::slots::{
+    advance_in, are_crowded, are_many, close_in, due_in, expire_in, free_number, has_client,
+    join_at, leave_in, open_in, place_of, place_of_shared, reply_in, waiter_in,
+};
+use neighbours::{Moment, Table};
+use object_store::CacheKey;
+use peer_select::{Kind, Round, matching_law};
+use std::alloc::{AllocError, Global};
+use std::marker::Model;
+
+/// The pending fetches in order of opening. At most 256 are pending, and at most 1,024 clients wait for them.
+#[derive(Drop)]
+pub struct Pending {
+    last: u32,
+    slots: Vec<Slot>,
+    clients: Vec<u64>,
+}
+
+impl Model for Pending {
+    ghost use Rattle.std.specs.Prelude.{vec_capacity};
+    ghost use Rattle.pending_fetch.specs.Fetches.{Fetches};
+    ghost use Rattle.pending_fetch.specs.Slots.{held, IsHeld};
+
+    ghost Value = { Fetches };
+
+    ghost view = { λ p. record { last = p.last; list = held p.slots.items p.clients.items } };
+
+    ghost invariant = { λ p. IsHeld (vec_capacity p.clients) p.slots.items p.clients.items };
+}
+
+impl Pending {
+    /// No fetches, and room for 1,024 waiters.
+    pub fn new(alloc: Global) -> Result<Pending, AllocError>
+        ensures { IfOk result (λ pending. pending ≡ record { last = 0; list = [] }) }
+    {
+        let clients = Vec::with_capacity(alloc, 1024)?;
+        Ok(Pending {
+            last: 0,
+            slots: Vec::new(alloc),
+            clients,
+        })
+    }
+
+    /// What holds at every time. It does nothing.
+    pub fn facts(&self)
+        ensures { IsLegal self.now.list }
+    {
+        let _ = &self.slots;
+    }
+
+    /// The number that the next fetch gets: the first after the last given that no pending fetch has, round from
+    /// 4,294,967,295 to 1.
+    pub fn next_number(&self) -> u32
+        ensures { result ≡ next_number self.now }
+    {
+        free_number(&self.slots, self.last)
+    }
+
+    /// Whether the client waits for any fetch.
+    pub fn waits(&self, client: u64) -> bool
+        ensures { result ≡ waits client self.now.list }
+    {
+        has_client(&self.clients, client)
+    }
+
+    fn is_crowded(&self) -> bool
+        ensures { result ≡ is_crowded self.now.list }
+    {
+        are_crowded(&self.clients)
+    }
+
+    fn is_many(&self) -> bool
+        ensures { result ≡ nat_le 256 (length self.now.list) }
+    {
+        are_many(&self.slots)
+    }
+
+    fn is_full(&self) -> bool
+        ensures { result ≡ is_full self.now.list }
+    {
+        self.is_many() || self.is_crowded()
+    }
+
+    fn join_fault(&self, client: u64) -> Option<JoinFault>
+        ensures { result ≡ join_fault client self.now.list }
+    {
+        if self.is_crowded() {
+            return Some(JoinFault::Full);
+        }
+        if self.waits(client) {
+            return Some(JoinFault::Double);
+        }
+        None
+    }
+
+    /// Opens a fetch with its first waiter, who owns it unless it is shared, and gives its number. The client waits for
+    /// no fetch, the round starts no earlier than any pending one, and there is no shared fetch of the key where this
+    /// one is shared. Errors: 256 fetches or 1,024 waiters, or out of memory.
+    pub fn open(
+        &mut self,
+        alloc: Global,
+        key: CacheKey,
+        client: u64,
+        shared: bool,
+        round: Round,
+    ) -> Result<u32, OpenFault>
+        requires absent { waits client self.old.list ≡ false }
+        requires later { list_all (λ start. nat_le start round.start) (starts self.old.list) ≡ true }
+        requires unshared { shared ≡ true → shared_number key self.old.list ≡ None }
+        ensures number { IfOk result (λ number. number ≡ next_number self.old) }
+        ensures ok { OnOk result (self.new ≡ opened key client shared round self.old) }
+        ensures room { OnOk result (is_full self.old.list ≡ false) }
+        ensures fault { IfErr result (λ fault. fault ≡ (if is_full self.old.list then OpenFault.Full else OpenFault.NoMemory)) }
+        ensures unchanged { OnErr result (self.new ≡ self.old) }
+    {
+        let _ = alloc;
+        if self.is_full() {
+            return Err(OpenFault::Full);
+        }
+        let number = self.next_number();
+        let slot = first_slot(number, key, client, shared, round);
+        if open_in(&mut self.slots, &mut self.clients, slot, client).is_err() {
+            return Err(OpenFault::NoMemory);
+        }
+        self.last = number;
+        Ok(number)
+    }
+
+    /// The client joins the shared fetch of this key. None where there is none. Errors: 1,024 clients wait, or else
+    /// this one waits already.
+    pub fn join(&mut self, key: &CacheKey, client: u64) -> Option<Result<(), JoinFault>>
+        ensures answer { result ≡ join_answer (shared_number key.now self.old.list) (join_fault client self.old.list) }
+        ensures last { self.new.last ≡ self.old.last }
+        ensures list { self.new.list ≡ join_list client self.old.list (shared_number key.now self.old.list) (join_fault client self.old.list) }
+    {
+        let Some(place) = place_of_shared(&self.slots, key.as_slice()) else {
+            return None;
+        };
+        if let Some(fault) = self.join_fault(client) {
+            return Some(Err(fault));
+        }
+        join_at(&mut self.slots, &mut self.clients, place, client);
+        Some(Ok(()))
+    }
+
+    /// The client waits no longer; its fetch goes on.
+    pub fn leave(&mut self, client: u64)
+        ensures { self.new ≡ record self.old { list = left client self.old.list } }
+    {
+        leave_in(&mut self.slots, &mut self.clients, client);
+    }
+
+    /// The i-th client that waits for the fetch of this number, in order of joining, from 0 on.
+    pub fn waiter(&self, number: u32, i: usize) -> Option<u64>
+        ensures { result ≡ slice_get (waiters_of number self.now.list) i }
+    {
+        waiter_in(&self.slots, &self.clients, number, i)
+    }
+
+    /// Removes the fetch of this number with its waiters.
+    pub fn close(&mut self, number: u32)
+        ensures { self.new ≡ record self.old { list = without number self.old.list } }
+    {
+        close_in(&mut self.slots, &mut self.clients, number);
+    }
+
+    /// The number of the first fetch, in order of opening, whose round is undecided and started 2,000 ms ago or earlier.
+    pub fn due(&self, now: Moment) -> Option<u32>
+        ensures { result ≡ first_due now self.now.list }
+    {
+        due_in(&self.slots, now)
+    }
+
+    /// The fetch of this number.
+    pub fn fetch(&self, number: u32) -> Option<Fetch<'_>>
+        ensures { option_map shown result ≡ option_map told (fetch_of number self.now.list) }
+    {
+        let Some(place) = place_of(&self.slots, number) else {
+            return None;
+        };
+        Some(lent(&self.slots[place]))
+    }
+
+    /// The peer at place n replies to the round of this fetch; s is its smoothed time just after this reply's sample.
+    /// The table has the kinds and weights of the one that the round was made with. Whether the fetch is pending.
+    pub fn reply(&mut self, number: u32, table: &Table, n: usize, kind: Kind, s: u32) -> bool
+        requires place { n < length table.now.neighbours }
+        requires table { fits table.now.neighbours (fetch_of number self.old.list) ≡ true }
+        ensures list { self.new ≡ record self.old { list = changed (with_reply (record { s = s; n = n; kind = kind })) number self.old.list } }
+        ensures found { result ≡ has_number number self.old.list }
+    {
+        matching_law();
+        reply_in(&mut self.slots, number, table, n, kind, s)
+    }
+
+    /// The time of this fetch's round is up. Whether the fetch is pending.
+    pub fn expire(&mut self, number: u32) -> bool
+        ensures list { self.new ≡ record self.old { list = changed with_end number self.old.list } }
+        ensures found { result ≡ has_number number self.old.list }
+    {
+        matching_law();
+        expire_in(&mut self.slots, number)
+    }
+
+    /// The fetch goes on to its next attempt. False where it isn't pending, or its attempt is 65,535.
+    pub fn next_attempt(&mut self, number: u32) -> bool
+        ensures list { self.new ≡ record self.old { list = changed with_next number self.old.list } }
+        ensures found { result ≡ may_advance (fetch_of number self.old.list) }
+    {
+        advance_in(&mut self.slots, number)
+    }
+}
+
+fn first_slot(number: u32, key: CacheKey, client: u64, shared: bool, round: Round) -> Slot
+    ensures fetch { as_fetch result (client ∷ []) ≡ fresh number key client shared round }
+    ensures one { result.waiting ≡ 1 }
+{
+    Slot {
+        number,
+        key,
+        owner: owner_for(client, shared),
+        attempt: 0,
+        round,
+        waiting: 1,
+    }
+}
+
+fn owner_for(client: u64, shared: bool) -> Option<u64>
+    ensures { result ≡ owner_of client shared }
+{
+    if shared {
+        return None;
+    }
+    Some(client)
+}
+
+fn lent(slot: &Slot) -> Fetch<'_>
+    ensures { shown result ≡ slot_told slot.now }
+{
+    Fetch {
+        key: &slot.key,
+        shared: slot.owner.is_none(),
+        owner: slot.owner,
+        attempt: slot.attempt,
+        round: &slot.round,
+    }
+}

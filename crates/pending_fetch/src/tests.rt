@@ -1,0 +1,92 @@
+use crate::{JoinFault, Pending};
+use neighbours::{End, Moment, Neighbour, Role, Socket, Table};
+use object_store::CacheKey;
+use peer_select::Round;
+use std::alloc::{AllocError, Global};
+
+// One parent, which is up.
+fn table(alloc: Global) -> Result<Table, AllocError> {
+    let mut list = Vec::new(alloc);
+    list.push(Neighbour {
+        kind: Role::Parent,
+        protocol: Socket::Icp,
+        end: End {
+            addr: [10, 0, 0, 9],
+            port: 3130,
+        },
+        http_port: 8080,
+        weight: 1,
+        key: None,
+    })?;
+    Table::new(alloc, list, Vec::new(alloc)).map_err(|_| AllocError)
+}
+
+fn key(alloc: Global) -> Result<CacheKey, AllocError> {
+    CacheKey::new(alloc, Vec::from_slice(alloc, b"http://a/")?).map_err(|_| AllocError)
+}
+
+// The first fetch, shared, which client 1 waits for; its round starts at 1000.
+fn first(alloc: Global) -> Result<Pending, AllocError> {
+    let table = table(alloc)?;
+    let Some(start) = Moment::new(1000) else {
+        return Err(AllocError);
+    };
+    let round = Round::start(&table, start);
+    let key = key(alloc)?;
+    let mut pending = Pending::new(alloc)?;
+    match pending.open(alloc, key, 1, true, round) {
+        Ok(1) => Ok(pending),
+        _ => Err(AllocError),
+    }
+}
+
+#[test]
+fn joining(rt: HostRuntime) -> Result<(), AllocError> {
+    let key = key(rt.alloc())?;
+    let mut pending = first(rt.alloc())?;
+    assert!(rt; matches!(pending.join(&key, 1), Some(Err(JoinFault::Double))));
+    for client in 2..1025 {
+        assert!(rt;
+            matches!(pending.join(&key, client), Some(Ok(()))),
+            "{client}"
+        );
+    }
+    for client in [1, 1024, 1025] {
+        assert!(rt;
+            matches!(pending.join(&key, client), Some(Err(JoinFault::Full))),
+            "{client}"
+        );
+    }
+    let waiters = [(0, Some(1)), (1, Some(2)), (1023, Some(1024)), (1024, None)];
+    for (i, client) in waiters {
+        assert!(rt; pending.waiter(1, i) == client, "{i}");
+    }
+    pending.leave(2);
+    assert!(rt; !pending.waits(2) && pending.waiter(1, 1) == Some(3));
+    pending.close(1);
+    assert!(rt; !pending.waits(1) && pending.join(&key, 7).is_none());
+    assert!(rt; pending.next_number() == 2);
+    Ok(())
+}
+
+#[test]
+fn expiring(rt: HostRuntime) -> Result<(), AllocError> {
+    let mut pending = first(rt.alloc())?;
+    for (millis, due) in [(2_999, None), (3_000, Some(1))] {
+        if let Some(now) = Moment::new(millis) {
+            assert!(rt; pending.due(now) == due, "{millis}");
+        }
+    }
+    assert!(rt; pending.expire(1) && !pending.expire(2));
+    if let Some(now) = Moment::new(3_000) {
+        assert!(rt; pending.due(now).is_none());
+    }
+    assert!(rt; pending.next_attempt(1) && !pending.next_attempt(2));
+    if let Some(fetch) = pending.fetch(1) {
+        assert!(rt;
+            fetch.shared && fetch.attempt == 1 && fetch.key.as_slice() == b"http://a/".as_slice()
+        );
+    }
+    assert!(rt; pending.fetch(1).is_some() && pending.fetch(2).is_none());
+    Ok(())
+}
