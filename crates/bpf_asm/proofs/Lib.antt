@@ -13,3 +13,4 @@ pub mod Decimals
 pub mod Written
 pub mod WrittenLines
 pub mod ReadBack
+pub mod TokenLaws

@@ -56,3 +56,11 @@ starts_word (c ∷ cs) = is_word_octet c
 abbrev pub is_label : List ℕ → Bool
 is_label [] = false
 is_label (c ∷ cs) = is_word_octet c && not (is_ascii_digit c)
+
+-- an octet that is no blank
+abbrev pub is_text : ℕ → Bool
+is_text c = not (is_blank c)
+
+-- an octet that isn't `;`
+abbrev pub begins_no_comment : ℕ → Bool
+begins_no_comment c = not (c == 59)

@@ -1,10 +1,12 @@
-//! What is written is read again.
+//! Laws of the assembler's language.
 
-ghost use Rattle.std.specs.Prelude.{◌≡◌, List, map};
+ghost use Rattle.std.specs.Prelude.{◌≡◌, ℕ, List, ◌∷◌, ◌++◌, map, true};
+ghost use Rattle.std.specs.List.{concat, filter, list_all};
 ghost use Rattle.bpf_check.specs.declared.insn.Insn.{Insn};
 ghost use Rattle.bpf_check.specs.Accepted.{IsAccepted};
 ghost use Rattle.bpf_asm.specs.Text.{program_text};
 ghost use Rattle.bpf_asm.specs.Assembly.{token_lines, Assembles};
+ghost use Rattle.bpf_asm.specs.Token.{tokens, is_text, begins_no_comment};
 ghost use Rattle.bpf_asm.specs.Cleared.{cleared, AreInRange};
 
 /// The text that [`crate::to_text`] writes of a program is a text of the program for
@@ -15,4 +17,15 @@ pub fn what_is_written_is_read()
         → Assembles (token_lines (program_text p)) (map cleared p) }
     ensures same { (p : List Insn) → IsAccepted p → AreInRange p → map cleared p ≡ p
         → Assembles (token_lines (program_text p)) p }
+{}
+
+/// The tokens of a line without a comment are its octets in order, blanks left out.
+pub fn tokens_keep_the_octets()
+    ensures { (line : List ℕ) → list_all begins_no_comment line ≡ true
+        → concat (tokens line) ≡ filter is_text line }
+{}
+
+/// What `;` begins adds no token.
+pub fn a_comment_has_no_token()
+    ensures { (front rest : List ℕ) → tokens (front ++ 59 ∷ rest) ≡ tokens front }
 {}

@@ -62,12 +62,18 @@ fn node_of(rt: &HostRuntime) -> Result<Node, Fail> {
     })?;
     let addr = OWN.addr;
     let htcp = End { addr, port: 4827 };
-    Node::new(Config {
+    let config = Config {
         icp: OWN,
         htcp,
         allowed,
-    })
-    .map_err(|_| Fail::from("the configuration is refused"))
+        miss_nofetch: false,
+        origin: true,
+        entries: 1000,
+        octets: 1_048_576,
+        neighbours: Vec::new(rt.alloc()),
+        keys: Vec::new(rt.alloc()),
+    };
+    Node::new(rt.alloc(), config).map_err(|_| Fail::from("the configuration is refused"))
 }
 
 /// A datagram from the neighbour to the own ICP end.

@@ -2,11 +2,11 @@
 use Rattle.std.proofs.Common.{◌≡◌, ℕ, inl, inr, suc, ◌+◌, ◌<◌, true, false, cond, List, [], ◌∷◌, ◌++◌, length, Some, refl, ap, sym, ◌∙◌, arith, append_assoc, length-append, nat_eq, take, drop, get_or, drop-cons, subst}
 use Rattle.std.proofs.lemmas.List.{append-nil, take-append-drop, take_more}
 use Rattle.std.specs.Str.Lines.{strip_carriage_return}
-use Rattle.feed_script.specs.declared.engine.Phase.{Phase}
+use Rattle.feed_script.specs.declared.phase.Phase.{Phase}
 use Rattle.feed_script.specs.declared.engine.Engine.{Engine}
 use Rattle.feed_script.specs.declared.engine.Stop.{Stop}
 use Rattle.feed_script.specs.declared.engine.Stop.TheVariants.{Line, NoMemory}
-use Rattle.feed_script.specs.ScriptLine.{ScriptLine, sets, goes, happens, refuses, asks, blank, wrong, script_line, script_of}
+use Rattle.feed_script.specs.ScriptLine.{ScriptLine, sets, goes, happens, refuses, inquires, blank, wrong, script_line, script_of}
 use Rattle.feed_script.specs.Script.{Stage, setting, started, stage_after, is_misplaced, first_misplaced}
 use Rattle.feed_script.specs.Written.{EndsWithBreak, NoBreak}
 use Rattle.feed_script.specs.Ahead.{Standing, preparing, running, stage_of, standing_of, printed, next, text_ahead, text_after, wrong_after, text_left, wrong_left, Obeys, Takes, StopsBy, Ends, EndsBy, PrintsFront}
@@ -25,14 +25,14 @@ stage-next (preparing s) (sets x) h = refl
 stage-next (preparing s) goes h = refl
 stage-next (preparing s) (happens o) h = refl
 stage-next (preparing s) (refuses fault) h = refl
-stage-next (preparing s) asks h = refl
+stage-next (preparing s) inquires h = refl
 stage-next (preparing s) blank h = refl
 stage-next (preparing s) wrong h = refl
 stage-next (running own state) (sets x) h = refl
 stage-next (running own state) goes h = refl
 stage-next (running own state) (happens o) h = refl
 stage-next (running own state) (refuses fault) h = refl
-stage-next (running own state) asks h = refl
+stage-next (running own state) inquires h = refl
 stage-next (running own state) blank h = refl
 stage-next (running own state) wrong h = refl
 

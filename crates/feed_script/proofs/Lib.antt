@@ -1,5 +1,6 @@
 pub mod EngineLemmas
 pub mod FieldLemmas
+pub mod KeyLemmas
 pub mod KnownOctets
 pub mod LineLemmas
 pub mod NumberLemmas

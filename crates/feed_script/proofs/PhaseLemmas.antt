@@ -1,34 +1,48 @@
 -- A setting more, and the start.
-use Rattle.std.proofs.Common.{◌≡◌, true, not, List, [], ◌∷◌, ◌++◌, ap, sym, ◌∙◌}
-use Rattle.bpf_run.specs.declared.ends.End.{End}
+use Rattle.std.proofs.Common.{◌≡◌, true, is_some, unwrap_or, Option, Some, None, List, [], ◌∷◌, ◌++◌, ap, sym, ◌∙◌, refl}
+use Rattle.neighbours.specs.declared.key.Key.{Key}
+use Rattle.neighbours.specs.declared.neighbour.Neighbour.{Neighbour}
 use Rattle.node_core.specs.declared.config.Config.{Config}
 use Rattle.node_core.specs.declared.config.Network.{Network}
-use Rattle.node_core.specs.Settings.{settings_of, are_fit}
+use Rattle.node_core.specs.declared.config.NodeFault.{NodeFault}
+use Rattle.node_core.specs.declared.config.NodeFault.TheVariants.{Table, Limits, NoMemory}
+use Rattle.neighbours.specs.declared.fault.ConfigFault.{ConfigFault}
+use Rattle.node_core.specs.Settings.{Setup, setup_of, setup_fault}
 use Rattle.node_core.specs.State.{opening}
-use Rattle.feed_script.specs.declared.engine.Phase.{Phase}
-use Rattle.feed_script.specs.declared.engine.Phase.TheVariants.{Setup, Running}
-use Rattle.feed_script.specs.declared.engine.Station.{Station}
-use Rattle.feed_script.specs.ScriptLine.{sets, goes, allows}
+use Rattle.feed_script.specs.declared.phase.Phase.{Phase}
+use Rattle.feed_script.specs.declared.phase.Phase.TheVariants.{Before, Running}
+use Rattle.feed_script.specs.declared.station.Station.{Station}
+use Rattle.feed_script.specs.ScriptLine.{goes, allows, has_key, has_neighbour}
 use Rattle.feed_script.specs.Script.{is_misplaced, set_by}
-use Rattle.feed_script.specs.Ahead.{stage_of, standing_of, preparing, running, next, Moves}
+use Rattle.feed_script.specs.Ahead.{stage_of, standing_of, running, next, Moves}
 
-pub with-network : (icp htcp : End) (allowed new : List Network) (network : Network) → new ≡ allowed ++ network ∷ []
-    → record { icp = icp; htcp = htcp; allowed = new } ≡ set_by (record { icp = icp; htcp = htcp; allowed = allowed }) (allows network)
-with-network icp htcp allowed new network e = λ i. record { icp = icp; htcp = htcp; allowed = e i }
+-- a list of a configuration has one more at its end
+pub with-network : (s : Setup) (new : List Network) (network : Network) → new ≡ s.settings.allowed ++ network ∷ []
+    → record s { settings = record s.settings { allowed = new } } ≡ set_by s (allows network)
+with-network s new network e = λ i. record s { settings = record s.settings { allowed = e i } }
 
-pub moves-allow : (old : Phase) (config new : Config) (network : Network) → old ≡ Setup config → settings_of new ≡ set_by (settings_of config) (allows network)
-    → Moves old (sets (allows network)) (Setup new)
-moves-allow old config new network is settings = record {
-  placed = ap (λ p. is_misplaced (stage_of (standing_of p)) (sets (allows network))) is;
-  after = ap preparing settings ∙ sym (ap (λ p. next (standing_of p) (sets (allows network))) is);
-}
+pub with-key : (s : Setup) (new : List Key) (key : Key) → new ≡ s.keys ++ key ∷ [] → record s { keys = new } ≡ set_by s (has_key key)
+with-key s new key e = λ i. record s { keys = e i }
 
-pub moves-go : (old : Phase) (config : Config) (station : Station) → old ≡ Setup config → are_fit (settings_of config) ≡ true
-    → station.node ≡ opening (settings_of config) → station.own ≡ config.icp → Moves old goes (Running station)
+pub with-neighbour : (s : Setup) (new : List Neighbour) (neighbour : Neighbour) → new ≡ s.neighbours ++ neighbour ∷ []
+    → record s { neighbours = new } ≡ set_by s (has_neighbour neighbour)
+with-neighbour s new neighbour e = λ i. record s { neighbours = e i }
+
+-- a fault that isn't want of memory is one of the settings
+pub table-some : (found : Option NodeFault) (fault : NodeFault) (inner : ConfigFault) → fault ≡ Table inner → fault ≡ unwrap_or found NoMemory → is_some found ≡ true
+table-some None fault inner which is = absurd cc
+table-some (Some x) fault inner which is = refl
+
+pub limits-some : (found : Option NodeFault) (fault : NodeFault) → fault ≡ Limits → fault ≡ unwrap_or found NoMemory → is_some found ≡ true
+limits-some None fault which is = absurd cc
+limits-some (Some x) fault which is = refl
+
+pub moves-go : (old : Phase) (config : Config) (station : Station) → old ≡ Before config → setup_fault (setup_of config) ≡ None
+    → station.node ≡ opening (setup_of config) → station.own ≡ config.icp → Moves old goes (Running station)
 moves-go old config station is fit node own = record {
-  placed = ap (λ p. is_misplaced (stage_of (standing_of p)) goes) is ∙ ap not fit;
+  placed = ap (λ p. is_misplaced (stage_of (standing_of p)) goes) is ∙ ap is_some fit;
   after =
       ap (running station.own) node
-      ∙ ap (λ e. running e (opening (settings_of config))) own
+      ∙ ap (λ e. running e (opening (setup_of config))) own
       ∙ sym (ap (λ p. next (standing_of p) goes) is);
 }

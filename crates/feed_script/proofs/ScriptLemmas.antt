@@ -1,12 +1,13 @@
 -- The text of a script, line by line.
-use Rattle.std.proofs.Common.{◌≡◌, ℕ, Bool, true, false, cond, not, List, [], ◌∷◌, ◌++◌, refl, ap, ◌∙◌, sym}
+use Rattle.std.proofs.Common.{◌≡◌, ℕ, Bool, true, false, cond, is_some, List, [], ◌∷◌, ◌++◌, refl, ap, ◌∙◌, sym}
 use Rattle.bpf_run.specs.declared.ends.End.{End}
 use Rattle.node_core.specs.declared.action.Action.{Action}
-use Rattle.node_core.specs.Settings.{Settings, are_fit}
+use Rattle.node_core.specs.Settings.{Setup, setup_fault}
 use Rattle.node_core.specs.Happening.{Happening}
 use Rattle.node_core.specs.Run.{answers}
+use Rattle.node_core.specs.PlainNode.{PlainNode}
 use Rattle.node_core.specs.State.{State, opening, HasTaken, state_after, actions_at}
-use Rattle.feed_script.specs.ScriptLine.{ScriptLine, sets, goes, happens, refuses, asks, blank, wrong, script_of}
+use Rattle.feed_script.specs.ScriptLine.{ScriptLine, sets, goes, happens, refuses, inquires, blank, wrong, script_of}
 use Rattle.feed_script.specs.Printed.{actions_text, refuse_text, stats_text}
 use Rattle.feed_script.specs.Script.{setting, started, well_placed, usual, set_by, settings_from, after_go, event_of, events_of, woven, run_text, text}
 use Rattle.feed_script.specs.Ahead.{preparing, running, text_ahead}
@@ -28,13 +29,16 @@ ahead-running laws start own past outs mid (goes ∷ ls) h = refl
 ahead-running laws start own past outs mid (happens o ∷ ls) h =
     let e = event_of own o in
     let rest = well_placed started ls in
-    ap (λ t. actions_text (actions_at mid e) ++ t)
-    (ahead-running laws start own (past ++ e ∷ []) (outs ++ actions_at mid e ∷ []) (state_after mid e) ls
-    (laws.more start mid (state_after mid e) past e outs (actions_at mid e) h (laws.taken mid e)))
+    let acts = actions_at mid e in
+    let took = laws.more start mid (state_after mid e) past e outs acts h (laws.taken mid e) in
+    let later = woven start own (past ++ e ∷ []) rest (answers (state_after mid e).plain (state_after mid e).filters (events_of own rest)) in
+    ap (λ t. actions_text (state_after mid e).plain.fetches.list acts ++ t)
+    (ahead-running laws start own (past ++ e ∷ []) (outs ++ acts ∷ []) (state_after mid e) ls took)
+    ∙ ap (λ (node : PlainNode). actions_text node.fetches.list acts ++ later) took.plain
     ∙ ap (woven start own past (happens o ∷ rest)) (sym (laws.sent mid e (events_of own rest)))
 ahead-running laws start own past outs mid (refuses fault ∷ ls) h =
     ap (λ t. refuse_text fault ++ t) (ahead-running laws start own past outs mid ls h)
-ahead-running laws start own past outs mid (asks ∷ ls) h =
+ahead-running laws start own past outs mid (inquires ∷ ls) h =
     let rest = well_placed started ls in
     ap (λ t. stats_text mid.stats ++ t) (ahead-running laws start own past outs mid ls h)
     ∙ ap (λ k. stats_text k ++ woven start own past rest (answers mid.plain mid.filters (events_of own rest))) h.stats
@@ -45,21 +49,21 @@ ahead-running laws start own past outs mid (wrong ∷ ls) h = refl
 taken-nothing : (s : State) → HasTaken s s [] []
 taken-nothing s = record { plain = refl; filters = refl; stats = refl; sent = refl }
 
--- the start, where the settings are fit, or a wrong line where not
-ahead-go : (laws : NodeLaws) (s : Settings) (ls : List ScriptLine) (fit : Bool)
-    → cond (not fit) [] ([] ++ text_ahead (running s.icp (opening s)) ls)
-    ≡ run_text (settings_from s (cond (not fit) [] (goes ∷ well_placed started ls))) (after_go (cond (not fit) [] (goes ∷ well_placed started ls)))
-ahead-go laws s ls true = ahead-running laws (opening s) s.icp [] [] (opening s) ls (taken-nothing (opening s))
-ahead-go laws s ls false = refl
+-- the start, where the settings have no fault, or a wrong line where they have one
+ahead-go : (laws : NodeLaws) (s : Setup) (ls : List ScriptLine) (faulty : Bool)
+    → cond faulty [] ([] ++ text_ahead (running s.settings.icp (opening s)) ls)
+    ≡ run_text (settings_from s (cond faulty [] (goes ∷ well_placed started ls))) (after_go (cond faulty [] (goes ∷ well_placed started ls)))
+ahead-go laws s ls false = ahead-running laws (opening s) s.settings.icp [] [] (opening s) ls (taken-nothing (opening s))
+ahead-go laws s ls true = refl
 
-ahead-setup : (laws : NodeLaws) (s : Settings) (ls : List ScriptLine)
+ahead-setup : (laws : NodeLaws) (s : Setup) (ls : List ScriptLine)
     → text_ahead (preparing s) ls ≡ run_text (settings_from s (well_placed (setting s) ls)) (after_go (well_placed (setting s) ls))
 ahead-setup laws s [] = refl
 ahead-setup laws s (sets x ∷ ls) = ahead-setup laws (set_by s x) ls
-ahead-setup laws s (goes ∷ ls) = ahead-go laws s ls (are_fit s)
+ahead-setup laws s (goes ∷ ls) = ahead-go laws s ls (is_some (setup_fault s))
 ahead-setup laws s (happens o ∷ ls) = refl
 ahead-setup laws s (refuses fault ∷ ls) = refl
-ahead-setup laws s (asks ∷ ls) = refl
+ahead-setup laws s (inquires ∷ ls) = refl
 ahead-setup laws s (blank ∷ ls) = ahead-setup laws s ls
 ahead-setup laws s (wrong ∷ ls) = refl
 

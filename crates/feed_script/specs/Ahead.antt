@@ -2,25 +2,25 @@
 -- These words serve the contracts of private functions.
 use Rattle.std.specs.Prelude.{◌≡◌, ℕ, ◌+◌, false, List, [], ◌∷◌, ◌++◌, Option, Some, None, if◌then◌else◌}
 use Rattle.bpf_run.specs.declared.ends.End.{End}
-use Rattle.node_core.specs.Settings.{Settings, settings_of}
+use Rattle.node_core.specs.Settings.{Setup, setup_of}
 use Rattle.node_core.specs.State.{State, opening, actions_at, state_after}
-use Rattle.feed_script.specs.declared.engine.Phase.{Phase}
-use Rattle.feed_script.specs.declared.engine.Phase.TheVariants.{Setup, Running}
+use Rattle.feed_script.specs.declared.phase.Phase.{Phase}
+use Rattle.feed_script.specs.declared.phase.Phase.TheVariants.{Before, Running}
 use Rattle.feed_script.specs.declared.engine.Engine.{Engine}
 use Rattle.feed_script.specs.declared.engine.Stop.{Stop}
 use Rattle.feed_script.specs.declared.engine.Stop.TheVariants.{Line, NoMemory}
-use Rattle.feed_script.specs.ScriptLine.{ScriptLine, sets, goes, happens, refuses, asks, script_of}
+use Rattle.feed_script.specs.ScriptLine.{ScriptLine, sets, goes, happens, refuses, inquires, script_of}
 use Rattle.feed_script.specs.Printed.{actions_text, refuse_text, stats_text}
 use Rattle.feed_script.specs.Written.{EndsWithBreak, NoBreak}
 use Rattle.feed_script.specs.Script.{Stage, setting, started, is_misplaced, first_misplaced, set_by, event_of}
 
 -- what is known between two lines: settings before the start, and a node after it
 pub data Standing : Type 0 where
-  preparing : Settings → Standing
+  preparing : Setup → Standing
   running : (own : End) (state : State) → Standing
 
 abbrev pub standing_of : Phase → Standing
-standing_of (Setup config) = preparing (settings_of config)
+standing_of (Before config) = preparing (setup_of config)
 standing_of (Running station) = running station.own station.node
 
 abbrev pub stage_of : Standing → Stage
@@ -29,15 +29,16 @@ stage_of (running own state) = started
 
 -- what one line prints
 abbrev pub printed : Standing → ScriptLine → List ℕ
-printed (running own state) (happens o) = actions_text (actions_at state (event_of own o))
+printed (running own state) (happens o) =
+    actions_text (state_after state (event_of own o)).plain.fetches.list (actions_at state (event_of own o))
 printed (running own state) (refuses fault) = refuse_text fault
-printed (running own state) asks = stats_text state.stats
+printed (running own state) inquires = stats_text state.stats
 printed _ _ = []
 
 -- what is known after one line
 abbrev pub next : Standing → ScriptLine → Standing
 next (preparing s) (sets x) = preparing (set_by s x)
-next (preparing s) goes = running s.icp (opening s)
+next (preparing s) goes = running s.settings.icp (opening s)
 next (running own state) (happens o) = running own (state_after state (event_of own o))
 next standing _ = standing
 

@@ -1,25 +1,29 @@
 -- The engine's items, seen as lines of a script.
 -- These words serve the contracts of private functions.
 use Rattle.std.specs.Prelude.{◌≤◌, length}
-use Rattle.std.specs.Option.{option_map}
-use Rattle.std.specs.Arc.{arc_value}
+use Rattle.node_core.specs.Happening.{happening}
 use Rattle.feed_script.specs.declared.item.Item.{Item}
-use Rattle.feed_script.specs.declared.item.Item.TheVariants.{Own, Allow, Go, Receive, Change, Refuse, Query, Blank, Wrong}
-use Rattle.feed_script.specs.ScriptLine.{ScriptLine, owns, allows, receives, changes, sets, goes, happens, refuses, asks, blank, wrong}
+use Rattle.feed_script.specs.declared.item.Item.TheVariants as item
+use Rattle.feed_script.specs.ScriptLine.{ScriptLine, owns, allows, denies_fetches, uses_origins, limits, has_key, has_neighbour, receives, takes, sets, goes, happens, refuses, inquires, blank, wrong}
 
 -- the line that an item was made of
 abbrev pub script_line_of : Item → ScriptLine
-script_line_of (Own addr) = sets (owns addr)
-script_line_of (Allow network) = sets (allows network)
-script_line_of Go = goes
-script_line_of (Receive from payload now) = happens (receives from payload.items now)
-script_line_of (Change program) = happens (changes (option_map (λ arc. arc_value arc) program))
-script_line_of (Refuse fault) = refuses fault
-script_line_of Query = asks
-script_line_of Blank = blank
-script_line_of Wrong = wrong
+script_line_of (item.Own addr) = sets (owns addr)
+script_line_of (item.Allow network) = sets (allows network)
+script_line_of (item.NoFetch on) = sets (denies_fetches on)
+script_line_of (item.Origin on) = sets (uses_origins on)
+script_line_of (item.Limits entries octets) = sets (limits entries octets)
+script_line_of (item.AddKey key) = sets (has_key key)
+script_line_of (item.AddNeighbour neighbour) = sets (has_neighbour neighbour)
+script_line_of item.Go = goes
+script_line_of (item.Receive from payload now) = happens (receives from payload.items now)
+script_line_of (item.Take event) = happens (takes (happening event))
+script_line_of (item.Refuse fault) = refuses fault
+script_line_of item.Ask = inquires
+script_line_of item.Blank = blank
+script_line_of item.Wrong = wrong
 
 -- a datagram of an item isn't too long
 abbrev pub IsShort : Item → Type 0
-IsShort (Receive from payload now) = length payload.items ≤ 65507
+IsShort (item.Receive from payload now) = length payload.items ≤ 65507
 IsShort _ = Unit {0}

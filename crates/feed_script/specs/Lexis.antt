@@ -1,6 +1,6 @@
--- The words of a line: numbers, addresses, ends, networks, octets and programs.
+-- The words of a line: numbers, addresses, ends, networks, octets, programs, keys and choices.
 -- 32 is a space, 44 a comma, 46 a dot, 47 a slash, 58 a colon, 59 a semicolon.
-use Rattle.std.specs.Prelude.{ℕ, ◌+◌, ◌-◌, ◌*◌, List, [], ◌∷◌, length, Bool, false, ◌&&◌, nat_le, Option, Some, None, codes, ◌==◌, if◌then◌else◌}
+use Rattle.std.specs.Prelude.{ℕ, ◌+◌, ◌-◌, ◌*◌, List, [], ◌∷◌, length, take, Bool, true, false, ◌&&◌, nat_le, nat_lt, Option, Some, None, codes, ◌==◌, if◌then◌else◌}
 use Rattle.std.specs.Result.{result_ok}
 use Rattle.std.specs.Char.{is_ascii_digit}
 use Rattle.std.specs.List.{list_all, slice_split}
@@ -8,7 +8,12 @@ use Rattle.std.specs.Str.{bytes_eq}
 use Rattle.hex.specs.Hex.{decode_of}
 use Rattle.bpf_check.specs.declared.insn.Insn.{Insn}
 use Rattle.bpf_run.specs.declared.ends.End.{End}
+use Rattle.neighbours.specs.declared.neighbour.Role.{Role}
+use Rattle.neighbours.specs.declared.neighbour.Role.TheVariants.{Sibling, Parent}
 use Rattle.node_core.specs.declared.config.Network.{Network}
+use Rattle.node_core.specs.declared.event.Mode.{Mode}
+use Rattle.node_core.specs.declared.event.Mode.TheVariants.{Shared, Cached, Private}
+use Rattle.object_store.specs.Object.{ObjectFields, object_of}
 
 -- the number that n and then these digits spell
 abbrev pub value_after : ℕ → List ℕ → ℕ
@@ -100,3 +105,50 @@ insns_of (part ∷ parts) = onto (insn part) (insns_of parts)
 -- a program: instructions with semicolons between them
 abbrev pub program : List ℕ → Option (List Insn)
 program text = insns_of (slice_split (λ c. c == 59) text)
+
+-- `on` or `off`
+abbrev pub switch : List ℕ → Option Bool
+switch text = if bytes_eq text (codes "on") then Some true else if bytes_eq text (codes "off") then Some false else None
+
+-- `sibling` or `parent`
+abbrev pub role : List ℕ → Option Role
+role text = if bytes_eq text (codes "sibling") then Some Sibling else if bytes_eq text (codes "parent") then Some Parent else None
+
+-- `shared`, `cached` or `private`
+abbrev pub mode : List ℕ → Option Mode
+mode text =
+    if bytes_eq text (codes "shared") then Some Shared
+    else if bytes_eq text (codes "cached") then Some Cached
+    else if bytes_eq text (codes "private") then Some Private
+    else None
+
+-- the name of a key, and none for `-`
+abbrev pub name : List ℕ → Option (List ℕ)
+name text = if bytes_eq text (codes "-") then None else Some text
+
+-- whether an octet is visible ASCII
+abbrev pub is_visible : ℕ → Bool
+is_visible c = nat_le 33 c && nat_le c 126
+
+-- a key of the store: at most 8,192 octets of visible ASCII that begin with `http://`
+abbrev pub key : List ℕ → Option (List ℕ)
+key text =
+    if nat_le (length text) 8192 && (bytes_eq (take 7 text) (codes "http://") && list_all is_visible text) then Some text else None
+
+-- a number that is 100 or more, if it is there
+abbrev pub from_hundred : Option ℕ → Option ℕ
+from_hundred (Some n) = if nat_lt n 100 then None else Some n
+from_hundred None = None
+
+-- a status, 100 to 999
+abbrev pub status : List ℕ → Option ℕ
+status text = from_hundred (number 999 text)
+
+-- an object with an empty head, if all its parts are there
+abbrev pub object_with : Option ℕ → Option ℕ → Option ℕ → Option (List ℕ) → Option ObjectFields
+object_with (Some life) (Some age) (Some code) (Some body) = Some (object_of code [] body age life)
+object_with _ _ _ _ = None
+
+-- an object: its life and its age in seconds, its status and its octets
+abbrev pub object : List ℕ → List ℕ → List ℕ → List ℕ → Option ObjectFields
+object life age code body = object_with (number 4294967295 life) (number 4294967295 age) (status code) (octets body)

@@ -1,5 +1,5 @@
 -- What is printed.
-use Rattle.std.specs.Prelude.{ℕ, List, ◌++◌, length, slice_index, codes, decimal, ◌==◌, if◌then◌else◌}
+use Rattle.std.specs.Prelude.{ℕ, List, [], ◌++◌, length, slice_index, codes, decimal, ◌==◌, if◌then◌else◌, Bool, Option, Some, None, option_map, unwrap_or}
 use Rattle.std.specs.List.{flat_map}
 use Rattle.hex.specs.Hex.{encode_lower}
 use Rattle.bpf_check.specs.declared.checked.CheckFault.{CheckFault}
@@ -8,7 +8,12 @@ use Rattle.bpf_run.specs.declared.ends.End.{End}
 use Rattle.bpf_run.specs.declared.ends.Socket.{Socket}
 use Rattle.bpf_run.specs.declared.ends.Socket.TheVariants.{Icp}
 use Rattle.node_core.specs.declared.action.Action.{Action}
-use Rattle.node_core.specs.declared.action.Action.TheVariants.{Send}
+use Rattle.node_core.specs.declared.action.Action.TheVariants.{Send, Fetch, Serve}
+use Rattle.node_core.specs.declared.action.Answer.{Answer}
+use Rattle.node_core.specs.declared.action.Answer.TheVariants.{Hit, Got, Fail}
+use Rattle.peer_select.specs.declared.reply.Source.{Source}
+use Rattle.peer_select.specs.declared.reply.Source.TheVariants.{Peer, Origin}
+use Rattle.pending_fetch.specs.Fetches.{PendingFetch, fetch_of}
 use Rattle.node_core.specs.declared.stats.Counters.{Counters}
 use Rattle.node_core.specs.declared.stats.Stats.{Stats}
 
@@ -30,14 +35,42 @@ end_text end = address_text end.addr ++ codes ":" ++ decimal end.port
 abbrev pub socket_text : Socket → List ℕ
 socket_text Icp = codes "icp"
 
--- the line of an action
-abbrev pub action_text : Action → List ℕ
-action_text (Send socket to payload) =
+-- a source: a neighbour's place, or the origin
+abbrev pub source_text : Source → List ℕ
+source_text (Peer n) = codes "peer " ++ decimal n
+source_text Origin = codes "origin"
+
+-- whether only what is stored may be fetched
+abbrev pub cached_text : Bool → List ℕ
+cached_text on = if on then codes "cached" else codes "plain"
+
+-- the client that owns a fetch, `-` for none
+abbrev pub owner_text : Option ℕ → List ℕ
+owner_text None = codes "-"
+owner_text (Some client) = decimal client
+
+-- the key of the fetch of this number
+abbrev pub key_text : List PendingFetch → ℕ → List ℕ
+key_text pending number = unwrap_or (option_map (λ (fetch : PendingFetch). fetch.key) (fetch_of number pending)) []
+
+-- what a client is told
+abbrev pub answer_text : Answer → List ℕ
+answer_text (Hit object age) = codes "hit " ++ decimal object.status ++ codes " " ++ decimal age ++ codes " " ++ octets_text object.body
+answer_text (Got object) = codes "got " ++ decimal object.status ++ codes " " ++ octets_text object.body
+answer_text (Fail status) = codes "fail " ++ decimal status
+
+-- the line of an action, where these fetches are pending
+abbrev pub action_text : List PendingFetch → Action → List ℕ
+action_text pending (Send socket to payload) =
     codes "send " ++ socket_text socket ++ codes " " ++ end_text to ++ codes " " ++ octets_text payload ++ codes "\n"
+action_text pending (Fetch number attempt source only_if_cached owner) =
+    codes "fetch " ++ decimal number ++ codes " " ++ decimal attempt ++ codes " " ++ source_text source ++ codes " "
+    ++ cached_text only_if_cached ++ codes " " ++ owner_text owner ++ codes " " ++ key_text pending number ++ codes "\n"
+action_text pending (Serve client answer) = codes "serve " ++ decimal client ++ codes " " ++ answer_text answer ++ codes "\n"
 
 -- the actions of one event, one a line, and then a full stop
-abbrev pub actions_text : List Action → List ℕ
-actions_text actions = flat_map action_text actions ++ codes ".\n"
+abbrev pub actions_text : List PendingFetch → List Action → List ℕ
+actions_text pending actions = flat_map (action_text pending) actions ++ codes ".\n"
 
 -- a fault's number, and its place or `-`
 abbrev pub fault_words : CheckFault → List ℕ

@@ -1,36 +1,52 @@
 -- The text that a script is answered with, and its first wrong line.
-use Rattle.std.specs.Prelude.{ℕ, ◌+◌, Bool, true, false, not, List, [], ◌∷◌, ◌++◌, Option, Some, None, if◌then◌else◌}
+use Rattle.std.specs.Prelude.{ℕ, ◌+◌, Bool, true, false, is_some, List, [], ◌∷◌, ◌++◌, Option, Some, None, if◌then◌else◌}
 use Rattle.bpf_run.specs.declared.ends.End.{End}
 use Rattle.bpf_run.specs.declared.ends.Socket.TheVariants.{Icp}
+use Rattle.pending_fetch.specs.Fetches.{PendingFetch}
 use Rattle.node_core.specs.declared.action.Action.{Action}
-use Rattle.node_core.specs.Settings.{Settings, are_fit}
-use Rattle.node_core.specs.Happening.{Happening, arrives, swaps}
-use Rattle.node_core.specs.Run.{answers}
+use Rattle.node_core.specs.Settings.{Settings, Setup, setup_fault}
+use Rattle.node_core.specs.Happening.{Happening, arrives}
+use Rattle.node_core.specs.Kept.{kept}
+use Rattle.node_core.specs.Run.{run_node, answers}
 use Rattle.node_core.specs.Counters.{counted}
 use Rattle.node_core.specs.State.{State, opening}
-use Rattle.feed_script.specs.ScriptLine.{Setting, owns, allows, Occurrence, receives, changes, ScriptLine, sets, goes, happens, refuses, asks, blank, wrong, script_of}
+use Rattle.feed_script.specs.ScriptLine.{Setting, owns, allows, denies_fetches, uses_origins, limits, has_key, has_neighbour, Occurrence, receives, takes, ScriptLine, sets, goes, happens, refuses, inquires, blank, wrong, script_of}
 use Rattle.feed_script.specs.Printed.{actions_text, refuse_text, stats_text}
 
--- the settings of a script that sets nothing: 10.0.0.1, ports 3130 and 4827, and no network
-abbrev pub usual : Settings
+-- the settings of a script that sets nothing: 10.0.0.1, ports 3130 and 4827, no network, MISS, fetches from origins, 1,000
+-- entries, 1,048,576 octets, no neighbour and no key
+abbrev pub usual : Setup
 usual = record {
-  icp = record { addr = 10 ∷ 0 ∷ 0 ∷ 1 ∷ []; port = 3130 };
-  htcp = record { addr = 10 ∷ 0 ∷ 0 ∷ 1 ∷ []; port = 4827 };
-  allowed = [];
+  settings = record {
+    icp = record { addr = 10 ∷ 0 ∷ 0 ∷ 1 ∷ []; port = 3130 };
+    htcp = record { addr = 10 ∷ 0 ∷ 0 ∷ 1 ∷ []; port = 4827 };
+    allowed = [];
+    miss_nofetch = false;
+    origin = true;
+  };
+  entries = 1000;
+  octets = 1048576;
+  neighbours = [];
+  keys = [];
 }
 
--- an own address replaces the one before, a network is added
-abbrev pub set_by : Settings → Setting → Settings
-set_by s (owns addr) = record {
-  icp = record { addr = addr; port = s.icp.port };
-  htcp = record { addr = addr; port = s.htcp.port };
-  allowed = s.allowed;
-}
-set_by s (allows network) = record { icp = s.icp; htcp = s.htcp; allowed = s.allowed ++ network ∷ [] }
+-- both own ends with this address
+abbrev pub with_address : List ℕ → Settings → Settings
+with_address addr s = record s { icp = record s.icp { addr = addr }; htcp = record s.htcp { addr = addr } }
+
+-- a network, a key or a neighbour is added, and any other setting replaces the one before
+abbrev pub set_by : Setup → Setting → Setup
+set_by s (owns addr) = record s { settings = with_address addr s.settings }
+set_by s (allows network) = record s { settings = record s.settings { allowed = s.settings.allowed ++ network ∷ [] } }
+set_by s (denies_fetches on) = record s { settings = record s.settings { miss_nofetch = on } }
+set_by s (uses_origins on) = record s { settings = record s.settings { origin = on } }
+set_by s (limits entries octets) = record s { entries = entries; octets = octets }
+set_by s (has_key key) = record s { keys = s.keys ++ key ∷ [] }
+set_by s (has_neighbour neighbour) = record s { neighbours = s.neighbours ++ neighbour ∷ [] }
 
 -- before the start a script has settings
 pub data Stage : Type 0 where
-  setting : Settings → Stage
+  setting : Setup → Stage
   started : Stage
 
 -- the stage after a line
@@ -43,7 +59,7 @@ stage_after stage _ = stage
 -- after it there are only the others.
 abbrev pub is_misplaced : Stage → ScriptLine → Bool
 is_misplaced (setting s) (sets x) = false
-is_misplaced (setting s) goes = not (are_fit s)
+is_misplaced (setting s) goes = is_some (setup_fault s)
 is_misplaced (setting s) blank = false
 is_misplaced (setting s) _ = true
 is_misplaced started (sets x) = true
@@ -62,7 +78,7 @@ well_placed stage [] = []
 well_placed stage (l ∷ ls) = if is_misplaced stage l then [] else l ∷ well_placed (stage_after stage l) ls
 
 -- the settings that the lines before the start make of these
-abbrev pub settings_from : Settings → List ScriptLine → Settings
+abbrev pub settings_from : Setup → List ScriptLine → Setup
 settings_from s [] = s
 settings_from s (goes ∷ ls) = s
 settings_from s (sets x ∷ ls) = settings_from (set_by s x) ls
@@ -77,7 +93,7 @@ after_go (_ ∷ ls) = after_go ls
 -- the event that a line tells of: a datagram comes to the own end
 abbrev pub event_of : End → Occurrence → Happening
 event_of own (receives from payload now) = arrives (record { socket = Icp; from = from; to = own; payload = payload }) now
-event_of own (changes program) = swaps Icp program
+event_of own (takes event) = event
 
 -- all events, in order
 abbrev pub events_of : End → List ScriptLine → List Happening
@@ -85,18 +101,25 @@ events_of own [] = []
 events_of own (happens o ∷ ls) = event_of own o ∷ events_of own ls
 events_of own (_ ∷ ls) = events_of own ls
 
--- the answers to all events, printed, with the refused programs and the counters over the events before at their places
+-- the fetches that are pending after the events
+abbrev pub pending_after : State → List Happening → List PendingFetch
+pending_after start events = (run_node start.plain (kept start.filters events)).fetches.list
+
+-- the answers to all events, printed, each with the keys of the fetches that are pending after its event, and with the refused
+-- programs and the counters over the events before at their places
 abbrev pub woven : State → End → List Happening → List ScriptLine → List (List Action) → List ℕ
 woven start own past [] answered = []
 woven start own past (happens o ∷ ls) [] = []
-woven start own past (happens o ∷ ls) (a ∷ answered) = actions_text a ++ woven start own (past ++ event_of own o ∷ []) ls answered
+woven start own past (happens o ∷ ls) (a ∷ answered) =
+    actions_text (pending_after start (past ++ event_of own o ∷ [])) a ++ woven start own (past ++ event_of own o ∷ []) ls answered
 woven start own past (refuses fault ∷ ls) answered = refuse_text fault ++ woven start own past ls answered
-woven start own past (asks ∷ ls) answered = stats_text (counted start.stats start.filters past) ++ woven start own past ls answered
+woven start own past (inquires ∷ ls) answered = stats_text (counted start.stats start.filters past) ++ woven start own past ls answered
 woven start own past (_ ∷ ls) answered = woven start own past ls answered
 
 -- the text of the lines after the start: all events are gathered first
-abbrev pub run_text : Settings → List ScriptLine → List ℕ
-run_text s ls = woven (opening s) s.icp [] ls (answers (opening s).plain (opening s).filters (events_of s.icp ls))
+abbrev pub run_text : Setup → List ScriptLine → List ℕ
+run_text s ls =
+    woven (opening s) s.settings.icp [] ls (answers (opening s).plain (opening s).filters (events_of s.settings.icp ls))
 
 -- the text of lines that are all in place
 abbrev pub text_of_lines : List ScriptLine → List ℕ

@@ -1,24 +1,38 @@
 -- What one line of a script says.
-use Rattle.std.specs.Prelude.{ℕ, List, [], ◌∷◌, length, map, slice_index, Option, Some, None, codes, nat_lt, ◌==◌, if◌then◌else◌}
+use Rattle.std.specs.Prelude.{ℕ, List, [], ◌∷◌, length, map, slice_index, Bool, Option, Some, None, codes, nat_lt, ◌==◌, if◌then◌else◌}
 use Rattle.std.specs.List.{slice_split}
 use Rattle.std.specs.Str.{bytes_eq}
 use Rattle.std.specs.Str.Lines.{lines}
 use Rattle.bpf_check.specs.declared.insn.Insn.{Insn}
 use Rattle.bpf_check.specs.declared.checked.CheckFault.{CheckFault}
-use Rattle.bpf_run.specs.declared.ends.End.{End}
-use Rattle.node_core.specs.declared.config.Network.{Network}
-use Rattle.feed_script.specs.Lexis.{number, address, end_at, network, octets, program}
 use Rattle.bpf_check.specs.Refusal.{refusal}
+use Rattle.bpf_run.specs.declared.ends.End.{End}
+use Rattle.bpf_run.specs.declared.ends.Socket.TheVariants.{Icp}
+use Rattle.neighbours.specs.declared.key.Key.{Key}
+use Rattle.neighbours.specs.declared.neighbour.Neighbour.{Neighbour}
+use Rattle.neighbours.specs.declared.neighbour.Role.{Role}
+use Rattle.object_store.specs.Object.{ObjectFields}
+use Rattle.node_core.specs.declared.config.Network.{Network}
+use Rattle.node_core.specs.declared.event.Mode.{Mode}
+use Rattle.node_core.specs.declared.event.Outcome.TheVariants.{Object, Failed}
+use Rattle.node_core.specs.Happening.{Happening, asks, ticks, ends, leaves, swaps}
+use Rattle.feed_script.specs.Lexis.{number, address, end_at, network, octets, program, switch, role, mode, name, key, object}
 
--- the own address, or one more network whose queries are answered
+-- the own address; one more network whose queries are answered; whether MISS_NOFETCH is answered in place of MISS; whether the
+-- node fetches from origins; the most entries and octets of the store; one more signing key; or one more neighbour
 pub data Setting : Type 0 where
   owns : (addr : List ℕ) → Setting
   allows : (network : Network) → Setting
+  denies_fetches : (on : Bool) → Setting
+  uses_origins : (on : Bool) → Setting
+  limits : (entries octets : ℕ) → Setting
+  has_key : (key : Key) → Setting
+  has_neighbour : (neighbour : Neighbour) → Setting
 
--- a datagram comes to the ICP socket, or its program is replaced or taken out
+-- a datagram comes to the ICP socket, or an event that the line tells whole
 pub data Occurrence : Type 0 where
   receives : (from : End) (payload : List ℕ) (now : ℕ) → Occurrence
-  changes : (program : Option (List Insn)) → Occurrence
+  takes : (event : Happening) → Occurrence
 
 -- a setting, the start, an event, a program that is refused, a question for the counters, nothing, or no line of the format
 pub data ScriptLine : Type 0 where
@@ -26,13 +40,13 @@ pub data ScriptLine : Type 0 where
   goes : ScriptLine
   happens : Occurrence → ScriptLine
   refuses : CheckFault → ScriptLine
-  asks : ScriptLine
+  inquires : ScriptLine
   blank : ScriptLine
   wrong : ScriptLine
 
 -- `go`, `?`
 abbrev pub one_word : List ℕ → ScriptLine
-one_word word = if bytes_eq word (codes "go") then goes else if bytes_eq word (codes "?") then asks else wrong
+one_word word = if bytes_eq word (codes "go") then goes else if bytes_eq word (codes "?") then inquires else wrong
 
 -- `own <address>`
 abbrev pub own_line : Option (List ℕ) → ScriptLine
@@ -44,15 +58,40 @@ abbrev pub allow_line : Option Network → ScriptLine
 allow_line None = wrong
 allow_line (Some net) = sets (allows net)
 
+-- `nofetch on`, `nofetch off`
+abbrev pub nofetch_line : Option Bool → ScriptLine
+nofetch_line None = wrong
+nofetch_line (Some on) = sets (denies_fetches on)
+
+-- `origin on`, `origin off`
+abbrev pub origin_line : Option Bool → ScriptLine
+origin_line None = wrong
+origin_line (Some on) = sets (uses_origins on)
+
+-- `t <now>`
+abbrev pub timer_line : Option ℕ → ScriptLine
+timer_line None = wrong
+timer_line (Some now) = happens (takes (ticks now))
+
+-- `g <client>`
+abbrev pub gone_line : Option ℕ → ScriptLine
+gone_line None = wrong
+gone_line (Some client) = happens (takes (leaves client))
+
+-- a moment is at most 4,294,967,295,999, and a client is a number of 64 bits
 abbrev pub two_words : List ℕ → List ℕ → ScriptLine
 two_words word a =
     if bytes_eq word (codes "own") then own_line (address a)
     else if bytes_eq word (codes "allow") then allow_line (network a)
+    else if bytes_eq word (codes "nofetch") then nofetch_line (switch a)
+    else if bytes_eq word (codes "origin") then origin_line (switch a)
+    else if bytes_eq word (codes "t") then timer_line (number 4294967295999 a)
+    else if bytes_eq word (codes "g") then gone_line (number 18446744073709551615 a)
     else wrong
 
 -- a program with its first fault, if it has one
 abbrev pub judged_line : List Insn → Option CheckFault → ScriptLine
-judged_line insns None = happens (changes (Some insns))
+judged_line insns None = happens (takes (swaps Icp (Some insns)))
 judged_line insns (Some fault) = refuses fault
 
 abbrev pub program_line : Option (List Insn) → ScriptLine
@@ -60,23 +99,84 @@ program_line None = wrong
 program_line (Some insns) = judged_line insns (refusal insns)
 
 -- `s icp off`, `s icp <program>`
-abbrev pub swap_line : List ℕ → ScriptLine
-swap_line a = if bytes_eq a (codes "off") then happens (changes None) else program_line (program a)
+abbrev pub swap_line : List ℕ → List ℕ → ScriptLine
+swap_line socket a =
+    if bytes_eq socket (codes "icp")
+    then (if bytes_eq a (codes "off") then happens (takes (swaps Icp None)) else program_line (program a))
+    else wrong
 
+-- `limits <entries> <octets>`
+abbrev pub limits_line : Option ℕ → Option ℕ → ScriptLine
+limits_line (Some entries) (Some octets) = sets (limits entries octets)
+limits_line _ _ = wrong
+
+-- `key <name> <octets>`, the name as it stands
+abbrev pub key_line : List ℕ → Option (List ℕ) → ScriptLine
+key_line text (Some secret) = sets (has_key (record { name = text; secret = secret }))
+key_line text None = wrong
+
+-- each number of `limits` is at most 4,294,967,295
 abbrev pub three_words : List ℕ → List ℕ → List ℕ → ScriptLine
-three_words word socket a =
-    if bytes_eq word (codes "s") then (if bytes_eq socket (codes "icp") then swap_line a else wrong) else wrong
+three_words word a b =
+    if bytes_eq word (codes "s") then swap_line a b
+    else if bytes_eq word (codes "limits") then limits_line (number 4294967295 a) (number 4294967295 b)
+    else if bytes_eq word (codes "key") then key_line a (octets b)
+    else wrong
+
+-- `x <fetch> <attempt> <now>`
+abbrev pub failed_line : Option ℕ → Option ℕ → Option ℕ → ScriptLine
+failed_line (Some fetch) (Some attempt) (Some now) = happens (takes (ends fetch attempt Failed now))
+failed_line _ _ _ = wrong
+
+-- a fetch is a number of 32 bits, an attempt of 16
+abbrev pub four_words : List ℕ → List ℕ → List ℕ → List ℕ → ScriptLine
+four_words word a b c =
+    if bytes_eq word (codes "x") then failed_line (number 4294967295 a) (number 65535 b) (number 4294967295999 c) else wrong
 
 -- a datagram has at most 65,507 octets
 abbrev pub datagram_line : Option End → Option (List ℕ) → Option ℕ → ScriptLine
 datagram_line (Some from) (Some payload) (Some now) = if nat_lt 65507 (length payload) then wrong else happens (receives from payload now)
 datagram_line _ _ _ = wrong
 
--- `d icp <from> <octets> <now>`, the moment at most 4,294,967,295,999
+-- `d icp <from> <octets> <now>`
+abbrev pub socket_line : List ℕ → List ℕ → List ℕ → List ℕ → ScriptLine
+socket_line socket a b c =
+    if bytes_eq socket (codes "icp") then datagram_line (end_at a) (octets b) (number 4294967295999 c) else wrong
+
+-- `r <client> shared|cached|private <key> <now>`
+abbrev pub request_line : Option ℕ → Option Mode → Option (List ℕ) → Option ℕ → ScriptLine
+request_line (Some client) (Some how) (Some url) (Some now) = happens (takes (asks client url how now))
+request_line _ _ _ _ = wrong
+
 abbrev pub five_words : List ℕ → List ℕ → List ℕ → List ℕ → List ℕ → ScriptLine
-five_words word socket a b c =
-    if bytes_eq word (codes "d")
-    then (if bytes_eq socket (codes "icp") then datagram_line (end_at a) (octets b) (number 4294967295999 c) else wrong)
+five_words word a b c d =
+    if bytes_eq word (codes "d") then socket_line a b c d
+    else if bytes_eq word (codes "r") then request_line (number 18446744073709551615 a) (mode b) (key c) (number 4294967295999 d)
+    else wrong
+
+-- a neighbour that is asked by ICP
+abbrev pub neighbour_line : Option Role → Option End → Option ℕ → Option ℕ → Option (List ℕ) → ScriptLine
+neighbour_line (Some kind) (Some end) (Some port) (Some weight) signer =
+    sets (has_neighbour (record { kind = kind; protocol = Icp; end = end; http_port = port; weight = weight; key = signer }))
+neighbour_line _ _ _ _ _ = wrong
+
+-- `peer sibling|parent icp <end> <http port> <weight> <key name or ->`, the weight at most 4,294,967,295
+abbrev pub seven_words : List ℕ → List ℕ → List ℕ → List ℕ → List ℕ → List ℕ → List ℕ → ScriptLine
+seven_words word a protocol b c d e =
+    if bytes_eq word (codes "peer")
+    then (if bytes_eq protocol (codes "icp") then neighbour_line (role a) (end_at b) (number 65535 c) (number 4294967295 d) (name e) else wrong)
+    else wrong
+
+-- an object came of an attempt of a fetch
+abbrev pub object_line : Option ℕ → Option ℕ → Option ObjectFields → Option ℕ → ScriptLine
+object_line (Some fetch) (Some attempt) (Some found) (Some now) = happens (takes (ends fetch attempt (Object found) now))
+object_line _ _ _ _ = wrong
+
+-- `f <fetch> <attempt> <life> <age> <status> <octets> <now>`
+abbrev pub eight_words : List ℕ → List ℕ → List ℕ → List ℕ → List ℕ → List ℕ → List ℕ → List ℕ → ScriptLine
+eight_words word a b c d e f g =
+    if bytes_eq word (codes "f")
+    then object_line (number 4294967295 a) (number 65535 b) (object c d e f) (number 4294967295999 g)
     else wrong
 
 -- the line of its words
@@ -84,7 +184,10 @@ abbrev pub line_of_fields : List (List ℕ) → ScriptLine
 line_of_fields (word ∷ []) = one_word word
 line_of_fields (word ∷ a ∷ []) = two_words word a
 line_of_fields (word ∷ a ∷ b ∷ []) = three_words word a b
+line_of_fields (word ∷ a ∷ b ∷ c ∷ []) = four_words word a b c
 line_of_fields (word ∷ a ∷ b ∷ c ∷ d ∷ []) = five_words word a b c d
+line_of_fields (word ∷ a ∷ b ∷ c ∷ d ∷ e ∷ f ∷ []) = seven_words word a b c d e f
+line_of_fields (word ∷ a ∷ b ∷ c ∷ d ∷ e ∷ f ∷ g ∷ []) = eight_words word a b c d e f g
 line_of_fields _ = wrong
 
 -- what a line without its line break says: over 262,144 octets it is wrong, an empty one and one that begins with `#` say

@@ -1,40 +1,46 @@
 //! What one line of a script says.
-ghost use Rattle.std.specs.Prelude.{◌≡◌, IfOk, Some, map};
-ghost use Rattle.feed_script.specs.Lexis.{number, octets, end_at};
+ghost use Rattle.std.specs.Prelude.{◌≡◌, IfOk, map};
 ghost use Rattle.feed_script.specs.Item.{script_line_of, IsShort};
-ghost use Rattle.feed_script.specs.ScriptLine.{script_line, one_word, two_words, three_words, five_words, datagram_line, swap_line, program_line, line_of_fields};
+ghost use Rattle.feed_script.specs.ScriptLine.{script_line, one_word, two_words, three_words, four_words, five_words, seven_words, eight_words, socket_line, line_of_fields};
 
-use super::lexis::{number, octets, parts_of, read_address, read_end, read_network};
-use super::program::{judged, read_program};
-use bpf_check::{CheckFault, Checked, Insn};
+use super::happening::{
+    datagram_item, failed_item, gone_item, object_item, request_item, swap_item, timer_item,
+};
+use super::lexis::parts_of;
+use super::settings::{
+    allow_item, key_item, limits_item, neighbour_item, nofetch_item, origin_item, own_item,
+};
+use bpf_check::CheckFault;
 use filter_slots::{End, Moment};
-use node_core::Network;
+use neighbours::{Key, Neighbour};
+use node_core::{Event, Network};
 use std::alloc::{AllocError, Global};
-use std::sync::Arc;
 
 /// The most octets of a line, without its line break.
 pub(crate) const LINE_LIMIT: usize = 262_144;
-
-/// The most octets of a datagram.
-const DATAGRAM_LIMIT: usize = 65_507;
-
-/// The last moment, in milliseconds.
-const LAST_MOMENT: u64 = 4_294_967_295_999;
 
 /// What one line says.
 #[derive(Drop)]
 pub(crate) enum Item {
     Own([u8; 4]),
     Allow(Network),
+    NoFetch(bool),
+    Origin(bool),
+    Limits {
+        entries: u32,
+        octets: u32,
+    },
+    AddKey(Key),
+    AddNeighbour(Neighbour),
     Go,
     Receive {
         from: End,
         payload: Vec<u8>,
         now: Moment,
     },
-    Change(Option<Arc<Checked>>),
+    Take(Event),
     Refuse(CheckFault),
-    Query,
+    Ask,
     Blank,
     Wrong,
 }
@@ -46,7 +52,7 @@ fn one_word(word: &[u8]) -> Item
     if word == b"go".as_slice() {
         Item::Go
     } else if word == b"?".as_slice() {
-        Item::Query
+        Item::Ask
     } else {
         Item::Wrong
     }
@@ -57,88 +63,121 @@ fn two_words(alloc: Global, word: &[u8], a: &[u8]) -> Result<Item, AllocError>
     ensures short { IfOk result (λ item. IsShort item) }
 {
     if word == b"own".as_slice() {
-        return match read_address(alloc, a)? {
-            Some(addr) => Ok(Item::Own(addr)),
-            None => Ok(Item::Wrong),
-        };
-    }
-    if word == b"allow".as_slice() {
-        return match read_network(alloc, a)? {
-            Some(network) => Ok(Item::Allow(network)),
-            None => Ok(Item::Wrong),
-        };
-    }
-    Ok(Item::Wrong)
-}
-
-// A program that is put into the slot, or refused.
-fn program_item(alloc: Global, insns: Vec<Insn>) -> Result<Item, AllocError>
-    ensures line { IfOk result (λ item. script_line_of item ≡ program_line (Some insns.items)) }
-    ensures short { IfOk result (λ item. IsShort item) }
-{
-    match judged(insns) {
-        Ok(checked) => Ok(Item::Change(Some(Arc::new(alloc, checked)?))),
-        Err(fault) => Ok(Item::Refuse(fault)),
-    }
-}
-
-fn swap_item(alloc: Global, a: &[u8]) -> Result<Item, AllocError>
-    ensures line { IfOk result (λ item. script_line_of item ≡ swap_line a.now) }
-    ensures short { IfOk result (λ item. IsShort item) }
-{
-    if a == b"off".as_slice() {
-        return Ok(Item::Change(None));
-    }
-    match read_program(alloc, a)? {
-        Some(insns) => program_item(alloc, insns),
-        None => Ok(Item::Wrong),
-    }
-}
-
-fn three_words(alloc: Global, word: &[u8], socket: &[u8], a: &[u8]) -> Result<Item, AllocError>
-    ensures line { IfOk result (λ item. script_line_of item ≡ three_words word.now socket.now a.now) }
-    ensures short { IfOk result (λ item. IsShort item) }
-{
-    if word == b"s".as_slice() && socket == b"icp".as_slice() {
-        swap_item(alloc, a)
+        own_item(alloc, a)
+    } else if word == b"allow".as_slice() {
+        allow_item(alloc, a)
+    } else if word == b"nofetch".as_slice() {
+        Ok(nofetch_item(a))
+    } else if word == b"origin".as_slice() {
+        Ok(origin_item(a))
+    } else if word == b"t".as_slice() {
+        Ok(timer_item(a))
+    } else if word == b"g".as_slice() {
+        Ok(gone_item(a))
     } else {
         Ok(Item::Wrong)
     }
 }
 
-fn moment(text: &[u8]) -> Option<Moment>
-    ensures { result ≡ number 4294967295999 text.now }
-{
-    Moment::new(number(text, LAST_MOMENT)?)
-}
-
-fn datagram_item(alloc: Global, a: &[u8], b: &[u8], c: &[u8]) -> Result<Item, AllocError>
-    ensures line { IfOk result (λ item. script_line_of item ≡ datagram_line (end_at a.now) (octets b.now) (number 4294967295999 c.now)) }
+fn three_words(alloc: Global, word: &[u8], a: &[u8], b: &[u8]) -> Result<Item, AllocError>
+    ensures line { IfOk result (λ item. script_line_of item ≡ three_words word.now a.now b.now) }
     ensures short { IfOk result (λ item. IsShort item) }
 {
-    let (Some(from), Some(payload), Some(now)) = (read_end(alloc, a)?, octets(alloc, b)?, moment(c))
-    else {
-        return Ok(Item::Wrong);
-    };
-    if payload.len() > DATAGRAM_LIMIT {
-        return Ok(Item::Wrong);
+    if word == b"s".as_slice() {
+        swap_item(alloc, a, b)
+    } else if word == b"limits".as_slice() {
+        Ok(limits_item(a, b))
+    } else if word == b"key".as_slice() {
+        key_item(alloc, a, b)
+    } else {
+        Ok(Item::Wrong)
     }
-    Ok(Item::Receive { from, payload, now })
 }
 
-fn five_words(
+fn four_words(word: &[u8], a: &[u8], b: &[u8], c: &[u8]) -> Item
+    ensures line { script_line_of result ≡ four_words word.now a.now b.now c.now }
+    ensures short { IsShort result }
+{
+    if word == b"x".as_slice() {
+        failed_item(a, b, c)
+    } else {
+        Item::Wrong
+    }
+}
+
+fn socket_item(
     alloc: Global,
-    word: &[u8],
     socket: &[u8],
     a: &[u8],
     b: &[u8],
     c: &[u8],
 ) -> Result<Item, AllocError>
-    ensures line { IfOk result (λ item. script_line_of item ≡ five_words word.now socket.now a.now b.now c.now) }
+    ensures line { IfOk result (λ item. script_line_of item ≡ socket_line socket.now a.now b.now c.now) }
     ensures short { IfOk result (λ item. IsShort item) }
 {
-    if word == b"d".as_slice() && socket == b"icp".as_slice() {
+    if socket == b"icp".as_slice() {
         datagram_item(alloc, a, b, c)
+    } else {
+        Ok(Item::Wrong)
+    }
+}
+
+fn five_words(
+    alloc: Global,
+    word: &[u8],
+    a: &[u8],
+    b: &[u8],
+    c: &[u8],
+    d: &[u8],
+) -> Result<Item, AllocError>
+    ensures line { IfOk result (λ item. script_line_of item ≡ five_words word.now a.now b.now c.now d.now) }
+    ensures short { IfOk result (λ item. IsShort item) }
+{
+    if word == b"d".as_slice() {
+        socket_item(alloc, a, b, c, d)
+    } else if word == b"r".as_slice() {
+        request_item(alloc, a, b, c, d)
+    } else {
+        Ok(Item::Wrong)
+    }
+}
+
+fn seven_words(
+    alloc: Global,
+    word: &[u8],
+    a: &[u8],
+    protocol: &[u8],
+    b: &[u8],
+    c: &[u8],
+    d: &[u8],
+    e: &[u8],
+) -> Result<Item, AllocError>
+    ensures line { IfOk result (λ item. script_line_of item ≡ seven_words word.now a.now protocol.now b.now c.now d.now e.now) }
+    ensures short { IfOk result (λ item. IsShort item) }
+{
+    if word == b"peer".as_slice() && protocol == b"icp".as_slice() {
+        neighbour_item(alloc, a, b, c, d, e)
+    } else {
+        Ok(Item::Wrong)
+    }
+}
+
+fn eight_words(
+    alloc: Global,
+    word: &[u8],
+    a: &[u8],
+    b: &[u8],
+    c: &[u8],
+    d: &[u8],
+    e: &[u8],
+    f: &[u8],
+    g: &[u8],
+) -> Result<Item, AllocError>
+    ensures line { IfOk result (λ item. script_line_of item ≡ eight_words word.now a.now b.now c.now d.now e.now f.now g.now) }
+    ensures short { IfOk result (λ item. IsShort item) }
+{
+    if word == b"f".as_slice() {
+        object_item(alloc, a, b, c, d, e, f, g)
     } else {
         Ok(Item::Wrong)
     }
@@ -153,7 +192,10 @@ fn line_of(alloc: Global, fields: &[&[u8]]) -> Result<Item, AllocError>
         [word] => Ok(one_word(*word)),
         [word, a] => two_words(alloc, *word, *a),
         [word, a, b] => three_words(alloc, *word, *a, *b),
+        [word, a, b, c] => Ok(four_words(*word, *a, *b, *c)),
         [word, a, b, c, d] => five_words(alloc, *word, *a, *b, *c, *d),
+        [word, a, b, c, d, e, f] => seven_words(alloc, *word, *a, *b, *c, *d, *e, *f),
+        [word, a, b, c, d, e, f, g] => eight_words(alloc, *word, *a, *b, *c, *d, *e, *f, *g),
         _ => Ok(Item::Wrong),
     }
 }

@@ -2,13 +2,18 @@
 //! for each setting, event and question.
 #![tactic(auto)]
 
+mod choice;
 mod engine;
 mod fault;
+mod happening;
 mod item;
 mod laws;
 mod lexis;
+mod phase;
 mod print;
 mod program;
+mod settings;
+mod station;
 mod stream;
 
 pub use fault::FeedFault;

@@ -90,9 +90,9 @@ fn end_out<W: Write>(engine: &mut Engine, alloc: Global, output: &mut W) -> Resu
     }
 }
 
-/// Reads a script to its end, and writes the answers to it and nothing else. What is known is written before more is read, and
-/// the memory that is used doesn't grow with the script. After a fault the script was read, and its answers were written, in
-/// part: a wrong line is answered by nothing, and the lines before it in full.
+/// Reads a script to its end, and writes the answers to its lines and nothing else. What is known is written before more is
+/// read, and the memory that is used doesn't grow with the script. After `Line` the lines before the wrong one are answered in
+/// full, after another fault a front of them.
 pub fn feed<R: Read, W: Write>(
     alloc: Global,
     input: &mut R,
@@ -115,7 +115,7 @@ pub fn feed<R: Read, W: Write>(
     ensures whole { result ≡ Err FeedFault.Read → WritesWhole (R.remaining input.old) (R.remaining input.new)
         (W.contents output.old) (W.contents output.new) }
 
-    // Whatever else happens, a prefix of the text of what was read was written.
+    // After each fault, at most 1,000,000,001 octets were read, and a prefix of their text was written.
     ensures prefix { OnErr result (WritesPrefix (R.remaining input.old) (R.remaining input.new)
         (W.contents output.old) (W.contents output.new)) }
 {

@@ -69,7 +69,7 @@ const FILTERED: &[u8] =
 const FILTERED_TEXT: &[u8] =
     b".\n.\n.\nsend icp 10.0.0.9:3130 03R\n.\nstats icp 2 1 0 0\nstats htcp 0 0 0 0\n";
 
-const CASES: [(&[u8], Result<(), FeedFault>, &[u8]); 16] = [
+const CASES: [(&[u8], Result<(), FeedFault>, &[u8]); 21] = [
     (FILTERED, Ok(()), FILTERED_TEXT),
     // A source that isn't allowed, and a URL that isn't one of http.
     (
@@ -112,6 +112,26 @@ const CASES: [(&[u8], Result<(), FeedFault>, &[u8]); 16] = [
         Err(FeedFault::Line(7)),
         b"send icp 10.0.0.9:3130 03R\n.\n",
     ),
+    // A fetch from the origin, its object served and then found, and one that fails.
+    (
+        b"go\nr 1 shared http://a/ 1000\nf 1 0 60 0 200 6869 1010\nr 2 cached http://a/ 1020\nr 3 private http://a/ 1030\nx 2 0 1040\nt 1050\ng 3\n",
+        Ok(()),
+        b"fetch 1 0 origin plain - http://a/\n.\nserve 1 got 200 6869\n.\nserve 2 hit 200 0 6869\n.\nfetch 2 0 origin plain 3 http://a/\n.\nserve 3 fail 502\n.\n.\n.\n",
+    ),
+    // A neighbour is asked, and has none.
+    (
+        b"peer parent icp 10.0.0.9:3130 8080 1 k\nkey k 00\ngo\nr 1 shared http://a/ 1000\nd icp 10.0.0.9:3130 0302001e0000000100000000000000000a000009U 1040\n",
+        Ok(()),
+        b"send icp 10.0.0.9:3130 010200220000000100000000000000000a00000100000000U\n.\nfetch 1 0 peer 0 plain - http://a/\n.\n",
+    ),
+    // Settings that no node takes.
+    (b"limits 0 1\ngo\n", Err(FeedFault::Line(2)), b""),
+    (
+        b"peer parent icp 10.0.0.9:3130 8080 1 k\ngo\n",
+        Err(FeedFault::Line(2)),
+        b"",
+    ),
+    (b"go\nr 1 shared ftp://a/ 5\n", Err(FeedFault::Line(2)), b""),
     (b"", Ok(()), b""),
     (b"own 10.0.0.2\nallow 0.0.0.0/0\n", Ok(()), b""),
     (b"allow 10.0.0.0/33\ngo\n", Err(FeedFault::Line(1)), b""),

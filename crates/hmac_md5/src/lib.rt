@@ -84,8 +84,8 @@ fn difference(a: &[u8], b: &[u8]) -> u8
     bits
 }
 
-/// Whether two codes are equal. Its time depends on their lengths alone, so that it doesn't tell
-/// a forger how much of a code is right.
+/// Whether two codes are equal. Of codes of one length it looks at every octet, whatever it found
+/// before; how long that takes is no part of its contract.
 pub fn same(a: &[u8], b: &[u8]) -> bool
     ensures { IsTrue result ↔ (a.now ≡ b.now) }
 {

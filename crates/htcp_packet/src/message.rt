@@ -55,7 +55,7 @@ pub struct Specifier<'a> {
     pub headers: &'a [u8],
 }
 
-/// DETAIL: what is held (RFC 2756, section 3.2).
+/// DETAIL: what is held (RFC 2756, section 3.3).
 #[derive(Clone, Copy, Debug, PartialEq, Eq)]
 pub struct Detail<'a> {
     pub response_headers: &'a [u8],

@@ -16,8 +16,8 @@ use filter_slots::{End, Socket};
 use std::alloc::Global;
 use std::marker::Model;
 
-/// What is known of a neighbour: its smoothed time (an eighth of it is milliseconds), and how many rounds in a row it
-/// has missed.
+/// What is known of a neighbour: its smoothed time (an eighth of it is milliseconds), and how many rounds it has
+/// missed since it was last heard of, at most 20.
 #[derive(Clone, Copy, Debug)]
 pub struct Mark {
     pub time: Option<u32>,
@@ -107,7 +107,7 @@ impl Table {
         secret_in(&self.keys, name)
     }
 
-    /// Whether the neighbour has missed fewer than 20 rounds in a row.
+    /// Whether the neighbour has missed fewer than 20 rounds since it was last heard of.
     pub fn is_up(&self, n: usize) -> bool
         requires { n < length self.now.neighbours }
         ensures { result ≡ is_up (mark_at self.now.marks n) }

@@ -1,3 +1,12 @@
-pub mod Replies
+pub mod Crowds
+pub mod Endings
+pub mod Joins
+pub mod Keeps
+pub mod Lent
+pub mod Opens
 pub mod Runs
+pub mod Servings
 pub mod Swaps
+pub mod Tries
+pub mod MessageLemmas
+pub mod RoundLemmas

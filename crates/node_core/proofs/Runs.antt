@@ -11,7 +11,8 @@ use Rattle.node_core.specs.declared.event.Event.{Event}
 use Rattle.node_core.specs.declared.stats.Counters.{Counters}
 use Rattle.node_core.specs.declared.stats.Stats.{Stats}
 use Rattle.node_core.specs.Happening.{Happening, arrives, happening}
-use Rattle.node_core.specs.Plain.{PlainNode, PlainEvent, plain_step}
+use Rattle.node_core.specs.PlainNode.{PlainNode}
+use Rattle.node_core.specs.Plain.{PlainEvent, plain_step}
 use Rattle.node_core.specs.Kept.{kept, kept_places, present, filters_after, swapped}
 use Rattle.node_core.specs.Run.{run_node, run_actions, laid_out, answers}
 use Rattle.node_core.specs.State.{State, HasTaken}

@@ -6,7 +6,7 @@ use Rattle.bpf_run.specs.declared.ends.Socket.TheVariants.{Icp}
 use Rattle.filter_slots.specs.Filters.{Filters, slot, with_slot, AreAccepted}
 use Rattle.bpf_check.specs.declared.insn.Insn.{Insn}
 use Rattle.bpf_check.specs.Accepted.{IsAccepted}
-use Rattle.node_core.specs.Happening.{Happening, arrives, swaps}
+use Rattle.node_core.specs.Happening.{Happening, arrives, asks, ticks, ends, leaves, swaps}
 use Rattle.node_core.specs.Kept.{swapped, filters_after}
 use Rattle.node_core.specs.Swaps.{swap_of, last_swap, later_of, PutsInAccepted}
 
@@ -17,6 +17,10 @@ unwrap_or-later_of first (Some x) d = refl
 slot-swapped : (socket : Socket) (filters : Filters) (e : Happening) → slot (swapped filters e) socket ≡ unwrap_or (swap_of socket e) (slot filters socket)
 slot-swapped Icp filters (swaps Icp program) = refl
 slot-swapped Icp filters (arrives datagram now) = refl
+slot-swapped Icp filters (asks client key mode now) = refl
+slot-swapped Icp filters (ticks now) = refl
+slot-swapped Icp filters (ends number attempt outcome now) = refl
+slot-swapped Icp filters (leaves client) = refl
 
 pub slot-filters_after : (socket : Socket) (filters : Filters) (events : List Happening) → slot (filters_after filters events) socket ≡ unwrap_or (last_swap socket events) (slot filters socket)
 slot-filters_after socket filters [] = refl
@@ -30,5 +34,9 @@ accepted-with Icp filters program accepted fine Icp = fine
 pub accepted-after : (filters : Filters) (events : List Happening) → AreAccepted filters → PutsInAccepted events → AreAccepted (filters_after filters events)
 accepted-after filters [] accepted fine = accepted
 accepted-after filters (arrives datagram now ∷ events) accepted fine = accepted-after filters events accepted fine
+accepted-after filters (asks client key mode now ∷ events) accepted fine = accepted-after filters events accepted fine
+accepted-after filters (ticks now ∷ events) accepted fine = accepted-after filters events accepted fine
+accepted-after filters (ends number attempt outcome now ∷ events) accepted fine = accepted-after filters events accepted fine
+accepted-after filters (leaves client ∷ events) accepted fine = accepted-after filters events accepted fine
 accepted-after filters (swaps socket program ∷ events) accepted fine =
     accepted-after (with_slot filters socket program) events (accepted-with socket filters program accepted fine.0) fine.1

@@ -8,7 +8,7 @@ use Rattle.filter_slots.specs.Verdict.{verdict_in_force}
 use Rattle.icp_packet.specs.Reading.{message_of}
 use Rattle.node_core.specs.declared.stats.Counters.{Counters}
 use Rattle.node_core.specs.declared.stats.Stats.{Stats}
-use Rattle.node_core.specs.Happening.{Happening, arrives, swaps}
+use Rattle.node_core.specs.Happening.{Happening, arrives, asks, ticks, ends, leaves, swaps}
 use Rattle.node_core.specs.Kept.{handed_on, swapped}
 
 -- a counter with more added, at most the greatest number of 64 bits
@@ -42,6 +42,10 @@ is_icp Icp = true
 -- whether an event is a datagram of the socket that passes the test
 abbrev pub one_of : (Socket → Bool) → (Filters → DatagramFields → Bool) → Filters → Happening → ℕ
 one_of here test filters (arrives datagram now) = one_if (here datagram.socket && test filters datagram)
+one_of here test filters (asks client key mode now) = 0
+one_of here test filters (ticks now) = 0
+one_of here test filters (ends number attempt outcome now) = 0
+one_of here test filters (leaves client) = 0
 one_of here test filters (swaps socket program) = 0
 
 -- how many datagrams of a socket pass a test, under the filters then in force

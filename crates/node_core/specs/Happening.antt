@@ -7,13 +7,24 @@ use Rattle.bpf_run.specs.declared.ends.Socket.{Socket}
 use Rattle.filter_slots.specs.Datagram.{DatagramFields}
 use Rattle.node_core.specs.declared.event.Event.{Event}
 use Rattle.node_core.specs.declared.event.Event.TheVariants as event
+use Rattle.node_core.specs.declared.event.Mode.{Mode}
+use Rattle.node_core.specs.declared.event.Outcome.{Outcome}
 
--- a datagram arrives at a moment, or a socket's program is replaced or taken out
+-- a datagram arrives at a moment; a client asks for a key; time goes by; a fetch's attempt ends; a client goes away; or a socket's program is
+-- replaced or taken out
 pub data Happening : Type 0 where
   arrives : (datagram : DatagramFields) (now : ℕ) → Happening
+  asks : (client : ℕ) (key : List ℕ) (mode : Mode) (now : ℕ) → Happening
+  ticks : (now : ℕ) → Happening
+  ends : (number attempt : ℕ) (outcome : Outcome) (now : ℕ) → Happening
+  leaves : (client : ℕ) → Happening
   swaps : (socket : Socket) (program : Option (List Insn)) → Happening
 
 -- what an event says
 abbrev pub happening : Event → Happening
 happening (event.Datagram datagram now) = arrives (arc_value datagram) now
+happening (event.Request client key mode now) = asks client key mode now
+happening (event.Timer now) = ticks now
+happening (event.Fetched number attempt result now) = ends number attempt result now
+happening (event.Gone client) = leaves client
 happening (event.Swap socket program) = swaps socket (option_map (λ arc. arc_value arc) program)

@@ -4,12 +4,16 @@ use Rattle.filter_slots.specs.Datagram.{DatagramFields}
 use Rattle.filter_slots.specs.Filters.{Filters, with_slot}
 use Rattle.filter_slots.specs.Verdict.{verdict_in_force}
 use Rattle.filter_slots.specs.Cut.{cut_of}
-use Rattle.node_core.specs.Happening.{Happening, arrives, swaps}
-use Rattle.node_core.specs.Plain.{PlainEvent, Arrived}
+use Rattle.node_core.specs.Happening.{Happening, arrives, asks, ticks, ends, leaves, swaps}
+use Rattle.node_core.specs.Plain.{PlainEvent, Arrived, Requested, Ticked, Ended, Left}
 
 -- the filters after one event
 abbrev pub swapped : Filters → Happening → Filters
 swapped filters (arrives datagram now) = filters
+swapped filters (asks client key mode now) = filters
+swapped filters (ticks now) = filters
+swapped filters (ends number attempt outcome now) = filters
+swapped filters (leaves client) = filters
 swapped filters (swaps socket program) = with_slot filters socket program
 
 -- the filters in force after the events
@@ -29,6 +33,10 @@ kept_datagram filters datagram now =
 -- what is kept of an event under the filters in force
 abbrev pub kept_event : Filters → Happening → Option PlainEvent
 kept_event filters (arrives datagram now) = kept_datagram filters datagram now
+kept_event filters (asks client key mode now) = Some (Requested client key mode now)
+kept_event filters (ticks now) = Some (Ticked now)
+kept_event filters (ends number attempt outcome now) = Some (Ended number attempt outcome now)
+kept_event filters (leaves client) = Some (Left client)
 kept_event filters (swaps socket program) = None
 
 -- what is kept at each place, under the filters in force there

@@ -1,9 +1,16 @@
 pub mod Counters
+pub mod Fitting
 pub mod Happening
 pub mod Kept
+pub mod Messages
+pub mod Outcomes
 pub mod Plain
+pub mod PlainNode
 pub mod Raised
+pub mod Requests
+pub mod Rounds
 pub mod Run
 pub mod Settings
+pub mod Sources
 pub mod State
 pub mod Swaps

@@ -3,6 +3,8 @@ ghost use Rattle.std.specs.Prelude.{◌≡◌, ◌<◌, ◌++◌, ◌∷◌, [],
 
 use crate::NoMemory;
 use filter_slots::{End, Socket};
+use object_store::SharedObject;
+use peer_select::Source;
 use std::alloc::Global;
 use std::marker::Model;
 
@@ -36,8 +38,19 @@ impl Payload {
     }
 }
 
+/// What a client is told.
+#[derive(Drop)]
+pub enum Answer {
+    /// A stored object, and its age in seconds.
+    Hit { object: SharedObject, age: u32 },
+    /// An object that was fetched.
+    Got(SharedObject),
+    /// That there is none: the status to answer.
+    Fail(u16),
+}
+
 /// What a node wants done.
-#[derive(Debug, Drop)]
+#[derive(Drop)]
 pub enum Action {
     /// Send a datagram from the own end of a socket.
     Send {
@@ -45,10 +58,24 @@ pub enum Action {
         to: End,
         payload: Payload,
     },
+    /// Fetch the key of a pending fetch from a source, and hand the outcome back with this attempt. The owner is the client of a
+    /// private fetch.
+    Fetch {
+        fetch: u32,
+        attempt: u16,
+        source: Source,
+        only_if_cached: bool,
+        owner: Option<u64>,
+    },
+    /// Answer a client.
+    Serve {
+        client: u64,
+        answer: Answer,
+    },
 }
 
 /// The actions of one event, in order. There is room for as many as an event can have.
-#[derive(Debug, Drop)]
+#[derive(Drop)]
 pub struct Out {
     actions: Vec<Action>,
 }

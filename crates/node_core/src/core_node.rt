@@ -1,44 +1,97 @@
 //! The node without filters and counters.
-ghost use Rattle.std.specs.Prelude.{◌≡◌, ◌≤◌, [], length, IfOk, IsOk, OnOk, OnErr, is_none};
-ghost use Rattle.icp_packet.specs.Message.{FitsOpcode, HasNoZero, spelling, url_only};
-ghost use Rattle.icp_packet.specs.Reading.{message_of};
-ghost use Rattle.node_core.specs.Settings.{settings_of};
-ghost use Rattle.node_core.specs.Plain.{Arrived, plain_step, moved, read_step, of_url, reply_to, reply_code};
+ghost use Rattle.std.specs.Prelude.{◌≡◌, ◌≤◌, ℕ, [], length, true, None, IfOk, IfErr, IsOk, OnOk, OnErr, option_copied, option_map, unwrap_or, if◌then◌else◌};
+ghost use Rattle.pending_fetch.specs.Fetches.{PendingFetch, fetch_of, changed, with_next, left, waiters_of};
+ghost use Rattle.pending_fetch.specs.Legal.{IsLegal};
+ghost use Rattle.node_core.specs.Settings.{setup_of, setup_fault};
+ghost use Rattle.node_core.specs.Plain.{Arrived, plain_step};
 ghost use Rattle.node_core.specs.Counters.{is_no_message};
+ghost use Rattle.node_core.specs.State.{opening_node, sends_none};
+ghost use Rattle.node_core.specs.Fitting.{fault_after};
+ghost use Rattle.node_core.specs.PlainNode.{moved, closed, with_fetches};
 
 use crate::NoMemory;
-use crate::action::{Action, Out, Payload};
-use crate::config::Config;
-use filter_slots::{Datagram, End, Moment, Socket};
-use icp_packet::{EncodeFault, IcpBody, IcpView, Opcode, decode, encode};
+use crate::action::Out;
+use crate::config::{Config, NodeFault, Rules};
+use filter_slots::{Datagram, Moment, Socket};
+use neighbours::{ConfigFault, Table};
+use object_store::{CacheKey, Store};
+use pending_fetch::Pending;
 use std::alloc::Global;
 use std::marker::Model;
 
 /// The node without filters and counters.
-#[derive(Debug, Drop)]
+#[derive(Drop)]
 pub struct Core {
-    config: Config,
-    clock: Moment,
+    pub(crate) rules: Rules,
+    pub(crate) table: Table,
+    pub(crate) store: Store,
+    pub(crate) pending: Pending,
+    pub(crate) clock: Moment,
 }
 
 impl Model for Core {
-    ghost use Rattle.node_core.specs.Settings.{settings_of};
-    ghost use Rattle.node_core.specs.Plain.{PlainNode};
+    ghost use Rattle.node_core.specs.PlainNode.{PlainNode};
+    ghost use Rattle.node_core.specs.Fitting.{IsFitting};
 
     ghost Value = { PlainNode };
 
-    ghost view = { λ n. record { settings = settings_of n.config; clock = n.clock } };
+    ghost view = { λ c. record { settings = c.rules; rows = c.table; store = c.store; fetches = c.pending; clock = c.clock } };
+
+    ghost invariant = { λ c. IsFitting (record { settings = c.rules; rows = c.table; store = c.store; fetches = c.pending; clock = c.clock }) };
 }
 
 impl Core {
-    /// The node of this configuration. Its clock stands at 0.
-    pub fn new(config: Config) -> Core
-        ensures { result ≡ record { settings = settings_of config; clock = 0 } }
+    /// The node of a configuration: nothing stored, nothing pending, the clock at 0. Errors: what is wrong with the neighbours
+    /// and keys, else a prefix or a limit out of its range, else that there was no memory.
+    pub fn new(alloc: Global, config: Config) -> Result<Core, NodeFault>
+        ensures opens { IfOk result (λ core. core ≡ opening_node (setup_of config)) }
+        ensures faultless { OnOk result (setup_fault (setup_of config) ≡ None) }
+        ensures fault { IfErr result (λ fault. fault ≡ unwrap_or (setup_fault (setup_of config)) NodeFault.NoMemory) }
     {
-        Core {
-            config,
-            clock: start(),
+        let fit = config.is_fit();
+        let (entries, octets) = (config.entries, config.octets);
+        let rules = Rules {
+            icp: config.icp,
+            htcp: config.htcp,
+            allowed: config.allowed,
+            miss_nofetch: config.miss_nofetch,
+            origin: config.origin,
+        };
+        match Table::new(alloc, config.neighbours, config.keys) {
+            Ok(table) => Core::over(alloc, rules, table, entries, octets, fit),
+            Err(fault) => Err(fault_for(fault, fit)),
         }
+    }
+
+    /// The node over a table, where the limits are fit.
+    fn over(
+        alloc: Global,
+        rules: Rules,
+        table: Table,
+        entries: u32,
+        octets: u32,
+        fit: bool,
+    ) -> Result<Core, NodeFault>
+        ensures opens { IfOk result (λ core. core ≡ record { settings = rules; rows = table; store = record { most_entries = entries; most_octets = octets; pairs = [] }; fetches = record { last = 0; list = [] }; clock = 0 }) }
+        ensures fit { IsOk result → fit ≡ true }
+        ensures fault { IfErr result (λ fault. fault ≡ (if fit then NodeFault.NoMemory else NodeFault.Limits)) }
+    {
+        if !fit {
+            return Err(NodeFault::Limits);
+        }
+        let Ok(store) = Store::new(alloc, entries, octets) else {
+            return Err(NodeFault::NoMemory);
+        };
+        let Ok(pending) = Pending::new(alloc) else {
+            return Err(NodeFault::NoMemory);
+        };
+        Ok(Core {
+            rules,
+            table,
+            store,
+            pending,
+            clock: start(),
+        })
     }
 
     /// Takes a datagram of which `octets` are handed on. Says whether they are no message.
@@ -56,97 +109,69 @@ impl Core {
         ensures actions { OnOk result (out.new ≡ (plain_step self.old (Arrived (record datagram.now { payload = octets.now }) now)).1) }
         ensures malformed { IfOk result (λ malformed. malformed ≡ is_no_message datagram.now.socket octets.now) }
         ensures refused { OnErr result ((self.new ≡ self.old) × (out.new ≡ [])) }
-        ensures silent { (plain_step self.old (Arrived (record datagram.now { payload = octets.now }) now)).1 ≡ [] → IsOk result }
+        ensures silent { sends_none (plain_step self.old (Arrived (record datagram.now { payload = octets.now }) now)).1 ≡ true → IsOk result }
     {
         match datagram.socket() {
             Socket::Icp => self.icp(alloc, datagram.from(), octets, now, out),
         }
     }
 
-    /// Reads a message of ICP and answers it, if it is a query. Says whether the octets are no message.
-    #[tactic(auto, unfolding(crate::specs::Plain::read_step, crate::specs::Plain::body_step))]
-    fn icp(
-        &mut self,
-        alloc: Global,
-        from: End,
-        octets: &[u8],
-        now: Moment,
-        out: &mut Out,
-    ) -> Result<bool, NoMemory>
-        requires { out.old ≡ [] }
-        ensures plain { OnOk result (self.new ≡ (read_step (moved self.old now) from (message_of octets.now)).0) }
-        ensures actions { OnOk result (out.new ≡ (read_step (moved self.old now) from (message_of octets.now)).1) }
-        ensures malformed { IfOk result (λ malformed. malformed ≡ is_none (message_of octets.now)) }
-        ensures refused { OnErr result ((self.new ≡ self.old) × (out.new ≡ [])) }
-        ensures silent { (read_step (moved self.old now) from (message_of octets.now)).1 ≡ [] → IsOk result }
+    /// Moves the clock to a later moment.
+    pub fn tick(&mut self, now: Moment)
+        ensures { self.new ≡ moved self.old now }
     {
-        let Ok(view) = decode(octets) else {
-            self.clock = self.clock.later(now);
-            return Ok(true);
-        };
-        if let IcpBody::Query { url, .. } = view.body {
-            let payload = self.reply(alloc, from, view.number, url)?;
-            out.push(Action::Send {
-                socket: Socket::Icp,
-                to: from,
-                payload,
-            });
-        }
         self.clock = self.clock.later(now);
-        Ok(false)
     }
 
-    /// The reply to a query.
-    #[tactic(auto, unfolding(crate::specs::Plain::reply_to))]
-    fn reply(&self, alloc: Global, from: End, number: u32, url: &[u8]) -> Result<Payload, NoMemory>
-        requires whole { HasNoZero url.now }
-        requires short { length url.now ≤ 16359 }
-        ensures { IfOk result (λ payload. payload ≡ spelling (reply_to self.now.settings from number url.now)) }
+    /// Closes the fetch of this number.
+    pub fn close(&mut self, number: u32)
+        ensures { self.new ≡ closed self.old number }
     {
-        let op = self.opcode(from, url);
-        written(alloc, op, number, self.config.icp.addr, url)
+        self.pending.close(number);
     }
 
-    /// Which reply a query gets.
-    #[tactic(auto, unfolding(crate::specs::Plain::reply_code))]
-    fn opcode(&self, from: End, url: &[u8]) -> Opcode
-        ensures { result ≡ reply_code self.now.settings from url.now }
+    /// The fetch of this number goes on to its next attempt.
+    pub fn advance(&mut self, number: u32)
+        ensures { self.new ≡ with_fetches self.old (changed with_next number self.old.fetches.list) }
     {
-        if !self.config.allows(from.addr) {
-            return Opcode::Denied;
-        }
-        if url.starts_with(b"http://") {
-            Opcode::Miss
-        } else {
-            Opcode::Error
-        }
+        self.pending.next_attempt(number);
+    }
+
+    /// A client waits no longer.
+    pub fn leave(&mut self, client: u64)
+        ensures { self.new ≡ with_fetches self.old (left client self.old.fetches.list) }
+    {
+        self.pending.leave(client);
+    }
+
+    /// What holds of the pending fetches at every time. It does nothing.
+    pub fn facts(&self)
+        ensures legal { IsLegal self.now.fetches.list }
+        ensures few { (number : ℕ) → length (waiters_of number self.now.fetches.list) ≤ 1024 }
+    {
+        self.pending.facts();
+    }
+
+    /// The key of a pending fetch.
+    pub fn key_of(&self, fetch: u32) -> Option<&CacheKey>
+        ensures { option_copied result ≡ option_map (λ (f : PendingFetch). f.key) (fetch_of fetch self.now.fetches.list) }
+    {
+        Some(self.pending.fetch(fetch)?.key)
     }
 }
 
-/// The octets of a message of one URL.
-fn written(
-    alloc: Global,
-    op: Opcode,
-    number: u32,
-    sender: [u8; 4],
-    url: &[u8],
-) -> Result<Payload, NoMemory>
-    requires fits { FitsOpcode op (url_only url.now) }
-    requires short { length url.now ≤ 16359 }
-    ensures { IfOk result (λ payload. payload ≡ spelling (of_url op number sender url.now)) }
+/// Why there is no node where its table has this fault: a refusal of memory comes last.
+fn fault_for(fault: ConfigFault, fit: bool) -> NodeFault
+    ensures { result ≡ fault_after fault fit }
 {
-    let view = IcpView {
-        op,
-        number,
-        options: 0,
-        option_data: 0,
-        sender,
-        body: IcpBody::Url(url),
-    };
-    match encode(alloc, &view) {
-        Ok(octets) => Ok(Payload::new(octets)),
-        Err(EncodeFault::NoMemory) => Err(NoMemory),
-        Err(EncodeFault::TooLong) => unreachable!(),
+    match fault {
+        ConfigFault::NoMemory => {
+            if fit {
+                return NodeFault::NoMemory;
+            }
+            NodeFault::Limits
+        }
+        fault => NodeFault::Table(fault),
     }
 }
 

@@ -1,13 +1,12 @@
 //! Laws of the definitions, for the layers above.
-ghost use Rattle.std.specs.Prelude.{◌≡◌, ◌↔◌, ℕ, List, ◌∷◌, [], ◌++◌, IsTrue, unwrap_or};
+ghost use Rattle.std.specs.Prelude.{◌≡◌, ℕ, List, ◌∷◌, [], ◌++◌, unwrap_or};
 ghost use Rattle.bpf_run.specs.declared.ends.Socket.{Socket};
 ghost use Rattle.filter_slots.specs.Datagram.{DatagramFields};
 ghost use Rattle.filter_slots.specs.Filters.{Filters, slot, AreAccepted};
 ghost use Rattle.filter_slots.specs.Verdict.{verdict_in_force};
 ghost use Rattle.node_core.specs.declared.action.Action.{Action};
-ghost use Rattle.node_core.specs.Settings.{Settings, AreFit, are_fit};
 ghost use Rattle.node_core.specs.Happening.{Happening, arrives};
-ghost use Rattle.node_core.specs.Plain.{PlainNode};
+ghost use Rattle.node_core.specs.PlainNode.{PlainNode};
 ghost use Rattle.node_core.specs.Kept.{kept, filters_after};
 ghost use Rattle.node_core.specs.Swaps.{last_swap, PutsInAccepted};
 ghost use Rattle.node_core.specs.Run.{run_node, answers};
@@ -71,9 +70,4 @@ pub fn filters_law()
 pub fn accepted_law()
     ensures { (filters : Filters) (events : List Happening) →
         AreAccepted filters → PutsInAccepted events → AreAccepted (filters_after filters events) }
-{}
-
-/// The test of settings decides whether they are fit.
-pub fn fit_law()
-    ensures { (settings : Settings) → IsTrue (are_fit settings) ↔ AreFit settings }
 {}

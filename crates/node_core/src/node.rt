@@ -1,9 +1,11 @@
 //! The node: filters in front of the plain node, counters beside it.
-ghost use Rattle.std.specs.Prelude.{◌≡◌, ◌∷◌, [], ◌↔◌, IfOk, IfErr, OnOk, OnErr, IsOk, None};
+ghost use Rattle.std.specs.Prelude.{◌≡◌, ◌∷◌, [], true, IfOk, IfErr, OnOk, OnErr, IsOk, None, unwrap_or, option_copied};
 ghost use Rattle.std.specs.Option.{option_map};
 ghost use Rattle.std.specs.Arc.{arc_value};
 ghost use Rattle.filter_slots.specs.Filters.{AreAccepted, with_slot};
-ghost use Rattle.node_core.specs.Settings.{AreFit, settings_of};
+ghost use Rattle.pending_fetch.specs.Fetches.{PendingFetch, fetch_of};
+ghost use Rattle.node_core.specs.Settings.{setup_of, setup_fault};
+ghost use Rattle.node_core.specs.Plain.{Requested, Ticked, Ended, Left, plain_step};
 ghost use Rattle.node_core.specs.Happening.{happening};
 ghost use Rattle.node_core.specs.Kept.{kept_datagram};
 ghost use Rattle.node_core.specs.Run.{plain_after, actions_of};
@@ -13,10 +15,11 @@ use crate::NoMemory;
 use crate::action::Out;
 use crate::config::{Config, NodeFault};
 use crate::core_node::Core;
-use crate::event::Event;
+use crate::event::{Event, Mode, Outcome};
 use crate::stats::{Counters, Stats};
 use bpf_check::Checked;
 use filter_slots::{Datagram, Moment, Slots, Socket, cut};
+use object_store::CacheKey;
 use std::alloc::Global;
 use std::marker::Model;
 use std::sync::Arc;
@@ -38,20 +41,18 @@ impl Model for Node {
 }
 
 impl Node {
-    ghost use Rattle.node_core.specs.State.{HasTaken, TakesNone, opening};
+    ghost use Rattle.node_core.specs.State.{HasTaken, TakesNone, opening, sends_none, serves_none};
 
-    /// The node of a configuration, with no filter and nothing counted. It takes no memory. The fault is that a
-    /// prefix is over 32.
-    pub fn new(config: Config) -> Result<Node, NodeFault>
-        ensures accepts { IsOk result ↔ AreFit (settings_of config) }
-        ensures opens { IfOk result (λ node. node ≡ opening (settings_of config)) }
-        ensures limits { IfErr result (λ fault. fault ≡ NodeFault.Limits) }
+    /// The node of a configuration, with no filter, nothing stored, nothing pending and nothing counted. Errors: what is wrong
+    /// with the neighbours and keys, else a prefix or a limit out of its range, else that there was no memory.
+    pub fn new(alloc: Global, config: Config) -> Result<Node, NodeFault>
+        ensures opens { IfOk result (λ node. node ≡ opening (setup_of config)) }
+        ensures faultless { OnOk result (setup_fault (setup_of config) ≡ None) }
+        ensures fault { IfErr result (λ fault. fault ≡ unwrap_or (setup_fault (setup_of config)) NodeFault.NoMemory) }
     {
-        if !config.is_fit() {
-            return Err(NodeFault::Limits);
-        }
+        let core = Core::new(alloc, config)?;
         Ok(Node {
-            core: Core::new(config),
+            core,
             slots: Slots::new(),
             stats: Stats {
                 icp: Counters::ZERO,
@@ -76,6 +77,13 @@ impl Node {
         &self.slots
     }
 
+    /// The key of a pending fetch.
+    pub fn key_of(&self, fetch: u32) -> Option<&CacheKey>
+        ensures { option_copied result ≡ option_map (λ (f : PendingFetch). f.key) (fetch_of fetch self.now.plain.fetches.list) }
+    {
+        self.core.key_of(fetch)
+    }
+
     /// Takes one event, and writes its actions to an empty `out`. An error says that there was no memory, or that a
     /// program has too many owners: the node is as before, and `out` is empty.
     pub fn step(&mut self, alloc: Global, event: &Event, out: &mut Out) -> Result<(), NoMemory>
@@ -86,6 +94,26 @@ impl Node {
     {
         match event {
             Event::Datagram { datagram, now } => self.datagram(alloc, datagram, *now, out),
+            Event::Request {
+                client,
+                key,
+                mode,
+                now,
+            } => self.request(alloc, *client, key, *mode, *now, out),
+            Event::Timer { now } => {
+                self.timer(*now, out);
+                Ok(())
+            }
+            Event::Fetched {
+                fetch,
+                attempt,
+                result,
+                now,
+            } => self.fetched(*fetch, *attempt, result, *now, out),
+            Event::Gone { client } => {
+                self.gone(*client);
+                Ok(())
+            }
             Event::Swap { socket, program } => self.swap(*socket, program),
         }
     }
@@ -104,7 +132,7 @@ impl Node {
         ensures filters { OnOk result (self.new.filters ≡ self.old.filters) }
         ensures stats { OnOk result (self.new.stats ≡ counted_datagram self.old.stats self.old.filters datagram.now) }
         ensures refused { OnErr result ((self.new ≡ self.old) × (out.new ≡ [])) }
-        ensures silent { actions_of self.old.plain (kept_datagram self.old.filters datagram.now now) ≡ [] → IsOk result }
+        ensures silent { sends_none (actions_of self.old.plain (kept_datagram self.old.filters datagram.now now)) ≡ true → IsOk result }
     {
         let socket = datagram.socket();
         let value = self.slots.force(datagram).value;
@@ -117,6 +145,66 @@ impl Node {
         let shorter = octets.len() < datagram.payload().len();
         self.stats = self.stats.raised(socket, false, shorter, malformed);
         Ok(())
+    }
+
+    /// A client asks for a key.
+    fn request(
+        &mut self,
+        alloc: Global,
+        client: u64,
+        key: &CacheKey,
+        mode: Mode,
+        now: Moment,
+        out: &mut Out,
+    ) -> Result<(), NoMemory>
+        requires { out.old ≡ [] }
+        ensures plain { OnOk result (self.new.plain ≡ (plain_step self.old.plain (Requested client key.now mode now)).0) }
+        ensures actions { OnOk result (out.new ≡ (plain_step self.old.plain (Requested client key.now mode now)).1) }
+        ensures filters { OnOk result (self.new.filters ≡ self.old.filters) }
+        ensures stats { OnOk result (self.new.stats ≡ self.old.stats) }
+        ensures refused { OnErr result ((self.new ≡ self.old) × (out.new ≡ [])) }
+    {
+        self.core.request(alloc, client, key, mode, now, out)
+    }
+
+    /// Time goes by.
+    fn timer(&mut self, now: Moment, out: &mut Out)
+        requires { out.old ≡ [] }
+        ensures plain { self.new.plain ≡ (plain_step self.old.plain (Ticked now)).0 }
+        ensures actions { out.new ≡ (plain_step self.old.plain (Ticked now)).1 }
+        ensures filters { self.new.filters ≡ self.old.filters }
+        ensures stats { self.new.stats ≡ self.old.stats }
+    {
+        self.core.timer(now, out);
+    }
+
+    /// An attempt of a fetch ended.
+    fn fetched(
+        &mut self,
+        fetch: u32,
+        attempt: u16,
+        outcome: &Outcome,
+        now: Moment,
+        out: &mut Out,
+    ) -> Result<(), NoMemory>
+        requires { out.old ≡ [] }
+        ensures plain { OnOk result (self.new.plain ≡ (plain_step self.old.plain (Ended fetch attempt outcome.now now)).0) }
+        ensures actions { OnOk result (out.new ≡ (plain_step self.old.plain (Ended fetch attempt outcome.now now)).1) }
+        ensures filters { OnOk result (self.new.filters ≡ self.old.filters) }
+        ensures stats { OnOk result (self.new.stats ≡ self.old.stats) }
+        ensures refused { OnErr result ((self.new ≡ self.old) × (out.new ≡ [])) }
+        ensures silent { serves_none self.old.plain attempt outcome.now (fetch_of fetch self.old.plain.fetches.list) ≡ true → IsOk result }
+    {
+        self.core.fetched(fetch, attempt, outcome, now, out)
+    }
+
+    /// A client went away.
+    fn gone(&mut self, client: u64)
+        ensures plain { self.new.plain ≡ (plain_step self.old.plain (Left client)).0 }
+        ensures filters { self.new.filters ≡ self.old.filters }
+        ensures stats { self.new.stats ≡ self.old.stats }
+    {
+        self.core.leave(client);
     }
 
     /// Replaces a program, or takes it out.

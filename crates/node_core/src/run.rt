@@ -9,7 +9,7 @@ use crate::node::Node;
 use std::alloc::Global;
 
 /// Memory, or the sharing of a program, was refused: the first `done` events were taken, and `outs` are their actions.
-#[derive(Debug, Drop)]
+#[derive(Drop)]
 pub struct RunFault {
     /// How many events were taken.
     pub done: usize,

@@ -45,8 +45,14 @@ fn new_node(alloc: Global) -> Result<Node, Fail> {
         icp: OWN,
         htcp: OWN,
         allowed,
+        miss_nofetch: false,
+        origin: true,
+        entries: 10,
+        octets: 1_000,
+        neighbours: Vec::new(alloc),
+        keys: Vec::new(alloc),
     };
-    Ok(Node::new(config).ok().ok_or("a prefix of 8")?)
+    Ok(Node::new(alloc, config).ok().ok_or("a node")?)
 }
 
 /// A filter that lets everything through.

@@ -104,6 +104,13 @@ impl Store {
     pub fn peek(&self, key: &CacheKey, now: Moment) -> Option<&Entry>
         ensures { option_copied result ≡ fresh_at key.now now self.now }
     {
+        self.peek_octets(key.as_slice(), now)
+    }
+
+    /// The entry whose key has these octets, where it is fresh. Nothing moves.
+    pub fn peek_octets(&self, key: &[u8], now: Moment) -> Option<&Entry>
+        ensures { option_copied result ≡ fresh_at key.now now self.now }
+    {
         let entry = self.pairs.peek(key)?;
         if entry.is_fresh(now) {
             Some(entry)

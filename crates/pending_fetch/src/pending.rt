@@ -88,7 +88,8 @@ impl Pending {
         are_many(&self.slots)
     }
 
-    fn is_full(&self) -> bool
+    /// Whether no fetch can be opened: 256 are pending, or 1,024 clients wait.
+    pub fn is_full(&self) -> bool
         ensures { result ≡ is_full self.now.list }
     {
         self.is_many() || self.is_crowded()

@@ -1,0 +1,112 @@
+//! The lines that set something.
+ghost use Rattle.std.specs.Prelude.{◌≡◌, IfOk};
+ghost use Rattle.feed_script.specs.Lexis.{number, address, end_at, network, octets, switch, role, name};
+ghost use Rattle.feed_script.specs.Item.{script_line_of, IsShort};
+ghost use Rattle.feed_script.specs.ScriptLine.{own_line, allow_line, nofetch_line, origin_line, limits_line, key_line, neighbour_line};
+
+use super::choice::{name, owned, role, switch};
+use super::item::Item;
+use super::lexis::{half, octets, read_address, read_end, read_network, word};
+use filter_slots::Socket;
+use neighbours::{Key, Neighbour, Octets};
+use std::alloc::{AllocError, Global};
+
+/// `own <address>`.
+pub(crate) fn own_item(alloc: Global, a: &[u8]) -> Result<Item, AllocError>
+    ensures line { IfOk result (λ item. script_line_of item ≡ own_line (address a.now)) }
+    ensures short { IfOk result (λ item. IsShort item) }
+{
+    match read_address(alloc, a)? {
+        Some(addr) => Ok(Item::Own(addr)),
+        None => Ok(Item::Wrong),
+    }
+}
+
+/// `allow <address>/<prefix>`.
+pub(crate) fn allow_item(alloc: Global, a: &[u8]) -> Result<Item, AllocError>
+    ensures line { IfOk result (λ item. script_line_of item ≡ allow_line (network a.now)) }
+    ensures short { IfOk result (λ item. IsShort item) }
+{
+    match read_network(alloc, a)? {
+        Some(network) => Ok(Item::Allow(network)),
+        None => Ok(Item::Wrong),
+    }
+}
+
+/// `nofetch on|off`.
+pub(crate) fn nofetch_item(a: &[u8]) -> Item
+    ensures line { script_line_of result ≡ nofetch_line (switch a.now) }
+    ensures short { IsShort result }
+{
+    match switch(a) {
+        Some(on) => Item::NoFetch(on),
+        None => Item::Wrong,
+    }
+}
+
+/// `origin on|off`.
+pub(crate) fn origin_item(a: &[u8]) -> Item
+    ensures line { script_line_of result ≡ origin_line (switch a.now) }
+    ensures short { IsShort result }
+{
+    match switch(a) {
+        Some(on) => Item::Origin(on),
+        None => Item::Wrong,
+    }
+}
+
+/// `limits <entries> <octets>`.
+pub(crate) fn limits_item(a: &[u8], b: &[u8]) -> Item
+    ensures line { script_line_of result ≡ limits_line (number 4294967295 a.now) (number 4294967295 b.now) }
+    ensures short { IsShort result }
+{
+    match (word(a), word(b)) {
+        (Some(entries), Some(octets)) => Item::Limits { entries, octets },
+        _ => Item::Wrong,
+    }
+}
+
+/// `key <name> <octets>`.
+pub(crate) fn key_item(alloc: Global, a: &[u8], b: &[u8]) -> Result<Item, AllocError>
+    ensures line { IfOk result (λ item. script_line_of item ≡ key_line a.now (octets b.now)) }
+    ensures short { IfOk result (λ item. IsShort item) }
+{
+    let Some(secret) = octets(alloc, b)? else {
+        return Ok(Item::Wrong);
+    };
+    let name = Octets::new(owned(alloc, a)?);
+    let secret = Octets::new(secret);
+    Ok(Item::AddKey(Key { name, secret }))
+}
+
+/// `peer sibling|parent icp <end> <http port> <weight> <key name or ->`.
+pub(crate) fn neighbour_item(
+    alloc: Global,
+    a: &[u8],
+    b: &[u8],
+    c: &[u8],
+    d: &[u8],
+    e: &[u8],
+) -> Result<Item, AllocError>
+    ensures line { IfOk result (λ item. script_line_of item
+        ≡ neighbour_line (role a.now) (end_at b.now) (number 65535 c.now) (number 4294967295 d.now) (name e.now)) }
+    ensures short { IfOk result (λ item. IsShort item) }
+{
+    let (Some(kind), Some(end), Some(http_port), Some(weight)) = (
+        role(a),
+        read_end(alloc, b)?,
+        half(c),
+        word(d),
+    ) else {
+        return Ok(Item::Wrong);
+    };
+    let key = name(alloc, e)?;
+    Ok(Item::AddNeighbour(Neighbour {
+        kind,
+        protocol: Socket::Icp,
+        end,
+        http_port,
+        weight,
+        key,
+    }))
+}

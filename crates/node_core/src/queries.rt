@@ -1,0 +1,127 @@
+//! The queries that a shared fetch sends to the neighbours.
+ghost use Rattle.std.specs.Prelude.{◌≡◌, ◌≤◌, [], length, slice_get, option_copied, IfOk, OnOk, OnErr};
+ghost use Rattle.icp_packet.specs.Message.{spelling};
+ghost use Rattle.pending_fetch.specs.Fetches.{next_number};
+ghost use Rattle.node_core.specs.Requests.{queries, query_by, icp_query};
+ghost use Rattle.node_core.specs.Fitting.{asking};
+
+use crate::NoMemory;
+use crate::action::{Action, Out, Payload};
+use crate::core_node::Core;
+use icp_packet::{EncodeFault, IcpBody, IcpView, Opcode, encode};
+use neighbours::{Neighbour, Socket};
+use object_store::CacheKey;
+use std::alloc::Global;
+
+impl Core {
+    /// The queries for the fetch that is opened next, and its number. A refusal leaves no action.
+    pub(crate) fn ask(
+        &self,
+        alloc: Global,
+        key: &CacheKey,
+        shared: bool,
+        out: &mut Out,
+    ) -> Result<u32, NoMemory>
+        requires { out.old ≡ [] }
+        ensures number { IfOk result (λ number. number ≡ next_number self.now.fetches) }
+        ensures ok { OnOk result (out.new ≡ asking self.now (next_number self.now.fetches) key.now shared) }
+        ensures err { OnErr result (out.new ≡ []) }
+    {
+        let number = self.next_number();
+        if shared {
+            self.ask_all(alloc, number, key, out)?;
+        }
+        Ok(number)
+    }
+
+    /// The number that the next fetch gets.
+    fn next_number(&self) -> u32
+        ensures { result ≡ next_number self.now.fetches }
+    {
+        self.pending.next_number()
+    }
+
+    /// A query to each neighbour, in order. A refusal leaves no action.
+    #[tactic(auto, unfolding(crate::specs::Requests::queries))]
+    fn ask_all(
+        &self,
+        alloc: Global,
+        number: u32,
+        key: &CacheKey,
+        out: &mut Out,
+    ) -> Result<(), NoMemory>
+        requires { out.old ≡ [] }
+        ensures ok { OnOk result (out.new ≡ queries self.now number key.now) }
+        ensures err { OnErr result (out.new ≡ []) }
+    {
+        self.few();
+        let mut n = 0;
+        while let Some(neighbour) = self.neighbour(n) {
+            match self.query_to(alloc, neighbour, number, key) {
+                Ok(action) => out.push(action),
+                Err(e) => {
+                    out.clear();
+                    return Err(e);
+                }
+            }
+            n += 1;
+        }
+        Ok(())
+    }
+
+    /// There are at most 64 neighbours. It does nothing.
+    pub(crate) fn few(&self)
+        ensures { length self.now.rows.neighbours ≤ 64 }
+    {
+        self.table.facts();
+    }
+
+    /// The neighbour at a place.
+    fn neighbour(&self, n: usize) -> Option<&Neighbour>
+        ensures { option_copied result ≡ slice_get self.now.rows.neighbours n }
+    {
+        self.table.get(n)
+    }
+
+    /// The query to a neighbour, by its protocol.
+    fn query_to(
+        &self,
+        alloc: Global,
+        neighbour: &Neighbour,
+        number: u32,
+        key: &CacheKey,
+    ) -> Result<Action, NoMemory>
+        ensures { IfOk result (λ action. action ≡ query_by self.now number key.now neighbour.now.end neighbour.now.protocol) }
+    {
+        match neighbour.protocol {
+            Socket::Icp => Ok(Action::Send {
+                socket: Socket::Icp,
+                to: neighbour.end,
+                payload: self.icp_query(alloc, number, key)?,
+            }),
+        }
+    }
+
+    /// The query by ICP (RFC 2186).
+    fn icp_query(&self, alloc: Global, number: u32, key: &CacheKey) -> Result<Payload, NoMemory>
+        ensures { IfOk result (λ payload. payload ≡ spelling (icp_query self.now number key.now)) }
+    {
+        let url = key.as_slice();
+        let view = IcpView {
+            op: Opcode::Query,
+            number,
+            options: 0,
+            option_data: 0,
+            sender: self.rules.sender(),
+            body: IcpBody::Query {
+                requester: [0; 4],
+                url,
+            },
+        };
+        match encode(alloc, &view) {
+            Ok(octets) => Ok(Payload::new(octets)),
+            Err(EncodeFault::NoMemory) => Err(NoMemory),
+            Err(EncodeFault::TooLong) => unreachable!(),
+        }
+    }
+}
