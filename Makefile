@@ -22,3 +22,4 @@ cases:
 
 bench: feed
 	@bench/feed_ir $(PROGRAM)
+	@bench/node_ir $(PROGRAM)

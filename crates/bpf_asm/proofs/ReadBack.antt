@@ -1,6 +1,6 @@
 -- The text of an accepted program is a text of it, with 0 in the fields that it doesn't use.
-use Rattle.std.proofs.Common.{◌≡◌, ℕ, zero, suc, ◌+◌, ◌^◌, ◌<◌, ◌≤◌, ◌⊎◌, inl, inr, List, [], ◌∷◌, ◌++◌, length, map, Bool, true, false, ◌||◌, nat_eq, decimal, Option, Some, None, refl, ap, sym, ◌∙◌, subst, arith, eq-eqb}
-use Rattle.std.specs.Prelude.{slice_get, IsSomeAnd}
+use Rattle.std.proofs.Common.{◌≡◌, ℕ, zero, suc, ◌+◌, ◌^◌, ◌<◌, ◌≤◌, ◌⊎◌, inl, inr, List, [], ◌∷◌, ◌++◌, length, map, Bool, true, false, ◌||◌, nat_eq, decimal, Option, Some, None, Result, Ok, Err, refl, ap, sym, ◌∙◌, subst, arith, eq-eqb}
+use Rattle.std.specs.Prelude.{slice_get, IsSomeAnd, IfOk}
 use Rattle.std.specs.Option.{option_map}
 use Rattle.std.proofs.lemmas.Bool.Decides.{nat_tests}
 use Rattle.std.proofs.lemmas.Option.{slice_get_within, slice_get-map}
@@ -15,7 +15,8 @@ use Rattle.bpf_asm.specs.Form.{mnemonic}
 use Rattle.bpf_asm.specs.Spelling.{kinds, spelled_with}
 use Rattle.bpf_asm.specs.Text.{label_text, targets_by, targets, holds, is_target, program_text}
 use Rattle.bpf_asm.specs.Assembly.{token_lines, label_of, body_of, has_body, place_of, LabelAt, Leads, Puts, IsInsn, Assembles}
-use Rattle.bpf_asm.specs.Cleared.{cleared_as, cleared, AreInRange}
+use Rattle.bpf_check.specs.Insn.{AreInRange}
+use Rattle.bpf_asm.specs.Cleared.{cleared_as, cleared}
 use Rattle.bpf_asm.proofs.Decimals.{decimal_number}
 use Rattle.bpf_asm.proofs.Places.{length_shown, some_same, place_yes, body_true}
 use Rattle.bpf_asm.proofs.Jumps.{there_is}
@@ -230,3 +231,7 @@ written_read p accepted ranges = subst (λ (ls : List (List (List ℕ))). Assemb
 
 pub same_read : (p : List Insn) → IsAccepted p → AreInRange p → map cleared p ≡ p → Assembles (token_lines (program_text p)) p
 same_read p accepted ranges e = subst (Assembles (token_lines (program_text p))) e (written_read p accepted ranges)
+
+pub text_read : {S E : Type 0} (octets : S → List ℕ) (r : Result S E) (old new : List Insn) → IfOk r (λ text. octets text ≡ program_text old) → Assembles (token_lines (program_text old)) new → IfOk r (λ text. Assembles (token_lines (octets text)) new)
+text_read octets (Ok text) old new e is = subst (λ (t : List ℕ). Assembles (token_lines t) new) (sym e) is
+text_read octets (Err fault) old new e is = tt

@@ -1,11 +1,10 @@
 -- Instructions without the fields that their operations don't use.
-use Rattle.std.specs.Prelude.{◌≡◌, ℕ, List, Bool, true, false, Option, Some, None, slice_get, if◌then◌else◌}
+use Rattle.std.specs.Prelude.{Bool, true, false, Option, Some, None, if◌then◌else◌}
 use Rattle.bpf_check.specs.declared.insn.Insn.{Insn}
 use Rattle.bpf_check.specs.declared.operation.Operand.TheVariants.{Index}
 use Rattle.bpf_check.specs.declared.operation.Operation.{Operation}
 use Rattle.bpf_check.specs.declared.operation.Operation.TheVariants.{LoadLength, IndexLength, Compute, Negate, Branch, ReturnAccumulator, ToIndex, ToAccumulator}
 use Rattle.bpf_check.specs.Operation.{operation_of}
-use Rattle.bpf_check.specs.Listing.{InRange}
 
 -- the operation uses the constant of its instruction
 abbrev pub uses_constant : Operation → Bool
@@ -37,7 +36,3 @@ cleared_as i (Some operation) = record {
 -- the instruction with 0 in the fields that its operation doesn't use
 abbrev pub cleared : Insn → Insn
 cleared i = cleared_as i (operation_of i.code)
-
--- each number of each instruction is within its field
-abbrev pub AreInRange : List Insn → Type 0
-AreInRange p = (place : ℕ) (i : Insn) → slice_get p place ≡ Some i → InRange i

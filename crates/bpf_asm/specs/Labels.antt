@@ -1,4 +1,4 @@
--- The places of labels, as the assembler keeps them.
+-- The places of labels, as the assembler keeps them. No public contract rests on it.
 use Rattle.std.specs.Prelude.{ℕ, List, Option}
 use Rattle.std.specs.Borrow.{Bor}
 use Rattle.std.specs.BTreeMap as tree

@@ -1,4 +1,4 @@
--- Which places some instruction jumps to, as the writer of texts keeps it.
+-- Which places some instruction jumps to, as the writer of texts keeps it. No public contract rests on it.
 use Rattle.std.specs.Prelude.{◌≡◌, ℕ, ◌<◌, List, length, Bool, false, slice_index_or}
 use Rattle.bpf_check.specs.declared.insn.Insn.{Insn}
 use Rattle.bpf_asm.specs.Text.{is_target}

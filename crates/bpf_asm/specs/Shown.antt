@@ -1,4 +1,4 @@
--- What the code has read, without where its octets lie.
+-- What the code has read, without where its octets lie. No public contract rests on it.
 use Rattle.std.specs.Prelude.{List, ℕ, map}
 use Rattle.std.specs.Borrow.{Bor}
 use Rattle.bpf_asm.specs.declared.spelling.Front as front

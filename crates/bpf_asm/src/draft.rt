@@ -14,7 +14,7 @@ use std::alloc::Global;
 
 /// An instruction whose labels are not resolved yet; what it doesn't have is 0 or empty.
 #[derive(Clone, Copy)]
-pub struct Draft<'a> {
+pub(crate) struct Draft<'a> {
     pub line: usize,
     pub code: u16,
     pub operation: Operation,
@@ -71,7 +71,7 @@ fn keep<'a>(line: usize, code: u16, operation: Operation, words: &[&'a [u8]]) ->
 }
 
 /// The draft of an instruction's tokens.
-pub fn draft_of<'a>(
+pub(crate) fn draft_of<'a>(
     alloc: Global,
     line: usize,
     word: &'a [u8],

@@ -7,7 +7,7 @@ use bpf_check::operation::{Arithmetic, Comparison, Operand, Operation, Width};
 
 /// A token after the mnemonic.
 #[derive(Clone, Copy, Debug, PartialEq, Eq)]
-pub enum Piece {
+pub(crate) enum Piece {
     Hash,
     Open,
     Close,
@@ -64,7 +64,7 @@ fn branch_mnemonic_of(comparison: Comparison) -> &'static str
 }
 
 /// The mnemonic of an operation.
-pub fn mnemonic_of(operation: Operation) -> &'static str
+pub(crate) fn mnemonic_of(operation: Operation) -> &'static str
     ensures { result.now ≡ mnemonic operation }
 {
     match operation {
@@ -91,7 +91,7 @@ pub fn mnemonic_of(operation: Operation) -> &'static str
 }
 
 /// The tokens after the mnemonic.
-pub fn pieces_of(operation: Operation) -> &'static [Piece]
+pub(crate) fn pieces_of(operation: Operation) -> &'static [Piece]
     ensures { result.now ≡ pieces operation }
 {
     match operation {
@@ -150,7 +150,7 @@ pub fn pieces_of(operation: Operation) -> &'static [Piece]
 }
 
 /// The octets of a token that is always the same.
-pub fn fixed_of(piece: Piece) -> &'static str
+pub(crate) fn fixed_of(piece: Piece) -> &'static str
     ensures { result.now ≡ fixed piece }
 {
     match piece {

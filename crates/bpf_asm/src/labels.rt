@@ -8,24 +8,24 @@ use std::alloc::{AllocError, Global};
 use std::collections::BTreeMap;
 
 /// The place that each label names.
-pub type Labels<'a> = BTreeMap<&'a [u8], u32>;
+pub(crate) type Labels<'a> = BTreeMap<&'a [u8], u32>;
 
 /// No label names a place.
-pub fn no_labels<'a>(alloc: Global) -> Labels<'a>
+pub(crate) fn no_labels<'a>(alloc: Global) -> Labels<'a>
     ensures { (label : List ℕ) → place_in result label ≡ None }
 {
     BTreeMap::new(alloc)
 }
 
 /// The place that a label names.
-pub fn place_of(labels: &Labels<'_>, label: &[u8]) -> Option<u32>
+pub(crate) fn place_of(labels: &Labels<'_>, label: &[u8]) -> Option<u32>
     ensures { result ≡ place_in labels.now label.now }
 {
     labels.get(label).copied()
 }
 
 /// Lets a label name a place.
-pub fn name_place<'a>(
+pub(crate) fn name_place<'a>(
     labels: &mut Labels<'a>,
     label: &'a [u8],
     place: u32,

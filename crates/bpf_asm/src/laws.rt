@@ -4,10 +4,11 @@ ghost use Rattle.std.specs.Prelude.{◌≡◌, ℕ, List, ◌∷◌, ◌++◌, m
 ghost use Rattle.std.specs.List.{concat, filter, list_all};
 ghost use Rattle.bpf_check.specs.declared.insn.Insn.{Insn};
 ghost use Rattle.bpf_check.specs.Accepted.{IsAccepted};
+ghost use Rattle.bpf_check.specs.Insn.{AreInRange};
 ghost use Rattle.bpf_asm.specs.Text.{program_text};
 ghost use Rattle.bpf_asm.specs.Assembly.{token_lines, Assembles};
 ghost use Rattle.bpf_asm.specs.Token.{tokens, is_text, begins_no_comment};
-ghost use Rattle.bpf_asm.specs.Cleared.{cleared, AreInRange};
+ghost use Rattle.bpf_asm.specs.Cleared.{cleared};
 
 /// The text that [`crate::to_text`] writes of a program is a text of the program for
 /// [`crate::assemble`], with 0 in the fields that its instructions don't use; so of the program

@@ -6,7 +6,7 @@
 
 mod assembly;
 mod draft;
-pub mod fault;
+mod fault;
 mod form;
 mod labels;
 pub mod laws;

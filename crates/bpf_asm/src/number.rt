@@ -43,7 +43,7 @@ fn small_of(base: u64, digits: &[u8]) -> Option<u32>
 
 /// The number that a numeral stands for, where it has a digit and fits 32 bits.
 #[tactic(auto, unfolding(crate::specs::Number::IsNumber))]
-pub fn number_of(word: &[u8]) -> Option<u32>
+pub(crate) fn number_of(word: &[u8]) -> Option<u32>
     ensures { MatchOption result ((n : ℕ) → IsNumber word.now n → ⊥) (λ n. IsNumber word.now n) }
 {
     let (front, digits) = word.split_at(2.min(word.len()));

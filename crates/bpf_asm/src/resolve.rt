@@ -103,7 +103,7 @@ fn resolve(labels: &Labels<'_>, place: u32, draft: &Draft<'_>) -> Result<Insn, A
 }
 
 /// The instructions of the drafts, which lie from place 0 on.
-pub fn resolve_all(
+pub(crate) fn resolve_all(
     alloc: Global,
     labels: &Labels<'_>,
     drafts: &[Draft<'_>],

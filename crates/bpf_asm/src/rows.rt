@@ -13,7 +13,7 @@ use std::alloc::{AllocError, Global};
 
 /// The row that a line is written in, and the words in its open places.
 #[derive(Drop)]
-pub struct Row<'a> {
+pub(crate) struct Row<'a> {
     pub code: u16,
     pub operation: Operation,
     pub words: Vec<&'a [u8]>,
@@ -151,7 +151,7 @@ fn find_in<'a>(
 }
 
 /// The first row of the table that the tokens are written in.
-pub fn row_of<'a>(
+pub(crate) fn row_of<'a>(
     alloc: Global,
     word: &[u8],
     tokens: &[&'a [u8]],
@@ -174,7 +174,7 @@ fn is_mnemonic_in(rows: &[(u16, Operation)], word: &[u8]) -> bool
 }
 
 /// Whether a word is a mnemonic.
-pub fn is_mnemonic(word: &[u8]) -> bool
+pub(crate) fn is_mnemonic(word: &[u8]) -> bool
     ensures { result ≡ has_mnemonic table word.now }
 {
     is_mnemonic_in(rows(), word)

@@ -12,7 +12,7 @@ use std::alloc::{AllocError, Global};
 
 /// The word of an open place, and the tokens that are left behind it.
 #[derive(Clone, Copy)]
-pub struct Front<'a, 'b> {
+pub(crate) struct Front<'a, 'b> {
     pub word: &'a [u8],
     pub left: &'b [&'a [u8]],
 }
@@ -100,7 +100,7 @@ fn fill_more<'a>(
 }
 
 /// The words in the open places of the pieces, where the tokens fit them.
-pub fn words_in<'a>(
+pub(crate) fn words_in<'a>(
     alloc: Global,
     pieces: &[Piece],
     tokens: &[&'a [u8]],

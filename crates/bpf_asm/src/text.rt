@@ -1,9 +1,11 @@
 //! The text of a program.
 
-ghost use Rattle.std.specs.Prelude.{◌≡◌, ◌+◌, ◌++◌, ◌<◌, ◌≤◌, IfOk, OnOk, string_bytes, length, decimal, codes, List, ◌∷◌, ℕ, false, ◌||◌, ◌==◌, slice_index_or};
+ghost use Rattle.std.specs.Prelude.{◌≡◌, ◌+◌, ◌++◌, ◌<◌, ◌≤◌, IfOk, OnOk, string_bytes, length, decimal, codes, List, ◌∷◌, ℕ, false, ◌||◌, ◌==◌, slice_index_or, map};
 ghost use Rattle.bpf_check.specs.Operation.{operation_of};
 ghost use Rattle.bpf_asm.specs.Form.{mnemonic, pieces};
 ghost use Rattle.bpf_asm.specs.declared.form.Piece.{Piece};
+ghost use Rattle.bpf_asm.specs.Assembly.{token_lines, Assembles};
+ghost use Rattle.bpf_asm.specs.Cleared.{cleared};
 ghost use Rattle.bpf_asm.specs.Marks.{AreMarks};
 ghost use Rattle.bpf_asm.specs.Text.{label_text, targets, targets_by, holds, pieces_text, operands_text, insn_text, mark_text, program_text};
 
@@ -198,9 +200,14 @@ fn text_of(alloc: Global, insns: &[Insn]) -> Result<String, AllocError>
 
 /// The text of a program: a line for each instruction, numbers in decimal.
 ///
-/// A place that some jump names begins with its label, `L` and the place, counted from 0.
+/// A place that some jump names begins with its label, `L` and the place, counted from 0. For
+/// [`crate::assemble`] it is a text of the same instructions, with 0 in the fields that they don't
+/// use; so of the program itself where these are 0.
 pub fn to_text(alloc: Global, program: &Checked) -> Result<String, NoMemory>
-    ensures { IfOk result (λ text. string_bytes text ≡ program_text program.now) }
+    ensures text { IfOk result (λ text. string_bytes text ≡ program_text program.now) }
+    ensures cleared { IfOk result (λ text. Assembles (token_lines (string_bytes text)) (map cleared program.now)) }
+    ensures same { map cleared program.now ≡ program.now
+        → IfOk result (λ text. Assembles (token_lines (string_bytes text)) program.now) }
 {
     text_of(alloc, program.insns())
 }

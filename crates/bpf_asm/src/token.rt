@@ -35,7 +35,7 @@ fn push_mark<'a>(tokens: &mut Vec<&'a [u8]>, c: u8, text: &'a [u8]) -> Result<()
 }
 
 /// The tokens of a line.
-pub fn tokens_of(alloc: Global, line: &[u8]) -> Result<Vec<&[u8]>, AllocError>
+pub(crate) fn tokens_of(alloc: Global, line: &[u8]) -> Result<Vec<&[u8]>, AllocError>
     ensures { IfOk result (λ v. map (λ x. x.now) v.items ≡ tokens line.now) }
 {
     let mut tokens = Vec::new(alloc);
@@ -69,7 +69,7 @@ fn all_hexdigits(text: &[u8]) -> bool
 
 /// Whether a token is digits, or `0x` and hexadecimal digits, perhaps none.
 #[tactic(auto, unfolding(crate::specs::Token::is_numeral))]
-pub fn is_numeral_of(token: &[u8]) -> bool
+pub(crate) fn is_numeral_of(token: &[u8]) -> bool
     ensures { result ≡ is_numeral token.now }
 {
     let (front, digits) = token.split_at(2.min(token.len()));
@@ -79,7 +79,7 @@ pub fn is_numeral_of(token: &[u8]) -> bool
     all_digits(token)
 }
 
-pub fn starts_word_of(token: &[u8]) -> bool
+pub(crate) fn starts_word_of(token: &[u8]) -> bool
     ensures { result ≡ starts_word token.now }
 {
     match token {
@@ -88,7 +88,7 @@ pub fn starts_word_of(token: &[u8]) -> bool
     }
 }
 
-pub fn is_label_of(token: &[u8]) -> bool
+pub(crate) fn is_label_of(token: &[u8]) -> bool
     ensures { result ≡ is_label token.now }
 {
     match token {

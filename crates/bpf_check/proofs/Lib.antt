@@ -2,3 +2,4 @@ pub mod Faults
 mod RefusalLemmas
 pub mod ListingNumbers
 pub mod ListingFaults
+pub mod ListingText

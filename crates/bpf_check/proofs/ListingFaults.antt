@@ -1,11 +1,15 @@
 -- Which fault is the first, and that a listing has none.
-use Rattle.std.proofs.Common.{◌≡◌, ℕ, zero, suc, ◌+◌, ◌-◌, ◌<◌, ◌≤◌, ◌⊎◌, inl, inr, List, [], ◌∷◌, ◌++◌, length, map, get_or, Option, Some, Result, Ok, Err, MatchResult, refl, ap, sym, ◌∙◌, subst, arith}
-use Rattle.std.specs.Prelude.{slice_get}
+use Rattle.std.proofs.Common.{◌≡◌, ℕ, zero, suc, ◌+◌, ◌-◌, ◌<◌, ◌≤◌, ◌⊎◌, inl, inr, List, [], ◌∷◌, ◌++◌, length, map, drop, get_or, Option, Some, None, Result, Ok, Err, MatchResult, refl, ap, sym, ◌∙◌, subst, arith}
+use Rattle.std.specs.Prelude.{slice_get, IfSome, IsSomeAnd}
+use Rattle.std.proofs.lemmas.List.{length_push}
 use Rattle.std.proofs.lemmas.Option.{slice_get_within, slice_get-get_or}
 use Rattle.bpf_check.specs.declared.insn.Insn.{Insn}
 use Rattle.bpf_check.specs.declared.listing.ListingFault.{ListingFault}
 use Rattle.bpf_check.specs.declared.listing.ListingFault.TheVariants.{BadCount, BadLine, OutOfRange, TooLong, Missing, Extra, NoMemory}
-use Rattle.bpf_check.specs.Listing.{words, value, Says, SaysAt, fields, InRange, IsListing, IsAnswer, LineFault, CountFault, NotFour, FourTooLarge, IsTooLarge, FaultIn, HasFault, NoneBefore}
+use Rattle.bpf_check.specs.Insn.{InRange}
+use Rattle.bpf_check.proofs.ListingNumbers.{lt_or_le}
+use Rattle.bpf_check.specs.LineReading.{LineFault, CountFault, NoText, IsFirstText}
+use Rattle.bpf_check.specs.Listing.{words, value, Says, SaysAt, fields, IsListing, IsAnswer, NotFour, FourTooLarge, IsTooLarge, FaultIn, HasFault, NoneBefore}
 
 some_same : {A : Type 0} (o : Option A) (x y : A) → o ≡ Some x → o ≡ Some y → x ≡ y
 some_same o x y p q = cc
@@ -79,20 +83,6 @@ none_further ls count place i none counted below says range (Extra line) h =
     let e = one_count ls count h.0 counted h.1 in omega (arith, h.2)
 none_further ls count place i none counted below says range NoMemory h = absurd h
 
-pub none_extra : (ls : List (List ℕ)) (count at : ℕ) (l : List ℕ) → NoneBefore ls (at + 1) → SaysAt ls 0 (count ∷ []) → count + 1 ≤ at → slice_get ls at ≡ Some l → words l ≡ [] → NoneBefore ls (at + 1 + 1)
-none_extra ls count at l none counted after found blank BadCount h = absurd (omega (arith, none BadCount h))
-none_extra ls count at l none counted after found blank TooLong h = absurd (omega (arith, none TooLong h))
-none_extra ls count at l none counted after found blank Missing h = let w = slice_get_within ls at l found in omega arith
-none_extra ls count at l none counted after found blank (BadLine line) h =
-    let low = none (BadLine line) h in let e = one_count ls count h.count counted h.counted in absurd (omega (arith, h.below))
-none_extra ls count at l none counted after found blank (OutOfRange line) h =
-    let low = none (OutOfRange line) h in let e = one_count ls count h.count counted h.counted in absurd (omega (arith, h.below))
-none_extra ls count at l none counted after found blank (Extra line) h =
-    let low = none (Extra line) h in
-    differs (at + 1) line (at + 1 + 1) (omega arith) low (λ e. let place : line - 1 ≡ at = omega arith in
-    h.5 (ap words (some_same (slice_get ls at) h.3 l (ap (slice_get ls) (sym place) ∙ h.4) found) ∙ blank))
-none_extra ls count at l none counted after found blank NoMemory h = absurd h
-
 there : (p : List Insn) (n : ℕ) → n < length p → (i : Insn) × (slice_get p n ≡ Some i)
 there p n h = let d : Insn = record { code = 0; jt = 0; jf = 0; k = 0 } in (get_or p n d, slice_get-get_or p n d h)
 
@@ -156,7 +146,7 @@ count_answer ls l Missing found h = absurd h
 count_answer ls l (BadLine line) found h = absurd h
 count_answer ls l (OutOfRange line) found h = absurd h
 count_answer ls l (Extra line) found h = absurd h
-count_answer ls l NoMemory found h = tt
+count_answer ls l NoMemory found h = absurd h
 
 line_fault : (ls : List (List ℕ)) (count place line : ℕ) (l : List ℕ) (P : List ℕ → Type 0) → SaysAt ls 0 (count ∷ []) → place < count → slice_get ls (place + 1) ≡ Some l → line ≡ place + 2 → P l → FaultIn ls line P
 line_fault ls count place line l P counted below found e h = record {
@@ -185,18 +175,12 @@ line_answer ls count place at l (OutOfRange line) none counted below found e h =
   first = none_at ls (place + 2) line (sym (h.0 ∙ e)) none;
 }
 line_answer ls count place at l (Extra line) none counted below found e h = absurd h
-line_answer ls count place at l NoMemory none counted below found e h = tt
+line_answer ls count place at l NoMemory none counted below found e h = absurd h
 
 pub missing_answer : (ls : List (List ℕ)) (count place : ℕ) → NoneBefore ls (place + 2) → SaysAt ls 0 (count ∷ []) → place < count → length ls ≤ place + 1 → IsAnswer ls Missing
 missing_answer ls count place none counted below few = record {
   has = (count, counted, omega arith);
   first = λ other h. (let low = none other h in omega arith);
-}
-
-pub extra_answer : (ls : List (List ℕ)) (count at : ℕ) (l : List ℕ) → NoneBefore ls (at + 1) → SaysAt ls 0 (count ∷ []) → count + 1 ≤ at → slice_get ls at ≡ Some l → (words l ≡ [] → ⊥) → IsAnswer ls (Extra (at + 1))
-extra_answer ls count at l none counted after found some = record {
-  has = (count, counted, omega arith, l, (let same : at + 1 - 1 ≡ at = omega arith in ap (slice_get ls) same ∙ found), some);
-  first = none;
 }
 
 push_cases : (p : List Insn) (new : Insn) (place : ℕ) (i : Insn) → slice_get (p ++ new ∷ []) place ≡ Some i → (slice_get p place ≡ Some i) ⊎ ((place ≡ length p) × (new ≡ i))
@@ -222,27 +206,116 @@ only_memory ls p (OutOfRange line) is a = absurd (no_fault ls p (OutOfRange line
 only_memory ls p (Extra line) is a = absurd (no_fault ls p (Extra line) is a.has)
 only_memory ls p NoMemory is a = refl
 
-pub finished : (ls : List (List ℕ)) (count m : ℕ) (p : List Insn) → SaysAt ls 0 (count ∷ []) → count ≤ 512 → count ≡ length p
-    → ((place : ℕ) (i : Insn) → slice_get p place ≡ Some i → SaysAt ls (place + 1) (fields i) × InRange i)
-    → ((at : ℕ) (l : List ℕ) → count < at → at < m → slice_get ls at ≡ Some l → words l ≡ []) → length ls ≤ m → IsListing ls p
-finished ls count m p counted short long each rest end = record {
-  count = subst (λ (n : ℕ). SaysAt ls 0 (n ∷ [])) long counted;
-  short = omega arith;
-  each = each;
-  rest = λ at l after found. (let inside = slice_get_within ls at l found in rest at l (omega arith) (omega arith) found);
-}
+pub only_answer : {V : Type 0} (items : V → List Insn) (r : Result V ListingFault) (ls : List (List ℕ)) → MatchResult r (λ v. IsListing ls (items v)) (λ f. IsAnswer ls f) → (p : List Insn) → IsListing ls p → MatchResult r (λ v. items v ≡ p) (λ f. f ≡ NoMemory)
+only_answer items (Ok v) ls h p is = one_listing ls (items v) p h is
+only_answer items (Err f) ls h p is = only_memory ls p f is h
+
+-- ---- a text, line by line
+
+-- the lines from n on begin with this one
+pub next_is : {X : Type 0} (ls : List X) (n : ℕ) (l : X) (more : List X) → drop n ls ≡ l ∷ more → (slice_get ls n ≡ Some l) × (drop (suc n) ls ≡ more) × (n < length ls)
+next_is [] zero l more e = absurd (cc)
+next_is [] (suc n) l more e = absurd (cc)
+next_is (x ∷ ls) zero l more e = (cc, cc, omega arith)
+next_is (x ∷ ls) (suc n) l more e = let h = next_is ls n l more e in (h.0, h.1, omega (arith, h.2))
+
+-- no line is left from n on
+pub none_left : {X : Type 0} (ls : List X) (n : ℕ) → drop n ls ≡ [] → length ls ≤ n
+none_left [] n e = omega arith
+none_left (x ∷ ls) zero e = absurd (cc)
+none_left (x ∷ ls) (suc n) e = omega (arith, none_left ls n e)
+
+from_drop : {X : Type 0} (ls : List X) (n k at : ℕ) → at ≡ n + k → slice_get (drop n ls) k ≡ slice_get ls at
+from_drop ls zero k at e = let same : k ≡ at = omega arith in ap (slice_get ls) same
+from_drop [] (suc n) k at e = refl
+from_drop (x ∷ ls) (suc n) k zero e = absurd (omega arith)
+from_drop (x ∷ ls) (suc n) k (suc at) e = from_drop ls n k at (omega arith)
+
+-- what is left behind the line
+pub left_more : (ls rest after : List (List ℕ)) (n m : ℕ) (l : List ℕ) → drop n ls ≡ rest → rest ≡ l ∷ after → m ≡ suc n → drop m ls ≡ after
+left_more ls rest after n m l left e next = ap (λ (k : ℕ). drop k ls) next ∙ (next_is ls n l after (left ∙ e)).1
+
+pub here : (ls rest after : List (List ℕ)) (n : ℕ) (l : List ℕ) → drop n ls ≡ rest → rest ≡ l ∷ after → slice_get ls n ≡ Some l
+here ls rest after n l left e = (next_is ls n l after (left ∙ e)).0
+
+pub inside : (ls rest after : List (List ℕ)) (n : ℕ) (l : List ℕ) → drop n ls ≡ rest → rest ≡ l ∷ after → n < length ls
+inside ls rest after n l left e = (next_is ls n l after (left ∙ e)).2
 
 lt_cases : (a m : ℕ) → a < m + 1 → (a < m) ⊎ (m ≡ a)
 lt_cases a m h = grind arith
 
-pub rest_more : (ls : List (List ℕ)) (count m : ℕ) (t : List ℕ) → ((at : ℕ) (l : List ℕ) → count < at → at < m → slice_get ls at ≡ Some l → words l ≡ []) → slice_get ls m ≡ Some t → words t ≡ []
-    → (at : ℕ) (l : List ℕ) → count < at → at < m + 1 → slice_get ls at ≡ Some l → words l ≡ []
-rest_more ls count m t rest here blank at l after below found =
-    elim (lt_cases at m below) [
-      | inl h ↦ rest at l after h found
-      | inr e ↦ ap words (some_same (slice_get ls at) l t found (ap (slice_get ls) (sym e) ∙ here)) ∙ blank
+-- one more line has no word
+pub blank_more : (ls : List (List ℕ)) (m : ℕ) (t : List ℕ) → ((n : ℕ) (l : List ℕ) → n < m → slice_get ls n ≡ Some l → words l ≡ []) → slice_get ls m ≡ Some t → words t ≡ []
+    → (n : ℕ) (l : List ℕ) → n < m + 1 → slice_get ls n ≡ Some l → words l ≡ []
+blank_more ls m t before found blank n l below has =
+    elim (lt_cases n m below) [
+      | inl h ↦ before n l h has
+      | inr e ↦ ap words (some_same (slice_get ls n) l t has (ap (slice_get ls) (sym e) ∙ found)) ∙ blank
     ]
 
-pub only_answer : {V : Type 0} (items : V → List Insn) (r : Result V ListingFault) (ls : List (List ℕ)) → MatchResult r (λ v. IsListing ls (items v)) (λ f. IsAnswer ls f) → (p : List Insn) → IsListing ls p → MatchResult r (λ v. items v ≡ p) (λ f. f ≡ NoMemory)
-only_answer items (Ok v) ls h p is = one_listing ls (items v) p h is
-only_answer items (Err f) ls h p is = only_memory ls p f is h
+pub blank_all : (ls : List (List ℕ)) (m : ℕ) → ((n : ℕ) (l : List ℕ) → n < m → slice_get ls n ≡ Some l → words l ≡ []) → drop m ls ≡ [] → NoText ls
+blank_all ls m before left n l has =
+    let w = slice_get_within ls n l has in
+    let e = none_left ls m left in
+    before n l (omega arith) has
+
+not_less : (m n : ℕ) → (m < n → ⊥) → n ≤ m
+not_less m n h = elim (lt_or_le m n) [ inl l ↦ absurd (h l) | inr l ↦ l ]
+
+-- where the lines behind the instructions have a word, the text has this fault first
+pub extra_answer : (ls rest : List (List ℕ)) (count more line : ℕ) → NoneBefore ls (count + 2) → SaysAt ls 0 (count ∷ []) → count < length ls → drop (count + 1) ls ≡ rest → IsFirstText rest more → line ≡ count + 2 + more → IsAnswer ls (Extra line)
+extra_answer ls rest count more line none counted inside left text e = record { has = has; first = first }
+  where
+    at : (k n : ℕ) → n ≡ count + 1 + k → slice_get rest k ≡ slice_get ls n
+    at k n same = ap (λ (xs : List (List ℕ)). slice_get xs k) (sym left) ∙ from_drop ls (count + 1) k n same
+
+    has : HasFault ls (Extra line)
+    has = (count, counted, omega arith, text.line, sym (at more (line - 1) (omega arith)) ∙ text.found, text.some)
+
+    early : (other : ℕ) (l : List ℕ) → count + 2 ≤ other → slice_get ls (other - 1) ≡ Some l → (words l ≡ [] → ⊥) → other < line → ⊥
+    early other l low found some before =
+        some (text.before (other - 1 - (count + 1)) l (omega arith) (at (other - 1 - (count + 1)) (other - 1) (omega arith) ∙ found))
+
+    first : NoneBefore ls line
+    first BadCount h = absurd (omega (arith, none BadCount h))
+    first TooLong h = absurd (omega (arith, none TooLong h))
+    first Missing h = let c = one_count ls count h.0 counted h.1 in absurd (omega (arith, h.2))
+    first (BadLine n) h = let low = none (BadLine n) h in let c = one_count ls count h.count counted h.counted in absurd (omega (arith, h.below))
+    first (OutOfRange n) h = let low = none (OutOfRange n) h in let c = one_count ls count h.count counted h.counted in absurd (omega (arith, h.below))
+    first (Extra n) h =
+        let low = none (Extra n) h in
+        not_less n line (early n h.3 low h.4 h.5)
+    first NoMemory h = absurd h
+
+-- where no line behind the instructions has a word, the text has no fault
+pub memory_answer : (ls rest : List (List ℕ)) (count : ℕ) → NoneBefore ls (count + 2) → SaysAt ls 0 (count ∷ []) → count ≤ 512 → count < length ls → drop (count + 1) ls ≡ rest → NoText rest → IsAnswer ls NoMemory
+memory_answer ls rest count none counted short inside left blank BadCount h = h count counted
+memory_answer ls rest count none counted short inside left blank TooLong h = let c = one_count ls count h.0 counted h.1 in omega (arith, h.2)
+memory_answer ls rest count none counted short inside left blank Missing h = let c = one_count ls count h.0 counted h.1 in omega (arith, h.2)
+memory_answer ls rest count none counted short inside left blank (BadLine n) h = let low = none (BadLine n) h in let c = one_count ls count h.count counted h.counted in omega (arith, h.below)
+memory_answer ls rest count none counted short inside left blank (OutOfRange n) h = let low = none (OutOfRange n) h in let c = one_count ls count h.count counted h.counted in omega (arith, h.below)
+memory_answer ls rest count none counted short inside left blank (Extra n) h =
+    let low = none (Extra n) h in
+    h.5 (blank (n - 1 - (count + 1)) h.3 (ap (λ (xs : List (List ℕ)). slice_get xs (n - 1 - (count + 1))) (sym left) ∙ from_drop ls (count + 1) (n - 1 - (count + 1)) (n - 1) (omega arith) ∙ h.4))
+memory_answer ls rest count none counted short inside left blank NoMemory h = h
+
+-- the instructions of the lines are those of a listing
+pub finished : (ls rest : List (List ℕ)) (count : ℕ) (p : List Insn) → SaysAt ls 0 (count ∷ []) → count ≤ 512 → count ≡ length p
+    → ((place : ℕ) (i : Insn) → slice_get p place ≡ Some i → SaysAt ls (place + 1) (fields i) × InRange i) → drop (count + 1) ls ≡ rest → NoText rest → IsListing ls p
+finished ls rest count p counted short long each left blank = record {
+  count = subst (λ (n : ℕ). SaysAt ls 0 (n ∷ [])) long counted;
+  short = omega arith;
+  each = each;
+  rest = λ at l after found. blank (at - (count + 1)) l (ap (λ (xs : List (List ℕ)). slice_get xs (at - (count + 1))) (sym left) ∙ from_drop ls (count + 1) (at - (count + 1)) at (omega arith) ∙ found);
+}
+
+-- what is kept has one more instruction
+pub kept_more : {V : Type 0} (items : V → List Insn) (old new : Option V) (ls : List (List ℕ)) (place : ℕ) (i : Insn) → IfSome new (λ v. IsSomeAnd old (λ u. items v ≡ items u ++ i ∷ []))
+    → IfSome old (λ u. (length (items u) ≡ place) × ((at : ℕ) (j : Insn) → slice_get (items u) at ≡ Some j → SaysAt ls (at + 1) (fields j) × InRange j)) → SaysAt ls (place + 1) (fields i) → InRange i
+    → IfSome new (λ v. (length (items v) ≡ place + 1) × ((at : ℕ) (j : Insn) → slice_get (items v) at ≡ Some j → SaysAt ls (at + 1) (fields j) × InRange j))
+kept_more items old None ls place i pushed before says range = tt
+kept_more items None (Some v) ls place i pushed before says range = absurd pushed
+kept_more items (Some u) (Some v) ls place i pushed before says range = (
+  ap length pushed ∙ length_push (items u) i ∙ ap (λ (n : ℕ). n + 1) before.0,
+  rw pushed (each_more ls (items u) i before.1 (rw before.0 says) range),
+)

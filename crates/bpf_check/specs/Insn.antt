@@ -1,7 +1,15 @@
--- Equality of instructions, by their fields.
-use Rattle.std.specs.Prelude.{Bool, ◌==◌}
+-- Instructions: the ranges of their numbers, and equality by their fields.
+use Rattle.std.specs.Prelude.{◌≡◌, ℕ, ◌<◌, ◌^◌, List, Some, slice_get, Bool, ◌==◌}
 use Rattle.std.specs.Ordering.{on, eq_of_both}
 use Rattle.bpf_check.specs.declared.insn.Insn.{Insn}
+
+-- each number is within its field
+abbrev pub InRange : Insn → Type 0
+InRange i = (i.code < 2 ^ 16) × (i.jt < 2 ^ 8) × (i.jf < 2 ^ 8) × (i.k < 2 ^ 32)
+
+-- each number of each instruction is within its field
+abbrev pub AreInRange : List Insn → Type 0
+AreInRange p = (place : ℕ) (i : Insn) → slice_get p place ≡ Some i → InRange i
 
 -- all four fields are equal
 abbrev pub same_insn : Insn → Insn → Bool

@@ -4,3 +4,4 @@ pub mod Refusal
 pub mod Insn
 pub mod Same
 pub mod Listing
+pub mod LineReading

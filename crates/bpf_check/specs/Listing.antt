@@ -1,9 +1,10 @@
 -- Listings: which text stands for which instructions, and which faults a text has.
 -- A text is seen by its lines, of which the first is at 0. Faults number lines from 1.
-use Rattle.std.specs.Prelude.{◌≡◌, ◌≢◌, ℕ, ◌+◌, ◌-◌, ◌*◌, ◌<◌, ◌≤◌, ◌^◌, ◌⊎◌, List, [], ◌∷◌, length, map, min, Option, Some, None, Bool, true, ◌||◌, not, slice_get, ◌==◌}
+use Rattle.std.specs.Prelude.{◌≡◌, ◌≢◌, ℕ, ◌+◌, ◌-◌, ◌*◌, ◌<◌, ◌≤◌, ◌^◌, ◌⊎◌, List, [], ◌∷◌, length, map, Option, Some, None, Bool, true, ◌||◌, not, slice_get, ◌==◌}
 use Rattle.std.specs.List.{slice_split, filter, list_all}
 use Rattle.std.specs.Char.{is_ascii_digit}
 use Rattle.bpf_check.specs.declared.insn.Insn.{Insn}
+use Rattle.bpf_check.specs.Insn.{InRange}
 use Rattle.bpf_check.specs.declared.listing.ListingFault.{ListingFault}
 use Rattle.bpf_check.specs.declared.listing.ListingFault.TheVariants.{BadCount, BadLine, OutOfRange, TooLong, Missing, Extra, NoMemory}
 
@@ -28,10 +29,6 @@ value_after n (c ∷ cs) = value_after (n * 10 + (c - 48)) cs
 abbrev pub value : List ℕ → ℕ
 value word = value_after 0 word
 
--- the value, or the largest of 64 bits where it is larger
-abbrev pub capped : List ℕ → ℕ
-capped word = min (value word) (2 ^ 64 - 1)
-
 -- digits alone
 abbrev pub is_numeral : List ℕ → Bool
 is_numeral word = list_all is_ascii_digit word
@@ -48,10 +45,6 @@ SaysAt ls at ns = (l : List ℕ) × (slice_get ls at ≡ Some l) × Says l ns
 -- the numbers of an instruction, in the order of a line
 abbrev pub fields : Insn → List ℕ
 fields i = i.code ∷ i.jt ∷ i.jf ∷ i.k ∷ []
-
--- each number is within its field
-abbrev pub InRange : Insn → Type 0
-InRange i = (i.code < 2 ^ 16) × (i.jt < 2 ^ 8) × (i.jf < 2 ^ 8) × (i.k < 2 ^ 32)
 
 -- the lines are a listing of the program
 pub record IsListing (ls : List (List ℕ)) (p : List Insn) : Type 0 where
@@ -111,24 +104,10 @@ pub record IsFirstFault (ls : List (List ℕ)) (fault : ListingFault) : Type 0 w
   pub has : HasFault ls fault
   pub first : NoneBefore ls (rank ls fault)
 
--- what a reader may answer in place of a program: no memory, or the first fault
+-- what a reader may answer in place of a program: the first fault, or no memory where the text has no fault
 abbrev pub IsAnswer : List (List ℕ) → ListingFault → Type 0
-IsAnswer ls NoMemory = Unit {0}
+IsAnswer ls NoMemory = (other : ListingFault) → HasFault ls other → ⊥
 IsAnswer ls fault = IsFirstFault ls fault
-
--- the fault of a line by itself, where the line is numbered so
-abbrev pub LineFault : List ℕ → ℕ → ListingFault → Type 0
-LineFault line at (BadLine n) = (n ≡ at) × NotFour line
-LineFault line at (OutOfRange n) = (n ≡ at) × FourTooLarge line
-LineFault line at NoMemory = Unit {0}
-LineFault line at _ = ⊥
-
--- the fault of the first line by itself
-abbrev pub CountFault : List ℕ → ListingFault → Type 0
-CountFault line BadCount = (n : ℕ) → Says line (n ∷ []) → ⊥
-CountFault line TooLong = (n : ℕ) × Says line (n ∷ []) × (512 < n)
-CountFault line NoMemory = Unit {0}
-CountFault line _ = ⊥
 
 -- the number of a fault
 abbrev pub fault_number : ListingFault → ℕ

@@ -2,6 +2,7 @@
 
 ghost use Rattle.std.specs.Prelude.{◌≡◌, ◌==◌, ◌<◌, ◌≤◌, ◌↔◌, length, IsOk, IfOk, IfErr, IfSome, IfNone, IsTrue, IsSomeAnd, MatchResult, Some, None, false};
 ghost use Rattle.bpf_check.specs.Accepted.{IsFine, IsAccepted, IsFaultAt, IsFirstFault, IsReturn};
+ghost use Rattle.bpf_check.specs.Insn.{InRange, AreInRange};
 ghost use Rattle.bpf_check.specs.Operation.{operation_of};
 ghost use Rattle.bpf_check.specs.Refusal.{refusal};
 
@@ -52,12 +53,13 @@ impl Model for Checked {
     ghost use Rattle.std.specs.Prelude.{List};
     ghost use Rattle.bpf_check.specs.declared.insn.Insn.{Insn};
     ghost use Rattle.bpf_check.specs.Accepted.{IsAccepted};
+    ghost use Rattle.bpf_check.specs.Insn.{AreInRange};
 
     ghost Value = { List Insn };
 
     ghost view = { λ c. c.insns.items };
 
-    ghost invariant = { λ c. IsAccepted c.insns.items };
+    ghost invariant = { λ c. IsAccepted c.insns.items × AreInRange c.insns.items };
 }
 
 impl PartialEq for Checked {
@@ -113,6 +115,7 @@ impl Checked {
     pub fn insns(&self) -> &[Insn]
         ensures same { result.now ≡ self.now }
         ensures accepted { IsAccepted self.now }
+        ensures range { AreInRange self.now }
     {
         &self.insns
     }
@@ -136,6 +139,7 @@ impl Checked {
 // The first fault of a program, if it has one.
 fn first_fault(insns: &[Insn]) -> Option<CheckFault>
     ensures none { IfNone result (IsAccepted insns.now) }
+    ensures range { IfNone result (AreInRange insns.now) }
     ensures some { IfSome result (λ fault. IsFirstFault insns.now fault) }
 {
     if insns.is_empty() {
@@ -172,8 +176,10 @@ fn fault_in(insn: &Insn, place: usize, count: usize) -> Option<CheckFault>
     requires inside { place < count }
     requires short { count ≤ MOST_INSNS }
     ensures none { IfNone result (IsFine count place insn.now) }
+    ensures range { InRange insn.now }
     ensures some { IfSome result (λ fault. IsFaultAt count place insn.now fault) }
 {
+    insn.is_in_range();
     let Some(operation) = decode(insn.code) else {
         return Some(CheckFault::UnknownCode(place));
     };

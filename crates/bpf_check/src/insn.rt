@@ -1,5 +1,7 @@
 //! One instruction.
 
+ghost use Rattle.bpf_check.specs.Insn.{InRange};
+
 /// An instruction of classic BPF, as the four numbers that it is written with.
 #[derive(Clone, Copy, Debug, PartialEq, Eq)]
 pub struct Insn {
@@ -11,4 +13,16 @@ pub struct Insn {
     pub jf: u8,
     /// The constant, the place in the packet or in scratch memory, or the distance of a plain jump.
     pub k: u32,
+}
+
+impl Insn {
+    // The numbers of an instruction are within their fields.
+    pub(crate) fn is_in_range(&self)
+        ensures { InRange self.now }
+    {
+        let _code = self.code;
+        let _jt = self.jt;
+        let _jf = self.jf;
+        let _k = self.k;
+    }
 }

@@ -2,15 +2,17 @@
 //! with its code, its two distances and its constant. All numbers are decimal; spaces and tabs part
 //! them, and may begin and end a line.
 
-ghost use Rattle.std.specs.Prelude.{◌≡◌, ◌==◌, ℕ, ◌+◌, ◌<◌, ◌≤◌, ◌^◌, List, [], ◌∷◌, length, map, true, false, IfOk, IfErr, MatchResult, MatchOption, IsTrue, ◌↔◌};
-ghost use Rattle.std.specs.List.{slice_split, list_all};
+ghost use Rattle.std.specs.Prelude.{◌≡◌, ℕ, ◌+◌, ◌<◌, ◌≤◌, List, [], ◌∷◌, ◌++◌, length, map, true, false, IfOk, IfErr, IfSome, IsSomeAnd, MatchResult, MatchOption, IsTrue, ◌↔◌};
+ghost use Rattle.std.specs.List.{position};
 ghost use Rattle.std.specs.Str.Lines.{lines, strip_carriage_return};
 ghost use Rattle.bpf_check.specs.declared.insn.Insn.{Insn};
-ghost use Rattle.bpf_check.specs.Listing.{is_blank, words, is_numeral, value, Says, fields, IsListing, IsAnswer, LineFault, CountFault, InRange, IsTooLarge, capped, fault_number, fault_line};
+ghost use Rattle.bpf_check.specs.Insn.{InRange};
+ghost use Rattle.bpf_check.specs.LineReading.{is_line_feed, is_text, capped, NoNumber, Begins, NotOne, IsOne, AreFour, LineFault, CountFault, NoText, IsFirstText};
+ghost use Rattle.bpf_check.specs.Listing.{is_blank, words, is_numeral, Says, fields, NotFour, IsListing, IsAnswer, IsTooLarge, fault_number, fault_line};
 
 use crate::checked::MOST_INSNS;
 use crate::insn::Insn;
-use std::alloc::{AllocError, AllocFailed, Global};
+use std::alloc::{AllocError, Global};
 use thiserror::Error;
 
 /// Why a listing is refused. A number is a line's, counted from 1.
@@ -68,33 +70,11 @@ impl ListingFault {
     }
 }
 
-impl From<AllocError> for ListingFault {
-    ghost use Rattle.std.specs.Prelude.{◌≡◌};
-    ghost use Rattle.bpf_check.specs.declared.listing.ListingFault.TheVariants.{NoMemory};
-
-    ghost from_gives = { λ _ e. e ≡ NoMemory };
-
-    fn from(_: AllocError) -> Self {
-        ListingFault::NoMemory
-    }
-}
-
-impl<T: Drop> From<AllocFailed<T>> for ListingFault {
-    ghost use Rattle.std.specs.Prelude.{◌≡◌};
-    ghost use Rattle.bpf_check.specs.declared.listing.ListingFault.TheVariants.{NoMemory};
-
-    ghost from_gives = { λ _ e. e ≡ NoMemory };
-
-    fn from(_: AllocFailed<T>) -> Self {
-        ListingFault::NoMemory
-    }
-}
-
-// The parts of a text between its line feeds.
-fn parts_of(alloc: Global, text: &[u8]) -> Result<Vec<&[u8]>, AllocError>
-    ensures { IfOk result (λ v. map (λ x. x.now) v.items ≡ slice_split (λ c. c == 10) text.now) }
+// Where the first line feed lies.
+fn line_feed_in(text: &[u8]) -> Option<usize>
+    ensures { result ≡ position is_line_feed text.now }
 {
-    text.split(|c| *c == b'\n').collect(alloc)
+    text.iter().position(|c| *c == b'\n')
 }
 
 // A line without the carriage return at its end.
@@ -107,30 +87,62 @@ fn stripped(line: &[u8]) -> &[u8]
     }
 }
 
+// The first line of a text, if it has one, and the text behind it: a line ends with LF, which the
+// last one may lack, and a CR before LF is dropped.
+fn next_line(text: &[u8]) -> Option<(&[u8], &[u8])>
+    ensures lines { MatchOption result (lines text.now ≡ [])
+        (λ split. lines text.now ≡ split.0.now ∷ lines split.1.now) }
+    ensures shorter { IfSome result (λ split. length split.1.now < length text.now) }
+{
+    if text.is_empty() {
+        return None;
+    }
+    let Some(end) = line_feed_in(text) else {
+        return Some((text, &[]));
+    };
+    Some((stripped(&text[..end]), &text[end + 1..]))
+}
+
 /// The lines of a text: each ends with LF, which the last one may lack, and a CR before LF is dropped.
 pub fn lines_of(alloc: Global, text: &[u8]) -> Result<Vec<&[u8]>, AllocError>
     ensures { IfOk result (λ v. map (λ x. x.now) v.items ≡ lines text.now) }
 {
-    let parts = parts_of(alloc, text)?;
     let mut lines = Vec::new(alloc);
-    for i in 0..parts.len() {
-        let part = parts[i];
-        if i + 1 < parts.len() {
-            lines.push(stripped(part))?;
-        } else if !part.is_empty() {
-            lines.push(part)?;
-        }
+    let mut rest = text;
+    while let Some((line, after)) = next_line(rest) {
+        lines.push(line)?;
+        rest = after;
     }
     Ok(lines)
 }
 
-// The words of a line, which blanks part.
-fn words_of(alloc: Global, line: &[u8]) -> Result<Vec<&[u8]>, AllocError>
-    ensures { IfOk result (λ v. map (λ x. x.now) v.items ≡ words line.now) }
+// Where the first octet of a word lies.
+fn text_in(line: &[u8]) -> Option<usize>
+    ensures { result ≡ position is_text line.now }
 {
-    line.split(|c| *c == b' ' || *c == b'\t')
-        .filter(|part| !part.is_empty())
-        .collect(alloc)
+    line.iter().position(|c| !(*c == b' ' || *c == b'\t'))
+}
+
+// Where the first blank lies.
+fn blank_in(line: &[u8]) -> Option<usize>
+    ensures { result ≡ position is_blank line.now }
+{
+    line.iter().position(|c| *c == b' ' || *c == b'\t')
+}
+
+// The first word of a line, if it has one, and what stands behind it.
+fn next_word(line: &[u8]) -> Option<(&[u8], &[u8])>
+    ensures { MatchOption result (words line.now ≡ [])
+        (λ split. words line.now ≡ split.0.now ∷ words split.1.now) }
+{
+    let Some(start) = text_in(line) else {
+        return None;
+    };
+    let word = &line[start..];
+    let Some(end) = blank_in(word) else {
+        return Some((word, &[]));
+    };
+    Some((&word[..end], &word[end + 1..]))
 }
 
 // The number of a word, or the largest where it is larger.
@@ -148,42 +160,53 @@ fn number_of(word: &[u8]) -> Option<u64>
     Some(n)
 }
 
-// The numbers that words spell.
-fn numbers_in(alloc: Global, words: &[&[u8]]) -> Result<Option<Vec<u64>>, AllocError>
-    ensures { IfOk result (λ found. MatchOption found (list_all is_numeral (map (λ x. x.now) words.now) ≡ false)
-        (λ v. (list_all is_numeral (map (λ x. x.now) words.now) ≡ true)
-        × (v.items ≡ map capped (map (λ x. x.now) words.now)))) }
+// The number that a line begins with, and what stands behind it.
+fn next_number(line: &[u8]) -> Option<(u64, &[u8])>
+    ensures { MatchOption result (NoNumber (words line.now))
+        (λ split. Begins (words line.now) split.0 (words split.1.now)) }
 {
-    let mut numbers = Vec::new(alloc);
-    for word in words {
-        let Some(n) = number_of(*word) else {
-            return Ok(None);
-        };
-        numbers.push(n)?;
-    }
-    Ok(Some(numbers))
+    let (word, rest) = next_word(line)?;
+    let n = number_of(word)?;
+    Some((n, rest))
 }
 
-// The numbers of a line.
-fn numbers_of(alloc: Global, line: &[u8]) -> Result<Option<Vec<u64>>, AllocError>
-    ensures { IfOk result (λ found. MatchOption found (list_all is_numeral (words line.now) ≡ false)
-        (λ v. (list_all is_numeral (words line.now) ≡ true) × (v.items ≡ map capped (words line.now)))) }
+// Whether a line has no word.
+fn is_empty_line(line: &[u8]) -> bool
+    ensures { IsTrue result ↔ (words line.now ≡ []) }
 {
-    let words = words_of(alloc, line)?;
-    numbers_in(alloc, words.as_slice())
+    next_word(line).is_none()
+}
+
+// The number of a line with just one.
+fn only_number(line: &[u8]) -> Option<u64>
+    ensures { MatchOption result (NotOne line.now) (λ n. IsOne line.now n) }
+{
+    let (n, rest) = next_number(line)?;
+    if is_empty_line(rest) { Some(n) } else { None }
+}
+
+// The numbers of a line with just four.
+fn four_numbers(line: &[u8]) -> Option<(u64, u64, u64, u64)>
+    ensures { MatchOption result (NotFour line.now) (λ n. AreFour line.now n.0 n.1 n.2 n.3) }
+{
+    let (code, rest) = next_number(line)?;
+    let (jt, rest) = next_number(rest)?;
+    let (jf, rest) = next_number(rest)?;
+    let (k, rest) = next_number(rest)?;
+    if is_empty_line(rest) {
+        Some((code, jt, jf, k))
+    } else {
+        None
+    }
 }
 
 // How many instructions the first line says.
-fn count_of(alloc: Global, line: &[u8]) -> Result<usize, ListingFault>
+fn count_of(line: &[u8]) -> Result<usize, ListingFault>
     ensures { MatchResult result (λ n. Says line.now (n ∷ []) × (n ≤ 512)) (λ fault. CountFault line.now fault) }
 {
-    let Some(numbers) = numbers_of(alloc, line)? else {
+    let Some(count) = only_number(line) else {
         return Err(ListingFault::BadCount);
     };
-    if numbers.len() != 1 {
-        return Err(ListingFault::BadCount);
-    }
-    let count = numbers[0];
     if count > MOST_INSNS as u64 {
         return Err(ListingFault::TooLong);
     }
@@ -204,64 +227,79 @@ fn insn_with(code: u64, jt: u64, jf: u64, k: u64) -> Option<Insn>
 }
 
 // The instruction that the line of this number spells.
-fn insn_of(alloc: Global, line: &[u8], at: usize) -> Result<Insn, ListingFault>
+fn insn_of(line: &[u8], at: usize) -> Result<Insn, ListingFault>
     ensures { MatchResult result (λ i. Says line.now (fields i) × InRange i) (λ fault. LineFault line.now at fault) }
 {
-    let Some(numbers) = numbers_of(alloc, line)? else {
+    let Some((code, jt, jf, k)) = four_numbers(line) else {
         return Err(ListingFault::BadLine(at));
     };
-    if numbers.len() != 4 {
-        return Err(ListingFault::BadLine(at));
-    }
-    match insn_with(numbers[0], numbers[1], numbers[2], numbers[3]) {
+    match insn_with(code, jt, jf, k) {
         Some(insn) => Ok(insn),
         None => Err(ListingFault::OutOfRange(at)),
     }
 }
 
-// Whether a line has no word.
-fn is_empty_line(alloc: Global, line: &[u8]) -> Result<bool, AllocError>
-    ensures { IfOk result (λ b. IsTrue b ↔ (words line.now ≡ [])) }
+// Puts an instruction behind the others, as long as there is memory for all of them.
+fn keep(kept: Option<Vec<Insn>>, insn: Insn) -> Option<Vec<Insn>>
+    ensures { IfSome result (λ new. IsSomeAnd kept (λ old. new.items ≡ old.items ++ insn ∷ [])) }
 {
-    let words = words_of(alloc, line)?;
-    Ok(words.is_empty())
+    let mut insns = kept?;
+    insns.push(insn).ok()?;
+    Some(insns)
 }
 
-// What the lines stand for.
-fn read(alloc: Global, lines: &[&[u8]]) -> Result<Vec<Insn>, ListingFault>
-    ensures { MatchResult result (λ v. IsListing (map (λ x. x.now) lines.now) v.items)
-        (λ fault. IsAnswer (map (λ x. x.now) lines.now) fault) }
+// How many lines stand before the first one with a word.
+fn first_text_in(text: &[u8]) -> Option<usize>
+    ensures place { MatchOption result (NoText (lines text.now)) (λ at. IsFirstText (lines text.now) at) }
+    ensures within { IfSome result (λ at. at < length text.now) }
 {
-    let Some(first) = lines.get(0) else {
+    let mut rest = text;
+    let mut at = 0;
+    while let Some((line, after)) = next_line(rest) {
+        if !is_empty_line(line) {
+            return Some(at);
+        }
+        rest = after;
+        at += 1;
+    }
+    None
+}
+
+// What a text stands for.
+fn read(alloc: Global, text: &[u8]) -> Result<Vec<Insn>, ListingFault>
+    ensures { MatchResult result (λ v. IsListing (lines text.now) v.items) (λ fault. IsAnswer (lines text.now) fault) }
+{
+    let Some((first, behind)) = next_line(text) else {
         return Err(ListingFault::BadCount);
     };
-    let count = count_of(alloc, *first)?;
-    let mut insns = Vec::new(alloc);
+    let count = count_of(first)?;
+    let mut rest = behind;
+    let mut kept = Some(Vec::new(alloc));
     for place in 0..count {
-        let Some(line) = lines.get(place + 1) else {
+        let Some((line, after)) = next_line(rest) else {
             return Err(ListingFault::Missing);
         };
-        insns.push(insn_of(alloc, *line, place + 2)?)?;
+        kept = keep(kept, insn_of(line, place + 2)?);
+        rest = after;
     }
-    for at in count + 1..lines.len() {
-        let blank = is_empty_line(alloc, lines[at])?;
-        if !blank {
-            return Err(ListingFault::Extra(at + 1));
-        }
+    if let Some(more) = first_text_in(rest) {
+        return Err(ListingFault::Extra(count + 2 + more));
     }
-    Ok(insns)
+    match kept {
+        Some(insns) => Ok(insns),
+        None => Err(ListingFault::NoMemory),
+    }
 }
 
 /// The instructions of a listing, or its first fault.
 ///
 /// A fault of the count comes first, then those of the lines from the top; `Missing` comes where a
-/// line isn't there.
+/// line isn't there. `NoMemory` comes only where the text has no fault.
 pub fn read_listing(alloc: Global, text: &[u8]) -> Result<Vec<Insn>, ListingFault>
     ensures listing { IfOk result (λ v. IsListing (lines text.now) v.items) }
     ensures only { (p : List Insn) → IsListing (lines text.now) p
         → MatchResult result (λ v. v.items ≡ p) (λ fault. fault ≡ ListingFault.NoMemory) }
     ensures fault { IfErr result (λ fault. IsAnswer (lines text.now) fault) }
 {
-    let lines = lines_of(alloc, text)?;
-    read(alloc, lines.as_slice())
+    read(alloc, text)
 }

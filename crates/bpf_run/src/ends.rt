@@ -14,4 +14,6 @@ pub struct End {
 pub enum Socket {
     /// The socket for the Internet Cache Protocol (RFC 2186).
     Icp,
+    /// The socket for the Hyper Text Caching Protocol (RFC 2756).
+    Htcp,
 }

@@ -1,6 +1,5 @@
 -- The text of a script, line by line.
 use Rattle.std.proofs.Common.{◌≡◌, ℕ, Bool, true, false, cond, is_some, List, [], ◌∷◌, ◌++◌, refl, ap, ◌∙◌, sym}
-use Rattle.bpf_run.specs.declared.ends.End.{End}
 use Rattle.node_core.specs.declared.action.Action.{Action}
 use Rattle.node_core.specs.Settings.{Setup, setup_fault}
 use Rattle.node_core.specs.Happening.{Happening}
@@ -9,7 +8,7 @@ use Rattle.node_core.specs.PlainNode.{PlainNode}
 use Rattle.node_core.specs.State.{State, opening, HasTaken, state_after, actions_at}
 use Rattle.feed_script.specs.ScriptLine.{ScriptLine, sets, goes, happens, refuses, inquires, blank, wrong, script_of}
 use Rattle.feed_script.specs.Printed.{actions_text, refuse_text, stats_text}
-use Rattle.feed_script.specs.Script.{setting, started, well_placed, usual, set_by, settings_from, after_go, event_of, events_of, woven, run_text, text}
+use Rattle.feed_script.specs.Script.{setting, started, well_placed, usual, set_by, settings_from, after_go, OwnEnds, own_ends, event_of, events_of, woven, run_text, text}
 use Rattle.feed_script.specs.Ahead.{preparing, running, text_ahead}
 
 -- what is known of a node: one event after another
@@ -21,7 +20,7 @@ pub record NodeLaws : Type 0 where
       → answers old.plain old.filters (event ∷ events) ≡ actions_at old event ∷ answers (state_after old event).plain (state_after old event).filters events
 
 -- the answers to all events, woven, are those that come line by line
-ahead-running : (laws : NodeLaws) (start : State) (own : End) (past : List Happening) (outs : List (List Action)) (mid : State) (ls : List ScriptLine) → HasTaken start mid past outs
+ahead-running : (laws : NodeLaws) (start : State) (own : OwnEnds) (past : List Happening) (outs : List (List Action)) (mid : State) (ls : List ScriptLine) → HasTaken start mid past outs
     → text_ahead (running own mid) ls ≡ woven start own past (well_placed started ls) (answers mid.plain mid.filters (events_of own (well_placed started ls)))
 ahead-running laws start own past outs mid [] h = refl
 ahead-running laws start own past outs mid (sets x ∷ ls) h = refl
@@ -51,9 +50,9 @@ taken-nothing s = record { plain = refl; filters = refl; stats = refl; sent = re
 
 -- the start, where the settings have no fault, or a wrong line where they have one
 ahead-go : (laws : NodeLaws) (s : Setup) (ls : List ScriptLine) (faulty : Bool)
-    → cond faulty [] ([] ++ text_ahead (running s.settings.icp (opening s)) ls)
+    → cond faulty [] ([] ++ text_ahead (running (own_ends s.settings) (opening s)) ls)
     ≡ run_text (settings_from s (cond faulty [] (goes ∷ well_placed started ls))) (after_go (cond faulty [] (goes ∷ well_placed started ls)))
-ahead-go laws s ls false = ahead-running laws (opening s) s.settings.icp [] [] (opening s) ls (taken-nothing (opening s))
+ahead-go laws s ls false = ahead-running laws (opening s) (own_ends s.settings) [] [] (opening s) ls (taken-nothing (opening s))
 ahead-go laws s ls true = refl
 
 ahead-setup : (laws : NodeLaws) (s : Setup) (ls : List ScriptLine)

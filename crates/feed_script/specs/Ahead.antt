@@ -1,9 +1,9 @@
 -- What is still to be printed, for lines that are still to come.
 -- These words serve the contracts of private functions.
 use Rattle.std.specs.Prelude.{◌≡◌, ℕ, ◌+◌, false, List, [], ◌∷◌, ◌++◌, Option, Some, None, if◌then◌else◌}
-use Rattle.bpf_run.specs.declared.ends.End.{End}
 use Rattle.node_core.specs.Settings.{Setup, setup_of}
 use Rattle.node_core.specs.State.{State, opening, actions_at, state_after}
+use Rattle.feed_script.specs.declared.station.Station.{Station}
 use Rattle.feed_script.specs.declared.phase.Phase.{Phase}
 use Rattle.feed_script.specs.declared.phase.Phase.TheVariants.{Before, Running}
 use Rattle.feed_script.specs.declared.engine.Engine.{Engine}
@@ -12,16 +12,20 @@ use Rattle.feed_script.specs.declared.engine.Stop.TheVariants.{Line, NoMemory}
 use Rattle.feed_script.specs.ScriptLine.{ScriptLine, sets, goes, happens, refuses, inquires, script_of}
 use Rattle.feed_script.specs.Printed.{actions_text, refuse_text, stats_text}
 use Rattle.feed_script.specs.Written.{EndsWithBreak, NoBreak}
-use Rattle.feed_script.specs.Script.{Stage, setting, started, is_misplaced, first_misplaced, set_by, event_of}
+use Rattle.feed_script.specs.Script.{Stage, setting, started, is_misplaced, first_misplaced, set_by, OwnEnds, own_ends, event_of}
 
 -- what is known between two lines: settings before the start, and a node after it
 pub data Standing : Type 0 where
   preparing : Setup → Standing
-  running : (own : End) (state : State) → Standing
+  running : (own : OwnEnds) (state : State) → Standing
+
+-- the own ends that a station keeps
+abbrev pub ends_of : Station → OwnEnds
+ends_of station = record { icp = station.icp; htcp = station.htcp }
 
 abbrev pub standing_of : Phase → Standing
 standing_of (Before config) = preparing (setup_of config)
-standing_of (Running station) = running station.own station.node
+standing_of (Running station) = running (ends_of station) station.node
 
 abbrev pub stage_of : Standing → Stage
 stage_of (preparing s) = setting s
@@ -38,7 +42,7 @@ printed _ _ = []
 -- what is known after one line
 abbrev pub next : Standing → ScriptLine → Standing
 next (preparing s) (sets x) = preparing (set_by s x)
-next (preparing s) goes = running s.settings.icp (opening s)
+next (preparing s) goes = running (own_ends s.settings) (opening s)
 next (running own state) (happens o) = running own (state_after state (event_of own o))
 next standing _ = standing
 

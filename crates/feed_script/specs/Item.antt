@@ -16,7 +16,7 @@ script_line_of (item.Limits entries octets) = sets (limits entries octets)
 script_line_of (item.AddKey key) = sets (has_key key)
 script_line_of (item.AddNeighbour neighbour) = sets (has_neighbour neighbour)
 script_line_of item.Go = goes
-script_line_of (item.Receive from payload now) = happens (receives from payload.items now)
+script_line_of (item.Receive by from payload now) = happens (receives by from payload.items now)
 script_line_of (item.Take event) = happens (takes (happening event))
 script_line_of (item.Refuse fault) = refuses fault
 script_line_of item.Ask = inquires
@@ -25,5 +25,5 @@ script_line_of item.Wrong = wrong
 
 -- a datagram of an item isn't too long
 abbrev pub IsShort : Item → Type 0
-IsShort (item.Receive from payload now) = length payload.items ≤ 65507
+IsShort (item.Receive by from payload now) = length payload.items ≤ 65507
 IsShort _ = Unit {0}

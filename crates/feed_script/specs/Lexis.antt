@@ -8,6 +8,8 @@ use Rattle.std.specs.Str.{bytes_eq}
 use Rattle.hex.specs.Hex.{decode_of}
 use Rattle.bpf_check.specs.declared.insn.Insn.{Insn}
 use Rattle.bpf_run.specs.declared.ends.End.{End}
+use Rattle.bpf_run.specs.declared.ends.Socket.{Socket}
+use Rattle.bpf_run.specs.declared.ends.Socket.TheVariants.{Icp, Htcp}
 use Rattle.neighbours.specs.declared.neighbour.Role.{Role}
 use Rattle.neighbours.specs.declared.neighbour.Role.TheVariants.{Sibling, Parent}
 use Rattle.node_core.specs.declared.config.Network.{Network}
@@ -109,6 +111,10 @@ program text = insns_of (slice_split (λ c. c == 59) text)
 -- `on` or `off`
 abbrev pub switch : List ℕ → Option Bool
 switch text = if bytes_eq text (codes "on") then Some true else if bytes_eq text (codes "off") then Some false else None
+
+-- `icp` or `htcp`
+abbrev pub socket : List ℕ → Option Socket
+socket text = if bytes_eq text (codes "icp") then Some Icp else if bytes_eq text (codes "htcp") then Some Htcp else None
 
 -- `sibling` or `parent`
 abbrev pub role : List ℕ → Option Role

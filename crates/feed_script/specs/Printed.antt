@@ -6,7 +6,7 @@ use Rattle.bpf_check.specs.declared.checked.CheckFault.{CheckFault}
 use Rattle.bpf_check.specs.declared.checked.CheckFault.TheVariants.{Empty, TooLong, UnknownCode, ZeroDivisor, BadScratch, BadJump, NoReturn}
 use Rattle.bpf_run.specs.declared.ends.End.{End}
 use Rattle.bpf_run.specs.declared.ends.Socket.{Socket}
-use Rattle.bpf_run.specs.declared.ends.Socket.TheVariants.{Icp}
+use Rattle.bpf_run.specs.declared.ends.Socket.TheVariants.{Icp, Htcp}
 use Rattle.node_core.specs.declared.action.Action.{Action}
 use Rattle.node_core.specs.declared.action.Action.TheVariants.{Send, Fetch, Serve}
 use Rattle.node_core.specs.declared.action.Answer.{Answer}
@@ -34,6 +34,7 @@ end_text end = address_text end.addr ++ codes ":" ++ decimal end.port
 -- the name of a socket
 abbrev pub socket_text : Socket → List ℕ
 socket_text Icp = codes "icp"
+socket_text Htcp = codes "htcp"
 
 -- a source: a neighbour's place, or the origin
 abbrev pub source_text : Source → List ℕ

@@ -1,7 +1,8 @@
 -- The text that a script is answered with, and its first wrong line.
 use Rattle.std.specs.Prelude.{ℕ, ◌+◌, Bool, true, false, is_some, List, [], ◌∷◌, ◌++◌, Option, Some, None, if◌then◌else◌}
 use Rattle.bpf_run.specs.declared.ends.End.{End}
-use Rattle.bpf_run.specs.declared.ends.Socket.TheVariants.{Icp}
+use Rattle.bpf_run.specs.declared.ends.Socket.{Socket}
+use Rattle.bpf_run.specs.declared.ends.Socket.TheVariants.{Icp, Htcp}
 use Rattle.pending_fetch.specs.Fetches.{PendingFetch}
 use Rattle.node_core.specs.declared.action.Action.{Action}
 use Rattle.node_core.specs.Settings.{Settings, Setup, setup_fault}
@@ -90,13 +91,28 @@ after_go [] = []
 after_go (goes ∷ ls) = ls
 after_go (_ ∷ ls) = after_go ls
 
--- the event that a line tells of: a datagram comes to the own end
-abbrev pub event_of : End → Occurrence → Happening
-event_of own (receives from payload now) = arrives (record { socket = Icp; from = from; to = own; payload = payload }) now
+-- the own ends of both sockets
+pub record OwnEnds : Type 0 where
+  pub icp : End
+  pub htcp : End
+
+-- those of these settings
+abbrev pub own_ends : Settings → OwnEnds
+own_ends s = record { icp = s.icp; htcp = s.htcp }
+
+-- the own end of a socket
+abbrev pub own_end : OwnEnds → Socket → End
+own_end own Icp = own.icp
+own_end own Htcp = own.htcp
+
+-- the event that a line tells of: a datagram comes to the own end of its socket
+abbrev pub event_of : OwnEnds → Occurrence → Happening
+event_of own (receives by from payload now) =
+    arrives (record { socket = by; from = from; to = own_end own by; payload = payload }) now
 event_of own (takes event) = event
 
 -- all events, in order
-abbrev pub events_of : End → List ScriptLine → List Happening
+abbrev pub events_of : OwnEnds → List ScriptLine → List Happening
 events_of own [] = []
 events_of own (happens o ∷ ls) = event_of own o ∷ events_of own ls
 events_of own (_ ∷ ls) = events_of own ls
@@ -107,7 +123,7 @@ pending_after start events = (run_node start.plain (kept start.filters events)).
 
 -- the answers to all events, printed, each with the keys of the fetches that are pending after its event, and with the refused
 -- programs and the counters over the events before at their places
-abbrev pub woven : State → End → List Happening → List ScriptLine → List (List Action) → List ℕ
+abbrev pub woven : State → OwnEnds → List Happening → List ScriptLine → List (List Action) → List ℕ
 woven start own past [] answered = []
 woven start own past (happens o ∷ ls) [] = []
 woven start own past (happens o ∷ ls) (a ∷ answered) =
@@ -119,7 +135,8 @@ woven start own past (_ ∷ ls) answered = woven start own past ls answered
 -- the text of the lines after the start: all events are gathered first
 abbrev pub run_text : Setup → List ScriptLine → List ℕ
 run_text s ls =
-    woven (opening s) s.settings.icp [] ls (answers (opening s).plain (opening s).filters (events_of s.settings.icp ls))
+    let own = own_ends s.settings in
+    woven (opening s) own [] ls (answers (opening s).plain (opening s).filters (events_of own ls))
 
 -- the text of lines that are all in place
 abbrev pub text_of_lines : List ScriptLine → List ℕ

@@ -7,7 +7,7 @@ use Rattle.bpf_check.specs.declared.insn.Insn.{Insn}
 use Rattle.bpf_check.specs.declared.checked.CheckFault.{CheckFault}
 use Rattle.bpf_check.specs.Refusal.{refusal}
 use Rattle.bpf_run.specs.declared.ends.End.{End}
-use Rattle.bpf_run.specs.declared.ends.Socket.TheVariants.{Icp}
+use Rattle.bpf_run.specs.declared.ends.Socket.{Socket}
 use Rattle.neighbours.specs.declared.key.Key.{Key}
 use Rattle.neighbours.specs.declared.neighbour.Neighbour.{Neighbour}
 use Rattle.neighbours.specs.declared.neighbour.Role.{Role}
@@ -16,7 +16,7 @@ use Rattle.node_core.specs.declared.config.Network.{Network}
 use Rattle.node_core.specs.declared.event.Mode.{Mode}
 use Rattle.node_core.specs.declared.event.Outcome.TheVariants.{Object, Failed}
 use Rattle.node_core.specs.Happening.{Happening, asks, ticks, ends, leaves, swaps}
-use Rattle.feed_script.specs.Lexis.{number, address, end_at, network, octets, program, switch, role, mode, name, key, object}
+use Rattle.feed_script.specs.Lexis.{number, address, end_at, network, octets, program, switch, socket, role, mode, name, key, object}
 
 -- the own address; one more network whose queries are answered; whether MISS_NOFETCH is answered in place of MISS; whether the
 -- node fetches from origins; the most entries and octets of the store; one more signing key; or one more neighbour
@@ -29,9 +29,9 @@ pub data Setting : Type 0 where
   has_key : (key : Key) → Setting
   has_neighbour : (neighbour : Neighbour) → Setting
 
--- a datagram comes to the ICP socket, or an event that the line tells whole
+-- a datagram comes to a socket, or an event that the line tells whole
 pub data Occurrence : Type 0 where
-  receives : (from : End) (payload : List ℕ) (now : ℕ) → Occurrence
+  receives : (socket : Socket) (from : End) (payload : List ℕ) (now : ℕ) → Occurrence
   takes : (event : Happening) → Occurrence
 
 -- a setting, the start, an event, a program that is refused, a question for the counters, nothing, or no line of the format
@@ -89,21 +89,19 @@ two_words word a =
     else if bytes_eq word (codes "g") then gone_line (number 18446744073709551615 a)
     else wrong
 
--- a program with its first fault, if it has one
-abbrev pub judged_line : List Insn → Option CheckFault → ScriptLine
-judged_line insns None = happens (takes (swaps Icp (Some insns)))
-judged_line insns (Some fault) = refuses fault
+-- a program for a socket's slot, with its first fault, if it has one
+abbrev pub judged_line : Socket → List Insn → Option CheckFault → ScriptLine
+judged_line slot insns None = happens (takes (swaps slot (Some insns)))
+judged_line slot insns (Some fault) = refuses fault
 
-abbrev pub program_line : Option (List Insn) → ScriptLine
-program_line None = wrong
-program_line (Some insns) = judged_line insns (refusal insns)
+abbrev pub program_line : Socket → Option (List Insn) → ScriptLine
+program_line slot None = wrong
+program_line slot (Some insns) = judged_line slot insns (refusal insns)
 
--- `s icp off`, `s icp <program>`
-abbrev pub swap_line : List ℕ → List ℕ → ScriptLine
-swap_line socket a =
-    if bytes_eq socket (codes "icp")
-    then (if bytes_eq a (codes "off") then happens (takes (swaps Icp None)) else program_line (program a))
-    else wrong
+-- `s icp|htcp off`, `s icp|htcp <program>`
+abbrev pub swap_line : Option Socket → List ℕ → ScriptLine
+swap_line None b = wrong
+swap_line (Some slot) b = if bytes_eq b (codes "off") then happens (takes (swaps slot None)) else program_line slot (program b)
 
 -- `limits <entries> <octets>`
 abbrev pub limits_line : Option ℕ → Option ℕ → ScriptLine
@@ -118,7 +116,7 @@ key_line text None = wrong
 -- each number of `limits` is at most 4,294,967,295
 abbrev pub three_words : List ℕ → List ℕ → List ℕ → ScriptLine
 three_words word a b =
-    if bytes_eq word (codes "s") then swap_line a b
+    if bytes_eq word (codes "s") then swap_line (socket a) b
     else if bytes_eq word (codes "limits") then limits_line (number 4294967295 a) (number 4294967295 b)
     else if bytes_eq word (codes "key") then key_line a (octets b)
     else wrong
@@ -133,15 +131,11 @@ abbrev pub four_words : List ℕ → List ℕ → List ℕ → List ℕ → Scri
 four_words word a b c =
     if bytes_eq word (codes "x") then failed_line (number 4294967295 a) (number 65535 b) (number 4294967295999 c) else wrong
 
--- a datagram has at most 65,507 octets
-abbrev pub datagram_line : Option End → Option (List ℕ) → Option ℕ → ScriptLine
-datagram_line (Some from) (Some payload) (Some now) = if nat_lt 65507 (length payload) then wrong else happens (receives from payload now)
-datagram_line _ _ _ = wrong
-
--- `d icp <from> <octets> <now>`
-abbrev pub socket_line : List ℕ → List ℕ → List ℕ → List ℕ → ScriptLine
-socket_line socket a b c =
-    if bytes_eq socket (codes "icp") then datagram_line (end_at a) (octets b) (number 4294967295999 c) else wrong
+-- `d icp|htcp <from> <octets> <now>`: a datagram has at most 65,507 octets
+abbrev pub datagram_line : Option Socket → Option End → Option (List ℕ) → Option ℕ → ScriptLine
+datagram_line (Some by) (Some from) (Some payload) (Some now) =
+    if nat_lt 65507 (length payload) then wrong else happens (receives by from payload now)
+datagram_line _ _ _ _ = wrong
 
 -- `r <client> shared|cached|private <key> <now>`
 abbrev pub request_line : Option ℕ → Option Mode → Option (List ℕ) → Option ℕ → ScriptLine
@@ -150,21 +144,21 @@ request_line _ _ _ _ = wrong
 
 abbrev pub five_words : List ℕ → List ℕ → List ℕ → List ℕ → List ℕ → ScriptLine
 five_words word a b c d =
-    if bytes_eq word (codes "d") then socket_line a b c d
+    if bytes_eq word (codes "d") then datagram_line (socket a) (end_at b) (octets c) (number 4294967295999 d)
     else if bytes_eq word (codes "r") then request_line (number 18446744073709551615 a) (mode b) (key c) (number 4294967295999 d)
     else wrong
 
--- a neighbour that is asked by ICP
-abbrev pub neighbour_line : Option Role → Option End → Option ℕ → Option ℕ → Option (List ℕ) → ScriptLine
-neighbour_line (Some kind) (Some end) (Some port) (Some weight) signer =
-    sets (has_neighbour (record { kind = kind; protocol = Icp; end = end; http_port = port; weight = weight; key = signer }))
-neighbour_line _ _ _ _ _ = wrong
+-- a neighbour that is asked by ICP or by HTCP
+abbrev pub neighbour_line : Option Role → Option Socket → Option End → Option ℕ → Option ℕ → Option (List ℕ) → ScriptLine
+neighbour_line (Some kind) (Some protocol) (Some end) (Some port) (Some weight) signer =
+    sets (has_neighbour (record { kind = kind; protocol = protocol; end = end; http_port = port; weight = weight; key = signer }))
+neighbour_line _ _ _ _ _ _ = wrong
 
--- `peer sibling|parent icp <end> <http port> <weight> <key name or ->`, the weight at most 4,294,967,295
+-- `peer sibling|parent icp|htcp <end> <http port> <weight> <key name or ->`, the weight at most 4,294,967,295
 abbrev pub seven_words : List ℕ → List ℕ → List ℕ → List ℕ → List ℕ → List ℕ → List ℕ → ScriptLine
-seven_words word a protocol b c d e =
+seven_words word a b c d e f =
     if bytes_eq word (codes "peer")
-    then (if bytes_eq protocol (codes "icp") then neighbour_line (role a) (end_at b) (number 65535 c) (number 4294967295 d) (name e) else wrong)
+    then neighbour_line (role a) (socket b) (end_at c) (number 65535 d) (number 4294967295 e) (name f)
     else wrong
 
 -- an object came of an attempt of a fetch

@@ -1,11 +1,11 @@
 //! The words of a line that name a choice, a key, an object or a moment.
 ghost use Rattle.std.specs.Prelude.{◌≡◌, IfOk};
 ghost use Rattle.std.specs.Option.{option_map};
-ghost use Rattle.feed_script.specs.Lexis.{number, switch, role, mode, name, key, status, object};
+ghost use Rattle.feed_script.specs.Lexis.{number, switch, socket, role, mode, name, key, status, object};
 
 use super::lexis::{number, octets, word};
 use bpf_run::moment::LAST_MOMENT;
-use filter_slots::Moment;
+use filter_slots::{Moment, Socket};
 use neighbours::{Octets, Role};
 use node_core::Mode;
 use object_store::{CacheKey, KeyFault, Object, SharedObject};
@@ -19,6 +19,19 @@ pub(crate) fn switch(text: &[u8]) -> Option<bool>
         Some(true)
     } else if text == b"off".as_slice() {
         Some(false)
+    } else {
+        None
+    }
+}
+
+/// `icp` or `htcp`.
+pub(crate) fn socket(text: &[u8]) -> Option<Socket>
+    ensures { result ≡ socket text.now }
+{
+    if text == b"icp".as_slice() {
+        Some(Socket::Icp)
+    } else if text == b"htcp".as_slice() {
+        Some(Socket::Htcp)
     } else {
         None
     }

@@ -1,10 +1,10 @@
 //! The lines that tell of an event.
 ghost use Rattle.std.specs.Prelude.{◌≡◌, IfOk, Some};
-ghost use Rattle.feed_script.specs.Lexis.{number, octets, end_at, mode, key, object};
+ghost use Rattle.feed_script.specs.Lexis.{number, octets, end_at, socket, mode, key, object};
 ghost use Rattle.feed_script.specs.Item.{script_line_of, IsShort};
 ghost use Rattle.feed_script.specs.ScriptLine.{timer_line, gone_line, program_line, swap_line, failed_line, datagram_line, request_line, object_line};
 
-use super::choice::{client, key, mode, moment, object};
+use super::choice::{client, key, mode, moment, object, socket};
 use super::item::Item;
 use super::lexis::{half, octets, read_end, word};
 use super::program::{judged, read_program};
@@ -38,36 +38,36 @@ pub(crate) fn gone_item(a: &[u8]) -> Item
     }
 }
 
-// A program that is put into the slot, or refused.
-fn program_item(alloc: Global, insns: Vec<Insn>) -> Result<Item, AllocError>
-    ensures line { IfOk result (λ item. script_line_of item ≡ program_line (Some insns.items)) }
+// A program that is put into a socket's slot, or refused.
+fn program_item(alloc: Global, socket: Socket, insns: Vec<Insn>) -> Result<Item, AllocError>
+    ensures line { IfOk result (λ item. script_line_of item ≡ program_line socket (Some insns.items)) }
     ensures short { IfOk result (λ item. IsShort item) }
 {
     match judged(insns) {
         Ok(checked) => Ok(Item::Take(Event::Swap {
-            socket: Socket::Icp,
+            socket,
             program: Some(Arc::new(alloc, checked)?),
         })),
         Err(fault) => Ok(Item::Refuse(fault)),
     }
 }
 
-/// `s icp off`, `s icp <program>`.
-pub(crate) fn swap_item(alloc: Global, socket: &[u8], a: &[u8]) -> Result<Item, AllocError>
-    ensures line { IfOk result (λ item. script_line_of item ≡ swap_line socket.now a.now) }
+/// `s icp|htcp off`, `s icp|htcp <program>`.
+pub(crate) fn swap_item(alloc: Global, a: &[u8], b: &[u8]) -> Result<Item, AllocError>
+    ensures line { IfOk result (λ item. script_line_of item ≡ swap_line (socket a.now) b.now) }
     ensures short { IfOk result (λ item. IsShort item) }
 {
-    if socket != b"icp".as_slice() {
+    let Some(socket) = socket(a) else {
         return Ok(Item::Wrong);
-    }
-    if a == b"off".as_slice() {
+    };
+    if b == b"off".as_slice() {
         return Ok(Item::Take(Event::Swap {
-            socket: Socket::Icp,
+            socket,
             program: None,
         }));
     }
-    match read_program(alloc, a)? {
-        Some(insns) => program_item(alloc, insns),
+    match read_program(alloc, b)? {
+        Some(insns) => program_item(alloc, socket, insns),
         None => Ok(Item::Wrong),
     }
 }
@@ -88,19 +88,35 @@ pub(crate) fn failed_item(a: &[u8], b: &[u8], c: &[u8]) -> Item
     }
 }
 
-/// `d icp <from> <octets> <now>`.
-pub(crate) fn datagram_item(alloc: Global, a: &[u8], b: &[u8], c: &[u8]) -> Result<Item, AllocError>
-    ensures line { IfOk result (λ item. script_line_of item ≡ datagram_line (end_at a.now) (octets b.now) (number 4294967295999 c.now)) }
+/// `d icp|htcp <from> <octets> <now>`.
+pub(crate) fn datagram_item(
+    alloc: Global,
+    a: &[u8],
+    b: &[u8],
+    c: &[u8],
+    d: &[u8],
+) -> Result<Item, AllocError>
+    ensures line { IfOk result (λ item. script_line_of item
+        ≡ datagram_line (socket a.now) (end_at b.now) (octets c.now) (number 4294967295999 d.now)) }
     ensures short { IfOk result (λ item. IsShort item) }
 {
-    let (Some(from), Some(payload), Some(now)) = (read_end(alloc, a)?, octets(alloc, b)?, moment(c))
-    else {
+    let (Some(socket), Some(from), Some(payload), Some(now)) = (
+        socket(a),
+        read_end(alloc, b)?,
+        octets(alloc, c)?,
+        moment(d),
+    ) else {
         return Ok(Item::Wrong);
     };
     if payload.len() > MOST_PAYLOAD {
         return Ok(Item::Wrong);
     }
-    Ok(Item::Receive { from, payload, now })
+    Ok(Item::Receive {
+        socket,
+        from,
+        payload,
+        now,
+    })
 }
 
 /// `r <client> shared|cached|private <key> <now>`.

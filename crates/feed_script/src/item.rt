@@ -1,7 +1,7 @@
 //! What one line of a script says.
 ghost use Rattle.std.specs.Prelude.{◌≡◌, IfOk, map};
 ghost use Rattle.feed_script.specs.Item.{script_line_of, IsShort};
-ghost use Rattle.feed_script.specs.ScriptLine.{script_line, one_word, two_words, three_words, four_words, five_words, seven_words, eight_words, socket_line, line_of_fields};
+ghost use Rattle.feed_script.specs.ScriptLine.{script_line, one_word, two_words, three_words, four_words, five_words, seven_words, eight_words, line_of_fields};
 
 use super::happening::{
     datagram_item, failed_item, gone_item, object_item, request_item, swap_item, timer_item,
@@ -11,7 +11,7 @@ use super::settings::{
     allow_item, key_item, limits_item, neighbour_item, nofetch_item, origin_item, own_item,
 };
 use bpf_check::CheckFault;
-use filter_slots::{End, Moment};
+use filter_slots::{End, Moment, Socket};
 use neighbours::{Key, Neighbour};
 use node_core::{Event, Network};
 use std::alloc::{AllocError, Global};
@@ -34,6 +34,7 @@ pub(crate) enum Item {
     AddNeighbour(Neighbour),
     Go,
     Receive {
+        socket: Socket,
         from: End,
         payload: Vec<u8>,
         now: Moment,
@@ -105,23 +106,6 @@ fn four_words(word: &[u8], a: &[u8], b: &[u8], c: &[u8]) -> Item
     }
 }
 
-fn socket_item(
-    alloc: Global,
-    socket: &[u8],
-    a: &[u8],
-    b: &[u8],
-    c: &[u8],
-) -> Result<Item, AllocError>
-    ensures line { IfOk result (λ item. script_line_of item ≡ socket_line socket.now a.now b.now c.now) }
-    ensures short { IfOk result (λ item. IsShort item) }
-{
-    if socket == b"icp".as_slice() {
-        datagram_item(alloc, a, b, c)
-    } else {
-        Ok(Item::Wrong)
-    }
-}
-
 fn five_words(
     alloc: Global,
     word: &[u8],
@@ -134,7 +118,7 @@ fn five_words(
     ensures short { IfOk result (λ item. IsShort item) }
 {
     if word == b"d".as_slice() {
-        socket_item(alloc, a, b, c, d)
+        datagram_item(alloc, a, b, c, d)
     } else if word == b"r".as_slice() {
         request_item(alloc, a, b, c, d)
     } else {
@@ -146,17 +130,17 @@ fn seven_words(
     alloc: Global,
     word: &[u8],
     a: &[u8],
-    protocol: &[u8],
     b: &[u8],
     c: &[u8],
     d: &[u8],
     e: &[u8],
+    f: &[u8],
 ) -> Result<Item, AllocError>
-    ensures line { IfOk result (λ item. script_line_of item ≡ seven_words word.now a.now protocol.now b.now c.now d.now e.now) }
+    ensures line { IfOk result (λ item. script_line_of item ≡ seven_words word.now a.now b.now c.now d.now e.now f.now) }
     ensures short { IfOk result (λ item. IsShort item) }
 {
-    if word == b"peer".as_slice() && protocol == b"icp".as_slice() {
-        neighbour_item(alloc, a, b, c, d, e)
+    if word == b"peer".as_slice() {
+        neighbour_item(alloc, a, b, c, d, e, f)
     } else {
         Ok(Item::Wrong)
     }

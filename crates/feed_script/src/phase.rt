@@ -5,13 +5,13 @@ ghost use Rattle.node_core.specs.State.{opening};
 ghost use Rattle.node_core.specs.Happening.{happening};
 ghost use Rattle.feed_script.specs.Item.{script_line_of, IsShort};
 ghost use Rattle.feed_script.specs.ScriptLine.{sets, goes, happens, refuses, inquires, receives, takes, owns, allows, denies_fetches, uses_origins, limits, has_key, has_neighbour, script_line};
-ghost use Rattle.feed_script.specs.Script.{is_misplaced, set_by, usual};
-ghost use Rattle.feed_script.specs.Ahead.{stage_of, standing_of, preparing, Moves, Obeys};
+ghost use Rattle.feed_script.specs.Script.{is_misplaced, set_by, usual, own_ends};
+ghost use Rattle.feed_script.specs.Ahead.{stage_of, standing_of, ends_of, preparing, Moves, Obeys};
 
 use super::item::{Item, read_line};
 use super::station::Station;
 use bpf_check::CheckFault;
-use filter_slots::{End, Moment};
+use filter_slots::{End, Moment, Socket};
 use neighbours::{Key, Neighbour};
 use node_core::{Config, Event, Network, Node, NodeFault};
 use std::alloc::{AllocError, Global};
@@ -84,13 +84,13 @@ fn add_neighbour(config: &mut Config, neighbour: Neighbour) -> Result<(), AllocE
 // The station of a configuration.
 fn started(alloc: Global, config: Config) -> Result<Station, Unobeyed>
     ensures node { IfOk result (λ station. station.node ≡ opening (setup_of config)) }
-    ensures own { IfOk result (λ station. station.own ≡ config.icp) }
+    ensures own { IfOk result (λ station. ends_of station ≡ own_ends (setup_of config).settings) }
     ensures faultless { OnOk result (setup_fault (setup_of config) ≡ None) }
     ensures wrong { result ≡ Err Unobeyed.Wrong → is_some (setup_fault (setup_of config)) ≡ true }
 {
-    let own = config.icp;
+    let (icp, htcp) = (config.icp, config.htcp);
     match Node::new(alloc, config) {
-        Ok(node) => match Station::new(alloc, node, own) {
+        Ok(node) => match Station::new(alloc, node, icp, htcp) {
             Ok(station) => Ok(station),
             Err(_) => Err(Unobeyed::Memory),
         },
@@ -218,20 +218,21 @@ impl Phase {
     fn receive(
         &mut self,
         alloc: Global,
+        socket: Socket,
         from: End,
         payload: Vec<u8>,
         now: Moment,
         out: &mut Vec<u8>,
     ) -> Result<(), Unobeyed>
         requires { length payload.items ≤ 65507 }
-        ensures ok { OnOk result (Obeys self.old (happens (receives from payload.items now)) out.old.items self.new out.new.items) }
-        ensures wrong { result ≡ Err Unobeyed.Wrong → is_misplaced (stage_of (standing_of self.old)) (happens (receives from payload.items now)) ≡ true }
+        ensures ok { OnOk result (Obeys self.old (happens (receives socket from payload.items now)) out.old.items self.new out.new.items) }
+        ensures wrong { result ≡ Err Unobeyed.Wrong → is_misplaced (stage_of (standing_of self.old)) (happens (receives socket from payload.items now)) ≡ true }
         ensures err { OnErr result (out.new.items ≡ out.old.items) }
     {
         let Phase::Running(station) = self else {
             return Err(Unobeyed::Wrong);
         };
-        match station.receive(alloc, from, payload, now, out) {
+        match station.receive(alloc, socket, from, payload, now, out) {
             Ok(()) => Ok(()),
             Err(_) => Err(Unobeyed::Memory),
         }
@@ -298,7 +299,12 @@ impl Phase {
             Item::AddKey(key) => self.sign(key),
             Item::AddNeighbour(neighbour) => self.meet(neighbour),
             Item::Go => self.go(alloc),
-            Item::Receive { from, payload, now } => self.receive(alloc, from, payload, now, out),
+            Item::Receive {
+                socket,
+                from,
+                payload,
+                now,
+            } => self.receive(alloc, socket, from, payload, now, out),
             Item::Take(event) => self.take(alloc, &event, out),
             Item::Refuse(fault) => self.refuse(fault, out),
             Item::Ask => self.tell(out),

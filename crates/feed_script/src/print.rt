@@ -1,6 +1,6 @@
 //! What is printed.
 ghost use Rattle.std.specs.Prelude.{◌≡◌, ◌++◌, codes, decimal, OnOk};
-ghost use Rattle.feed_script.specs.Printed.{action_text, actions_text, address_text, answer_text, cached_text, counters_text, end_text, fault_words, field_text, key_text, octets_text, owner_text, refuse_text, source_text, stats_text};
+ghost use Rattle.feed_script.specs.Printed.{action_text, actions_text, address_text, answer_text, cached_text, counters_text, end_text, fault_words, field_text, key_text, octets_text, owner_text, refuse_text, socket_text, source_text, stats_text};
 
 use bpf_check::CheckFault;
 use filter_slots::{End, Socket};
@@ -47,11 +47,28 @@ fn push_end(out: &mut Vec<u8>, end: End) -> Result<(), AllocError>
     push_number(out, u64::from(end.port))
 }
 
-fn push_send(out: &mut Vec<u8>, alloc: Global, to: End, payload: &[u8]) -> Result<(), AllocError>
-    ensures { OnOk result (out.new.items
-        ≡ out.old.items ++ (codes "send icp " ++ end_text to ++ codes " " ++ octets_text payload.now ++ codes "\n")) }
+fn push_socket(out: &mut Vec<u8>, socket: Socket) -> Result<(), AllocError>
+    ensures { OnOk result (out.new.items ≡ out.old.items ++ socket_text socket) }
 {
-    out.extend_from_slice(b"send icp ")?;
+    match socket {
+        Socket::Icp => out.extend_from_slice(b"icp"),
+        Socket::Htcp => out.extend_from_slice(b"htcp"),
+    }
+}
+
+fn push_send(
+    out: &mut Vec<u8>,
+    alloc: Global,
+    socket: Socket,
+    to: End,
+    payload: &[u8],
+) -> Result<(), AllocError>
+    ensures { OnOk result (out.new.items ≡ out.old.items
+        ++ (codes "send " ++ socket_text socket ++ codes " " ++ end_text to ++ codes " " ++ octets_text payload.now ++ codes "\n")) }
+{
+    out.extend_from_slice(b"send ")?;
+    push_socket(out, socket)?;
+    out.extend_from_slice(b" ")?;
     push_end(out, to)?;
     out.extend_from_slice(b" ")?;
     push_octets(out, alloc, payload)?;
@@ -231,10 +248,10 @@ fn push_action(
 {
     match action {
         Action::Send {
-            socket: Socket::Icp,
+            socket,
             to,
             payload,
-        } => push_send(out, alloc, *to, payload.as_slice()),
+        } => push_send(out, alloc, *socket, *to, payload.as_slice()),
         Action::Fetch {
             fetch,
             attempt,

@@ -1,13 +1,12 @@
 //! The lines that set something.
 ghost use Rattle.std.specs.Prelude.{◌≡◌, IfOk};
-ghost use Rattle.feed_script.specs.Lexis.{number, address, end_at, network, octets, switch, role, name};
+ghost use Rattle.feed_script.specs.Lexis.{number, address, end_at, network, octets, switch, socket, role, name};
 ghost use Rattle.feed_script.specs.Item.{script_line_of, IsShort};
 ghost use Rattle.feed_script.specs.ScriptLine.{own_line, allow_line, nofetch_line, origin_line, limits_line, key_line, neighbour_line};
 
-use super::choice::{name, owned, role, switch};
+use super::choice::{name, owned, role, socket, switch};
 use super::item::Item;
 use super::lexis::{half, octets, read_address, read_end, read_network, word};
-use filter_slots::Socket;
 use neighbours::{Key, Neighbour, Octets};
 use std::alloc::{AllocError, Global};
 
@@ -79,7 +78,7 @@ pub(crate) fn key_item(alloc: Global, a: &[u8], b: &[u8]) -> Result<Item, AllocE
     Ok(Item::AddKey(Key { name, secret }))
 }
 
-/// `peer sibling|parent icp <end> <http port> <weight> <key name or ->`.
+/// `peer sibling|parent icp|htcp <end> <http port> <weight> <key name or ->`.
 pub(crate) fn neighbour_item(
     alloc: Global,
     a: &[u8],
@@ -87,23 +86,25 @@ pub(crate) fn neighbour_item(
     c: &[u8],
     d: &[u8],
     e: &[u8],
+    f: &[u8],
 ) -> Result<Item, AllocError>
     ensures line { IfOk result (λ item. script_line_of item
-        ≡ neighbour_line (role a.now) (end_at b.now) (number 65535 c.now) (number 4294967295 d.now) (name e.now)) }
+        ≡ neighbour_line (role a.now) (socket b.now) (end_at c.now) (number 65535 d.now) (number 4294967295 e.now) (name f.now)) }
     ensures short { IfOk result (λ item. IsShort item) }
 {
-    let (Some(kind), Some(end), Some(http_port), Some(weight)) = (
+    let (Some(kind), Some(protocol), Some(end), Some(http_port), Some(weight)) = (
         role(a),
-        read_end(alloc, b)?,
-        half(c),
-        word(d),
+        socket(b),
+        read_end(alloc, c)?,
+        half(d),
+        word(e),
     ) else {
         return Ok(Item::Wrong);
     };
-    let key = name(alloc, e)?;
+    let key = name(alloc, f)?;
     Ok(Item::AddNeighbour(Neighbour {
         kind,
-        protocol: Socket::Icp,
+        protocol,
         end,
         http_port,
         weight,

@@ -5,7 +5,8 @@ use std::alloc::{AllocError, Global};
 use std::test::Fail;
 
 // In scripts and texts of this page, `Z` stands for sixteen zero octets, `U` for the URL http://a/ with its zero octet, `Q` for
-// a query for it, and `R` for a reply of 10.0.0.1 with it, after the opcode.
+// a query for it, and `R` for a reply of 10.0.0.1 with it, after the opcode. `N` stands for an HTCP request NOP, `M` for the
+// answer to it, `T` for a TST of the first fetch with that URL, and `S` for a response that says it is stored.
 const ZEROS: &[u8] = b"00000000000000000000000000000000";
 
 const URL: &[u8] = b"687474703a2f2f612f00";
@@ -13,6 +14,15 @@ const URL: &[u8] = b"687474703a2f2f612f00";
 const QUERY: &[u8] = b"010200220000000100000000000000000000000000000000687474703a2f2f612f00";
 
 const REPLY: &[u8] = b"02001e0000000100000000000000000a000001687474703a2f2f612f00";
+
+const NOP: &[u8] = b"000e000000080002000000070002";
+
+const NOP_ANSWER: &[u8] = b"000e000000080001000000070002";
+
+const TST: &[u8] =
+    b"002a0000002410020000000100034745540009687474703a2f2f612f0008485454502f312e3100000002";
+
+const STORED: &[u8] = b"00140000000e1001000000010000000000000002";
 
 fn expanded(alloc: Global, text: &[u8]) -> Result<Vec<u8>, AllocError> {
     let mut whole = Vec::new(alloc);
@@ -22,6 +32,10 @@ fn expanded(alloc: Global, text: &[u8]) -> Result<Vec<u8>, AllocError> {
             b'U' => whole.extend_from_slice(URL)?,
             b'Q' => whole.extend_from_slice(QUERY)?,
             b'R' => whole.extend_from_slice(REPLY)?,
+            b'N' => whole.extend_from_slice(NOP)?,
+            b'M' => whole.extend_from_slice(NOP_ANSWER)?,
+            b'T' => whole.extend_from_slice(TST)?,
+            b'S' => whole.extend_from_slice(STORED)?,
             c => whole.push(c)?,
         }
     }
@@ -69,7 +83,7 @@ const FILTERED: &[u8] =
 const FILTERED_TEXT: &[u8] =
     b".\n.\n.\nsend icp 10.0.0.9:3130 03R\n.\nstats icp 2 1 0 0\nstats htcp 0 0 0 0\n";
 
-const CASES: [(&[u8], Result<(), FeedFault>, &[u8]); 21] = [
+const CASES: [(&[u8], Result<(), FeedFault>, &[u8]); 28] = [
     (FILTERED, Ok(()), FILTERED_TEXT),
     // A source that isn't allowed, and a URL that isn't one of http.
     (
@@ -144,6 +158,37 @@ const CASES: [(&[u8], Result<(), FeedFault>, &[u8]); 21] = [
     ),
     (b"go\ns  icp off\n", Err(FeedFault::Line(2)), b""),
     (b"go\n\ns icp off\r", Err(FeedFault::Line(3)), b""),
+    // A datagram comes to the own end of its socket, which the filter sees, and each socket has a filter of its own.
+    (
+        b"allow 10.0.0.0/8\ngo\ns htcp 40,0,0,22;21,0,1,4827;6,0,0,65535;6,0,0,0\ns icp 6,0,0,0\nd htcp 10.0.0.9:4827 N 5\nd icp 10.0.0.9:3130 Q 6\ns htcp 6,0,0,40\nd htcp 10.0.0.9:4827 N 7\ns htcp off\nd htcp 10.0.0.9:4827 N 8\n?\n",
+        Ok(()),
+        b".\n.\nsend htcp 10.0.0.9:4827 M\n.\n.\n.\n.\n.\nsend htcp 10.0.0.9:4827 M\n.\nstats icp 1 1 0 0\nstats htcp 3 0 1 1\n",
+    ),
+    (
+        b"go\ns htcp 52,0,0,0;6,0,0,0\ns htcp 6,0,0,0;7,0,0,0\n?\n",
+        Ok(()),
+        b"refuse 4 0\nrefuse 7 -\nstats icp 0 0 0 0\nstats htcp 0 0 0 0\n",
+    ),
+    // A neighbour is asked by HTCP, and has it.
+    (
+        b"peer sibling htcp 10.0.0.5:4827 3128 1 -\npeer parent icp 10.0.0.9:3130 8080 1 -\ngo\nr 1 shared http://a/ 1000\nd htcp 10.0.0.5:4827 S 1030\n",
+        Ok(()),
+        b"send htcp 10.0.0.5:4827 T\nsend icp 10.0.0.9:3130 010200220000000100000000000000000a00000100000000U\n.\nfetch 1 0 peer 0 cached - http://a/\n.\n",
+    ),
+    // Words that name no socket.
+    (
+        b"go\nd htc 10.0.0.9:4827 N 5\n",
+        Err(FeedFault::Line(2)),
+        b"",
+    ),
+    (b"go\ns udp off\n", Err(FeedFault::Line(2)), b""),
+    (
+        b"peer sibling udp 10.0.0.5:4827 3128 1 -\ngo\n",
+        Err(FeedFault::Line(1)),
+        b"",
+    ),
+    // A number above its field.
+    (b"go\ns htcp 65536,0,0,0\n", Err(FeedFault::Line(2)), b""),
 ];
 
 #[test]

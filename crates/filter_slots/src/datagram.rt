@@ -99,8 +99,8 @@ impl Datagram {
     }
 }
 
-// Two ends, octet by octet.
-fn both_ends(from: End, to: End) -> [u8; 12]
+/// Source address, source port, destination address and destination port, in network order.
+pub fn both_ends(from: End, to: End) -> [u8; 12]
     ensures { result ≡ ends_of from to }
 {
     let source = from.port.to_be_bytes();

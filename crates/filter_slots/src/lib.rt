@@ -10,7 +10,7 @@ pub mod slots;
 pub use bpf_check::Checked;
 pub use bpf_run::{End, Moment, Socket, Verdict};
 pub use cutting::cut;
-pub use datagram::Datagram;
+pub use datagram::{Datagram, both_ends};
 pub use slots::Slots;
 pub use std::alloc::AllocError as NoMemory;
 

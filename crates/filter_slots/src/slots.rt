@@ -18,6 +18,7 @@ use std::sync::Arc;
 #[derive(Drop)]
 pub struct Slots {
     icp: Option<Arc<Checked>>,
+    htcp: Option<Arc<Checked>>,
 }
 
 impl Model for Slots {
@@ -27,7 +28,7 @@ impl Model for Slots {
 
     ghost Value = { Filters };
 
-    ghost view = { λ s. record { icp = option_map (λ arc. arc_value arc) s.icp } };
+    ghost view = { λ s. record { icp = option_map (λ arc. arc_value arc) s.icp; htcp = option_map (λ arc. arc_value arc) s.htcp } };
 }
 
 impl Slots {
@@ -35,7 +36,10 @@ impl Slots {
     pub fn new() -> Slots
         ensures { result ≡ no_filters }
     {
-        Slots { icp: None }
+        Slots {
+            icp: None,
+            htcp: None,
+        }
     }
 
     /// Puts a program into the socket's slot, and gives the one that stood there.
@@ -45,6 +49,7 @@ impl Slots {
     {
         match socket {
             Socket::Icp => self.icp.replace(program),
+            Socket::Htcp => self.htcp.replace(program),
         }
     }
 
@@ -55,6 +60,7 @@ impl Slots {
     {
         match socket {
             Socket::Icp => self.icp.take(),
+            Socket::Htcp => self.htcp.take(),
         }
     }
 
@@ -65,6 +71,7 @@ impl Slots {
     {
         match socket {
             Socket::Icp => self.icp.as_ref(),
+            Socket::Htcp => self.htcp.as_ref(),
         }
     }
 
@@ -74,6 +81,9 @@ impl Slots {
         ensures accepted { AreAccepted self.now }
     {
         if let Some(program) = &self.icp {
+            let _ = program.insns();
+        }
+        if let Some(program) = &self.htcp {
             let _ = program.insns();
         }
     }
@@ -100,6 +110,7 @@ impl Slots {
     {
         Ok(Slots {
             icp: shared(&self.icp)?,
+            htcp: shared(&self.htcp)?,
         })
     }
 }

@@ -34,14 +34,15 @@ fn limit(rt: &HostRuntime, k: u32) -> Result<Arc<Checked>, Fail> {
     Ok(Arc::new(rt.alloc(), program)?)
 }
 
-fn query(rt: &HostRuntime) -> Result<Datagram, Fail> {
+// The query as it came in by this socket.
+fn query(rt: &HostRuntime, socket: Socket) -> Result<Datagram, Fail> {
     let payload = QUERY.to_vec(rt.alloc())?;
-    Ok(Datagram::new(Socket::Icp, FROM, TO, payload).map_err(|_| "too long")?)
+    Ok(Datagram::new(socket, FROM, TO, payload).map_err(|_| "too long")?)
 }
 
 #[test]
 fn verdicts_and_cuts(rt: HostRuntime) -> Result<(), Fail> {
-    let datagram = query(&rt)?;
+    let datagram = query(&rt, Socket::Icp)?;
     let mut slots = Slots::new();
     let empty = slots.force(&datagram);
     assert_eq!(rt; (empty.value, empty.steps), (4_294_967_295, 0));
@@ -78,13 +79,63 @@ fn slots_are_shared_and_emptied(rt: HostRuntime) -> Result<(), Fail> {
     assert!(rt; slots.installed(Socket::Icp).is_none());
     let kept = copy.installed(Socket::Icp).ok_or("the shared program")?;
     assert_eq!(rt; kept.insns().len(), 1);
-    assert_eq!(rt; copy.force(&query(&rt)?).value, 40);
+    assert_eq!(rt; copy.force(&query(&rt, Socket::Icp)?).value, 40);
+    Ok(())
+}
+
+// The verdict of an empty slot.
+const WHOLE: u32 = 4_294_967_295;
+
+// A slot, the limit that is put into it (none: it is cleared), the limit that it gives back, and
+// the verdicts on the query by ICP's socket and by HTCP's.
+type Row = (Socket, Option<u32>, Option<u32>, u32, u32);
+
+const STEPS: [Row; 7] = [
+    (Socket::Htcp, Some(40), None, WHOLE, 40),
+    (Socket::Icp, None, None, WHOLE, 40),
+    (Socket::Icp, Some(29), None, 29, 40),
+    (Socket::Htcp, Some(0), Some(40), 29, 0),
+    (Socket::Icp, None, Some(29), WHOLE, 0),
+    (Socket::Icp, Some(61), None, 61, 0),
+    (Socket::Htcp, None, Some(0), 61, WHOLE),
+];
+
+// The limit of a program that was put in.
+fn limit_of(program: Option<Arc<Checked>>) -> Option<u32> {
+    match program {
+        None => None,
+        Some(program) => Some(program.insns()[0].k),
+    }
+}
+
+// The verdicts on the query by ICP's socket and by HTCP's.
+fn verdicts(rt: &HostRuntime, slots: &Slots) -> Result<(u32, u32), Fail> {
+    let icp = slots.force(&query(rt, Socket::Icp)?).value;
+    let htcp = slots.force(&query(rt, Socket::Htcp)?).value;
+    Ok((icp, htcp))
+}
+
+#[test]
+fn slots_are_independent(rt: HostRuntime) -> Result<(), Fail> {
+    let mut slots = Slots::new();
+    let mut last = (WHOLE, WHOLE);
+    for (socket, put, old, icp, htcp) in STEPS {
+        let copy = slots.copy()?;
+        let given = match put {
+            None => slots.clear(socket),
+            Some(k) => slots.install(socket, limit(&rt, k)?),
+        };
+        assert_eq!(rt; limit_of(given), old, "{icp} {htcp}");
+        assert_eq!(rt; verdicts(&rt, &slots)?, (icp, htcp));
+        assert_eq!(rt; verdicts(&rt, &copy)?, last);
+        last = (icp, htcp);
+    }
     Ok(())
 }
 
 #[test]
 fn ends_and_length(rt: HostRuntime) -> Result<(), Fail> {
-    let ends = query(&rt)?.ends();
+    let ends = query(&rt, Socket::Icp)?.ends();
     assert_eq!(rt; ends, [10, 0, 0, 9, 0x0c, 0x3a, 192, 0, 2, 1, 0x12, 0xdb]);
     let payload = [7; 65_508].to_vec(rt.alloc())?;
     let refused = Datagram::new(Socket::Icp, FROM, TO, payload).err();

@@ -1,4 +1,4 @@
--- A message field by field, as the readers find it in octets.
+-- A message field by field, as the readers find it in octets. No public contract rests on it.
 use Rattle.std.specs.Prelude.{◌≡◌, ℕ, ◌≤◌, ◌/◌, ◌%◌, ◌==◌, List, length, drop, slice_index, Some}
 use Rattle.byteorder.specs.Endian.{big_number}
 use Rattle.htcp_packet.specs.Message.{Message}

@@ -26,7 +26,7 @@ pub fn read_as_spelled()
 {}
 
 /// The test of a signature, as a function, agrees with what a good signature is.
-pub fn good_by_its_octets()
+pub fn good_where_signed_so()
     ensures { (r : Received) (ends secret : List ℕ) (seconds : ℕ) → (sign_of r ends secret seconds ≡ Sign.Good) ↔ IsGood r ends secret seconds }
 {}
 

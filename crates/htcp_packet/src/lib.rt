@@ -14,7 +14,7 @@ mod verifying;
 mod writing;
 
 pub use fault::{EncodeFault, HtcpFault};
-pub use laws::{good_by_its_octets, one_message, read_as_spelled, verdict_of_signed};
+pub use laws::{good_where_signed_so, one_message, read_as_spelled, verdict_of_signed};
 pub use message::{Detail, Form, HtcpAuth, HtcpBody, HtcpView, Specifier};
 pub use reading::decode;
 pub use signing::sign;

@@ -1,9 +1,9 @@
 -- The table of neighbours as its rows: the configuration, and for each neighbour its smoothed time and its misses.
-use Rattle.std.specs.Prelude.{ℕ, ◌+◌, ◌-◌, ◌*◌, ◌/◌, ◌≤◌, min, Bool, nat_lt, ◌==◌, ◌&&◌, List, length, replicate, Option, Some, None, option_map, unwrap_or, slice_get, slice_set, find, position, true}
+use Rattle.std.specs.Prelude.{ℕ, ◌+◌, ◌-◌, ◌*◌, ◌/◌, ◌≤◌, min, Bool, nat_lt, ◌==◌, ◌&&◌, List, length, replicate, Option, Some, None, option_map, unwrap_or, slice_get, slice_set, find, position, true, false}
 use Rattle.std.specs.Str.{bytes_eq}
 use Rattle.bpf_run.specs.declared.ends.End.{End}
 use Rattle.bpf_run.specs.declared.ends.Socket.{Socket}
-use Rattle.bpf_run.specs.declared.ends.Socket.TheVariants.{Icp}
+use Rattle.bpf_run.specs.declared.ends.Socket.TheVariants.{Icp, Htcp}
 use Rattle.neighbours.specs.declared.neighbour.Neighbour.{Neighbour}
 use Rattle.neighbours.specs.declared.key.Key.{Key}
 use Rattle.neighbours.specs.declared.table.Mark.{Mark}
@@ -62,6 +62,9 @@ same_end a b = bytes_eq a.addr b.addr && (a.port == b.port)
 -- asked by the same protocol
 abbrev pub same_protocol : Socket → Socket → Bool
 same_protocol Icp Icp = true
+same_protocol Icp Htcp = false
+same_protocol Htcp Icp = false
+same_protocol Htcp Htcp = true
 
 -- the place of the neighbour with this protocol and end
 abbrev pub place_of : List Neighbour → Socket → End → Option ℕ

@@ -1,6 +1,6 @@
 //! The table of neighbours: what is configured, and what their replies tell.
 
-ghost use Rattle.std.specs.Prelude.{◌≡◌, ◌==◌, ◌<◌, ◌≤◌, ◌↔◌, ◌&&◌, length, IsTrue, IfOk, IfErr, OnOk, unwrap_or, replicate, option_copied, slice_get, position, find};
+ghost use Rattle.std.specs.Prelude.{◌≡◌, ◌==◌, ◌<◌, ◌≤◌, ◌↔◌, ◌&&◌, length, IsTrue, IsSome, IfOk, IfErr, OnOk, unwrap_or, replicate, option_copied, slice_get, position, find};
 ghost use Rattle.std.specs.Str.{bytes_eq};
 ghost use Rattle.neighbours.specs.declared.key.Key.{Key};
 ghost use Rattle.neighbours.specs.Rank.{before};
@@ -102,7 +102,9 @@ impl Table {
 
     /// The secret of the key with this name.
     pub fn secret(&self, name: &[u8]) -> Option<&[u8]>
-        ensures { option_copied result ≡ secret_of self.now.keys name.now }
+        ensures value { option_copied result ≡ secret_of self.now.keys name.now }
+        // A name that a key has is one of 1 to 255 octets.
+        ensures named { IsSome result → length name.now ≤ 255 }
     {
         secret_in(&self.keys, name)
     }
@@ -222,7 +224,8 @@ fn is_same_protocol(a: Socket, b: Socket) -> bool
     ensures { result ≡ same_protocol a b }
 {
     match (a, b) {
-        (Socket::Icp, Socket::Icp) => true,
+        (Socket::Icp, Socket::Icp) | (Socket::Htcp, Socket::Htcp) => true,
+        _ => false,
     }
 }
 

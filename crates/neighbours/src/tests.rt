@@ -95,3 +95,31 @@ fn times_and_misses(rt: HostRuntime) -> Result<(), AllocError> {
     assert!(rt; !table.before(Ranked { n: 0, s: 8 }, Ranked { n: 0, s: 8 }));
     Ok(())
 }
+
+// A neighbour that is asked by ICP at 10.0.0.2:3130, and one by HTCP at 10.0.0.3:4827.
+#[test]
+fn found_by_protocol_and_end(rt: HostRuntime) -> Result<(), AllocError> {
+    let mut list = neighbours(rt.alloc(), 0, 2, 1, None)?;
+    let mut second = neighbour(rt.alloc(), 3, 1, None)?;
+    second.protocol = Socket::Htcp;
+    second.end.port = 4827;
+    list.push(second)?;
+    let Ok(table) = Table::new(rt.alloc(), list, keys(rt.alloc(), b"")?) else {
+        return Err(AllocError);
+    };
+    for (socket, last, port, place) in [
+        (Socket::Icp, 2, 3130, Some(0)),
+        (Socket::Htcp, 3, 4827, Some(1)),
+        (Socket::Htcp, 2, 3130, None),
+        (Socket::Icp, 3, 4827, None),
+        (Socket::Htcp, 2, 4827, None),
+        (Socket::Icp, 3, 3130, None),
+    ] {
+        let from = End {
+            addr: [10, 0, 0, last],
+            port,
+        };
+        assert!(rt; table.find(socket, from) == place, "{last} {port}");
+    }
+    Ok(())
+}

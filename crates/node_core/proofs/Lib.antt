@@ -1,5 +1,6 @@
 pub mod Crowds
 pub mod Endings
+pub mod Findings
 pub mod Joins
 pub mod Keeps
 pub mod Lent

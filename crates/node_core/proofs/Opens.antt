@@ -38,7 +38,7 @@ entered old now client key shared = record (moved old now) { fetches = opened ke
 abbrev pub entrant : PlainNode → ℕ → ℕ → List ℕ → Bool → PendingFetch
 entrant old now client key shared = fresh (next_number old.fetches) key client shared (begun old.rows shared (max old.clock now))
 
-pub opening_is : (old : PlainNode) (now client : ℕ) (key : List ℕ) (shared : Bool) → is_full old.fetches.list ≡ false → open_step (asked (moved old now) key shared) client key shared ≡ sending (asking old (next_number old.fetches) key shared) (decision_step (asked (entered old now client key shared) key shared) (entrant old now client key shared))
+pub opening_is : (old : PlainNode) (now client : ℕ) (key : List ℕ) (shared : Bool) → is_full old.fetches.list ≡ false → open_step (asked (moved old now) key shared) client key shared ≡ sending (asking (moved old now) (next_number old.fetches) key shared) (decision_step (asked (entered old now client key shared) key shared) (entrant old now client key shared))
 unfolding open_step queries
 opening_is old now client key true h = rw h refl
 opening_is old now client key false h = rw h refl

@@ -13,16 +13,16 @@ use Rattle.node_core.specs.declared.stats.Stats.{Stats}
 use Rattle.node_core.specs.Happening.{Happening, arrives, happening}
 use Rattle.node_core.specs.PlainNode.{PlainNode}
 use Rattle.node_core.specs.Plain.{PlainEvent, plain_step}
-use Rattle.node_core.specs.Kept.{kept, kept_places, present, filters_after, swapped}
+use Rattle.node_core.specs.Kept.{kept, kept_event, kept_places, present, filters_after, swapped}
 use Rattle.node_core.specs.Run.{run_node, run_actions, laid_out, answers}
 use Rattle.node_core.specs.State.{State, HasTaken}
-use Rattle.node_core.specs.Counters.{plus, counted, counted_at, count_of, is_icp, is_rejected, is_cut, is_malformed}
+use Rattle.node_core.specs.Counters.{plus, counted, counted_at, count_of, is_icp, is_htcp, is_rejected, is_cut, is_malformed}
 
 pub filters_after-append : (filters : Filters) (xs ys : List Happening) → filters_after filters (xs ++ ys) ≡ filters_after (filters_after filters xs) ys
 filters_after-append filters [] ys = refl
 filters_after-append filters (x ∷ xs) ys = filters_after-append (swapped filters x) xs ys
 
-kept_places-append : (filters : Filters) (xs ys : List Happening) → kept_places filters (xs ++ ys) ≡ kept_places filters xs ++ kept_places (filters_after filters xs) ys
+pub kept_places-append : (filters : Filters) (xs ys : List Happening) → kept_places filters (xs ++ ys) ≡ kept_places filters xs ++ kept_places (filters_after filters xs) ys
 kept_places-append filters [] ys = refl
 kept_places-append filters (x ∷ xs) ys = rw (kept_places-append (swapped filters x) xs ys) refl
 
@@ -65,7 +65,7 @@ counted_at-append here counters filters xs ys =
     rw (plus-+ _ _ _ _ (count_of-append here (λ _ _. true) filters xs ys), plus-+ _ _ _ _ (count_of-append here is_rejected filters xs ys), plus-+ _ _ _ _ (count_of-append here is_cut filters xs ys), plus-+ _ _ _ _ (count_of-append here is_malformed filters xs ys)) refl
 
 pub counted-append : (stats : Stats) (filters : Filters) (xs ys : List Happening) → counted stats filters (xs ++ ys) ≡ counted (counted stats filters xs) (filters_after filters xs) ys
-counted-append stats filters xs ys = rw (counted_at-append is_icp stats.icp filters xs ys) refl
+counted-append stats filters xs ys = rw (counted_at-append is_icp stats.icp filters xs ys, counted_at-append is_htcp stats.htcp filters xs ys) refl
 
 pub HasTaken-none : (state : State) (outs : List (List Action)) → outs ≡ [] → HasTaken state state [] outs
 HasTaken-none state outs e = record { plain = refl; filters = refl; stats = refl; sent = e }
@@ -86,6 +86,9 @@ take_more-happening events event i lt is =
 pub HasTaken-more : (old mid new : State) (events : List Event) (event : Event) (i : ℕ) (outs after : List (List Action)) (actions : List Action) → i < length events → event ≡ get_or events i event → after ≡ outs ++ actions ∷ [] → HasTaken old mid (take i (map happening events)) outs → HasTaken mid new (happening event ∷ []) (actions ∷ []) → HasTaken old new (take (i + 1) (map happening events)) after
 HasTaken-more old mid new events event i outs after actions lt is more so_far one =
     rw (take_more-happening events event i lt is, more) (HasTaken-append old mid new (take i (map happening events)) (happening event ∷ []) outs (actions ∷ []) so_far one)
+
+pub kept_places-between : (filters : Filters) (before after : List Happening) (event : Happening) → kept_places filters (before ++ event ∷ after) ≡ kept_places filters before ++ kept_event (filters_after filters before) event ∷ kept_places (filters_after filters (before ++ event ∷ [])) after
+kept_places-between filters before after event = rw (filters_after-append filters before (event ∷ [])) (kept_places-append filters before (event ∷ after))
 
 kept_places-rejected : (filters : Filters) (datagram : DatagramFields) (now : ℕ) (after : List Happening) → verdict_in_force filters datagram ≡ 0 → kept_places filters (arrives datagram now ∷ after) ≡ None ∷ kept_places filters after
 kept_places-rejected filters datagram now after e = rw e refl

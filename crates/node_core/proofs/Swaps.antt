@@ -2,7 +2,7 @@
 use Rattle.std.proofs.Common.{◌≡◌, List, [], ◌∷◌, Option, Some, None, refl, ap, sym, ◌∙◌}
 use Rattle.std.specs.Prelude.{unwrap_or, IfSome}
 use Rattle.bpf_run.specs.declared.ends.Socket.{Socket}
-use Rattle.bpf_run.specs.declared.ends.Socket.TheVariants.{Icp}
+use Rattle.bpf_run.specs.declared.ends.Socket.TheVariants.{Icp, Htcp}
 use Rattle.filter_slots.specs.Filters.{Filters, slot, with_slot, AreAccepted}
 use Rattle.bpf_check.specs.declared.insn.Insn.{Insn}
 use Rattle.bpf_check.specs.Accepted.{IsAccepted}
@@ -16,11 +16,14 @@ unwrap_or-later_of first (Some x) d = refl
 
 slot-swapped : (socket : Socket) (filters : Filters) (e : Happening) → slot (swapped filters e) socket ≡ unwrap_or (swap_of socket e) (slot filters socket)
 slot-swapped Icp filters (swaps Icp program) = refl
-slot-swapped Icp filters (arrives datagram now) = refl
-slot-swapped Icp filters (asks client key mode now) = refl
-slot-swapped Icp filters (ticks now) = refl
-slot-swapped Icp filters (ends number attempt outcome now) = refl
-slot-swapped Icp filters (leaves client) = refl
+slot-swapped Icp filters (swaps Htcp program) = refl
+slot-swapped Htcp filters (swaps Icp program) = refl
+slot-swapped Htcp filters (swaps Htcp program) = refl
+slot-swapped socket filters (arrives datagram now) = refl
+slot-swapped socket filters (asks client key mode now) = refl
+slot-swapped socket filters (ticks now) = refl
+slot-swapped socket filters (ends number attempt outcome now) = refl
+slot-swapped socket filters (leaves client) = refl
 
 pub slot-filters_after : (socket : Socket) (filters : Filters) (events : List Happening) → slot (filters_after filters events) socket ≡ unwrap_or (last_swap socket events) (slot filters socket)
 slot-filters_after socket filters [] = refl
@@ -30,6 +33,9 @@ slot-filters_after socket filters (e ∷ es) =
 -- a slot with an accepted program or none leaves all accepted
 accepted-with : (socket : Socket) (filters : Filters) (program : Option (List Insn)) → AreAccepted filters → IfSome program IsAccepted → AreAccepted (with_slot filters socket program)
 accepted-with Icp filters program accepted fine Icp = fine
+accepted-with Icp filters program accepted fine Htcp = accepted Htcp
+accepted-with Htcp filters program accepted fine Icp = accepted Icp
+accepted-with Htcp filters program accepted fine Htcp = fine
 
 pub accepted-after : (filters : Filters) (events : List Happening) → AreAccepted filters → PutsInAccepted events → AreAccepted (filters_after filters events)
 accepted-after filters [] accepted fine = accepted

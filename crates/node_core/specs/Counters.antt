@@ -1,11 +1,12 @@
 -- What is counted of the events, for each socket.
-use Rattle.std.specs.Prelude.{ℕ, ◌+◌, ◌==◌, nat_lt, not, ◌&&◌, is_none, min, Bool, true, List, [], ◌∷◌, length, if◌then◌else◌}
+use Rattle.std.specs.Prelude.{ℕ, ◌+◌, ◌==◌, nat_lt, not, ◌&&◌, is_none, min, Bool, true, false, List, [], ◌∷◌, length, if◌then◌else◌}
 use Rattle.bpf_run.specs.declared.ends.Socket.{Socket}
-use Rattle.bpf_run.specs.declared.ends.Socket.TheVariants.{Icp}
+use Rattle.bpf_run.specs.declared.ends.Socket.TheVariants.{Icp, Htcp}
 use Rattle.filter_slots.specs.Datagram.{DatagramFields}
 use Rattle.filter_slots.specs.Filters.{Filters}
 use Rattle.filter_slots.specs.Verdict.{verdict_in_force}
-use Rattle.icp_packet.specs.Reading.{message_of}
+use Rattle.icp_packet.specs.Reading as icp
+use Rattle.htcp_packet.specs.Reading as htcp
 use Rattle.node_core.specs.declared.stats.Counters.{Counters}
 use Rattle.node_core.specs.declared.stats.Stats.{Stats}
 use Rattle.node_core.specs.Happening.{Happening, arrives, asks, ticks, ends, leaves, swaps}
@@ -29,7 +30,8 @@ is_cut filters datagram =
 
 -- whether octets are no message of the socket
 abbrev pub is_no_message : Socket → List ℕ → Bool
-is_no_message Icp octets = is_none (message_of octets)
+is_no_message Icp octets = is_none (icp.message_of octets)
+is_no_message Htcp octets = is_none (htcp.message_of octets)
 
 -- another verdict, and what is handed on is no message
 abbrev pub is_malformed : Filters → DatagramFields → Bool
@@ -38,6 +40,11 @@ is_malformed filters datagram =
 
 abbrev pub is_icp : Socket → Bool
 is_icp Icp = true
+is_icp Htcp = false
+
+abbrev pub is_htcp : Socket → Bool
+is_htcp Icp = false
+is_htcp Htcp = true
 
 -- whether an event is a datagram of the socket that passes the test
 abbrev pub one_of : (Socket → Bool) → (Filters → DatagramFields → Bool) → Filters → Happening → ℕ
@@ -64,4 +71,5 @@ counted_at here counters filters events = record {
 
 -- the counters of both sockets after the events
 abbrev pub counted : Stats → Filters → List Happening → Stats
-counted stats filters events = record { icp = counted_at is_icp stats.icp filters events; htcp = stats.htcp }
+counted stats filters events =
+    record { icp = counted_at is_icp stats.icp filters events; htcp = counted_at is_htcp stats.htcp filters events }

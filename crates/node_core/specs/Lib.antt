@@ -1,6 +1,8 @@
 pub mod Counters
 pub mod Fitting
 pub mod Happening
+pub mod HtcpReplies
+pub mod HtcpRequests
 pub mod Kept
 pub mod Messages
 pub mod Outcomes
@@ -11,6 +13,8 @@ pub mod Requests
 pub mod Rounds
 pub mod Run
 pub mod Settings
+pub mod Signatures
+pub mod Signed
 pub mod Sources
 pub mod State
 pub mod Swaps

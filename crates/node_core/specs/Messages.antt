@@ -73,7 +73,7 @@ was_asked round n = round.asked && nat_lt n (length round.peers)
 abbrev pub awaits : ℕ → PendingFetch → Bool
 awaits n fetch = not (decided fetch.round) && was_asked fetch.round n && not (has_reply fetch.round.replies n)
 
--- the fetch of this number, where a reply of this peer counts for it and the test holds
+-- this fetch, if there is one, where a reply of this peer counts for it and the test holds
 abbrev pub awaiting : ℕ → (PendingFetch → Bool) → Option PendingFetch → Option PendingFetch
 awaiting n test None = None
 awaiting n test (Some fetch) = if awaits n fetch && test fetch then Some fetch else None

@@ -1,15 +1,19 @@
 -- The node without filters and counters, and what one event does to it. Each rule has a file of its own.
-use Rattle.std.specs.Prelude.{ℕ, List, []}
+use Rattle.std.specs.Prelude.{ℕ, Bool, true, false, List, [], Option, Some, None}
 use Rattle.bpf_run.specs.declared.ends.Socket.{Socket}
-use Rattle.bpf_run.specs.declared.ends.Socket.TheVariants.{Icp}
+use Rattle.bpf_run.specs.declared.ends.Socket.TheVariants.{Icp, Htcp}
 use Rattle.filter_slots.specs.Datagram.{DatagramFields}
-use Rattle.icp_packet.specs.Reading.{message_of}
+use Rattle.bpf_run.specs.declared.ends.End.{End}
+use Rattle.icp_packet.specs.Reading as icp
+use Rattle.htcp_packet.specs.Reading as htcp
 use Rattle.pending_fetch.specs.Fetches.{left}
 use Rattle.node_core.specs.declared.action.Action.{Action}
 use Rattle.node_core.specs.declared.event.Mode.{Mode}
 use Rattle.node_core.specs.declared.event.Outcome.{Outcome}
 use Rattle.node_core.specs.PlainNode.{PlainNode, moved, with_fetches}
 use Rattle.node_core.specs.Messages.{read_step}
+use Rattle.node_core.specs.HtcpRequests.{htcp_request_step}
+use Rattle.node_core.specs.HtcpReplies.{response_step}
 use Rattle.node_core.specs.Requests.{request_step}
 use Rattle.node_core.specs.Rounds.{timer_step}
 use Rattle.node_core.specs.Outcomes.{ended_step}
@@ -22,9 +26,20 @@ pub data PlainEvent : Type 0 where
   Ended : (number attempt : ℕ) (outcome : Outcome) (now : ℕ) → PlainEvent
   Left : (client : ℕ) → PlainEvent
 
+-- an HTCP message is a response or a request, as RR says
+abbrev pub htcp_step : PlainNode → End → End → htcp.Received → Bool → PlainNode × List Action
+htcp_step node from to r true = response_step node from to r
+htcp_step node from to r false = htcp_request_step node from to r
+
+-- what is no HTCP message does nothing more
+unfoldable pub received_step : PlainNode → End → End → Option htcp.Received → PlainNode × List Action
+received_step node from to (Some r) = htcp_step node from to r r.message.rr
+received_step node from to None = (node, [])
+
 -- each socket has its own messages
 unfoldable pub socket_step : PlainNode → DatagramFields → Socket → PlainNode × List Action
-socket_step node datagram Icp = read_step node datagram.from (message_of datagram.payload)
+socket_step node datagram Icp = read_step node datagram.from (icp.message_of datagram.payload)
+socket_step node datagram Htcp = received_step node datagram.from datagram.to (htcp.message_of datagram.payload)
 
 -- what one event does: a moment first moves the clock
 abbrev pub plain_step : PlainNode → PlainEvent → PlainNode × List Action

@@ -1,7 +1,7 @@
 -- One more datagram, as the functions that count promise it to one another: no public promise speaks of these.
 use Rattle.std.specs.Prelude.{Bool}
 use Rattle.bpf_run.specs.declared.ends.Socket.{Socket}
-use Rattle.bpf_run.specs.declared.ends.Socket.TheVariants.{Icp}
+use Rattle.bpf_run.specs.declared.ends.Socket.TheVariants.{Icp, Htcp}
 use Rattle.filter_slots.specs.Datagram.{DatagramFields}
 use Rattle.filter_slots.specs.Filters.{Filters}
 use Rattle.node_core.specs.declared.stats.Counters.{Counters}
@@ -20,6 +20,7 @@ raised counters rejected was_cut malformed = record {
 -- a socket's counters raised, and the other's as they were
 abbrev pub raised_at : Socket → Stats → Bool → Bool → Bool → Stats
 raised_at Icp stats rejected was_cut malformed = record stats { icp = raised stats.icp rejected was_cut malformed }
+raised_at Htcp stats rejected was_cut malformed = record stats { htcp = raised stats.htcp rejected was_cut malformed }
 
 -- the counters with one more datagram, as it is judged
 abbrev pub counted_datagram : Stats → Filters → DatagramFields → Stats

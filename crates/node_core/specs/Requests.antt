@@ -1,10 +1,10 @@
 -- What a client's request does: it is answered from the store, joins a fetch, or opens one.
 use Rattle.std.specs.Prelude.{ℕ, ◌+◌, ◌-◌, ◌/◌, min, Bool, true, false, List, [], ◌∷◌, map, Option, Some, None, if◌then◌else◌}
-use Rattle.bpf_run.specs.declared.ends.End.{End}
 use Rattle.bpf_run.specs.declared.ends.Socket.{Socket}
-use Rattle.bpf_run.specs.declared.ends.Socket.TheVariants.{Icp}
+use Rattle.bpf_run.specs.declared.ends.Socket.TheVariants.{Icp, Htcp}
 use Rattle.icp_packet.specs.declared.message.Opcode.TheVariants as op
 use Rattle.icp_packet.specs.Message.{Message, query, spelling}
+use Rattle.htcp_packet.specs.Message as htcp
 use Rattle.neighbours.specs.declared.neighbour.Neighbour.{Neighbour}
 use Rattle.object_store.specs.declared.entry.Entry.{Entry}
 use Rattle.object_store.specs.Store.{fresh_at, after_get}
@@ -18,6 +18,7 @@ use Rattle.node_core.specs.declared.event.Mode.{Mode}
 use Rattle.node_core.specs.declared.event.Mode.TheVariants.{Shared, Cached, Private}
 use Rattle.node_core.specs.PlainNode.{PlainNode, with_fetches, sending}
 use Rattle.node_core.specs.Sources.{decision_step}
+use Rattle.node_core.specs.Signatures.{SigningKey, signing_key, text_to}
 
 -- the client is told a status, and nothing changes
 abbrev pub fails : PlainNode → ℕ → ℕ → PlainNode × List Action
@@ -42,14 +43,39 @@ icp_query node number key = record {
   body = query (0 ∷ 0 ∷ 0 ∷ 0 ∷ []) key;
 }
 
--- the query to a neighbour, by its protocol
-abbrev pub query_by : PlainNode → ℕ → List ℕ → End → Socket → Action
-query_by node number key end Icp = Send Icp end (spelling (icp_query node number key))
+-- the query to a neighbour by HTCP: a TST that asks for an answer (RD), by GET and HTTP/1.1, with no headers
+abbrev pub htcp_query : ℕ → List ℕ → htcp.Message
+htcp_query number key = record {
+  minor = 0;
+  opcode = 1;
+  response = 0;
+  f1 = true;
+  rr = false;
+  trans = number;
+  body = htcp.specifier (record {
+    method = 71 ∷ 69 ∷ 84 ∷ [];
+    uri = key;
+    version = 72 ∷ 84 ∷ 84 ∷ 80 ∷ 47 ∷ 49 ∷ 46 ∷ 49 ∷ [];
+    headers = [];
+  });
+  auth = htcp.unsigned;
+}
+
+-- the key of this name, if one is named: a table has each key that a neighbour names
+abbrev pub key_named : PlainNode → Option (List ℕ) → Option SigningKey
+key_named node None = None
+key_named node (Some name) = signing_key node.rows.keys name
+
+-- the query to a neighbour, by its protocol: one of HTCP is signed where the neighbour has a key
+abbrev pub query_by : PlainNode → ℕ → List ℕ → Neighbour → Socket → Action
+query_by node number key neighbour Icp = Send Icp neighbour.end (spelling (icp_query node number key))
+query_by node number key neighbour Htcp =
+    Send Htcp neighbour.end (text_to node neighbour.end (htcp_query number key) (key_named node neighbour.key))
 
 -- a query to each neighbour in configuration order, also to those that are down
 unfoldable pub queries : PlainNode → ℕ → List ℕ → List Action
 queries node number key =
-    map (λ (neighbour : Neighbour). query_by node number key neighbour.end neighbour.protocol) node.rows.neighbours
+    map (λ (neighbour : Neighbour). query_by node number key neighbour neighbour.protocol) node.rows.neighbours
 
 -- a shared fetch asks the neighbours, a private one nobody
 abbrev pub queries_of : PlainNode → PendingFetch → Bool → List Action

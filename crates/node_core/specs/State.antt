@@ -1,18 +1,23 @@
 -- A node as contracts see it, and what it is for it to have taken events.
 use Rattle.std.specs.Prelude.{◌≡◌, ℕ, Bool, true, false, not, ◌||◌, List, [], ◌∷◌, Option, Some, None}
 use Rattle.std.specs.List.{list_all}
+use Rattle.bpf_run.specs.declared.ends.Socket.{Socket}
+use Rattle.bpf_run.specs.declared.ends.Socket.TheVariants.{Icp, Htcp}
 use Rattle.filter_slots.specs.Filters.{Filters, no_filters}
+use Rattle.htcp_packet.specs.Message.{Body, empty, specifier, clear, detail, cache_headers, opaque}
+use Rattle.htcp_packet.specs.Reading.{Received, message_of}
 use Rattle.node_core.specs.declared.action.Action.{Action}
 use Rattle.node_core.specs.declared.action.Action.TheVariants.{Send, Fetch, Serve}
 use Rattle.node_core.specs.declared.stats.Counters.{Counters}
 use Rattle.node_core.specs.declared.stats.Stats.{Stats}
 use Rattle.neighbours.specs.Rows.{opening as opening_rows}
-use Rattle.pending_fetch.specs.Fetches.{PendingFetch, fetch_of}
+use Rattle.pending_fetch.specs.Fetches.{PendingFetch, fetch_of, waits}
 use Rattle.node_core.specs.declared.event.Outcome.{Outcome}
 use Rattle.node_core.specs.declared.event.Outcome.TheVariants.{Object, Failed}
 use Rattle.node_core.specs.Settings.{Setup}
 use Rattle.node_core.specs.Happening.{Happening, arrives, asks, ticks, ends, leaves, swaps}
 use Rattle.node_core.specs.PlainNode.{PlainNode}
+use Rattle.node_core.specs.Plain.{PlainEvent, Arrived, Requested, Ticked, Ended, Left}
 use Rattle.node_core.specs.Outcomes.{counts, is_failure}
 use Rattle.node_core.specs.Kept.{kept, kept_event, filters_after, swapped}
 use Rattle.node_core.specs.Run.{run_node, answers, plain_after, actions_of}
@@ -84,11 +89,39 @@ is_no_send (Serve client answer) = true
 abbrev pub sends_none : List Action → Bool
 sends_none actions = list_all is_no_send actions
 
--- an event takes no memory: a datagram for which no datagram is sent, such as a rejected one, a tick, a result that serves no object, a client
--- that goes away, and a swap that empties a slot
+-- whether a message is a request to clear
+abbrev pub is_clear : Body → Bool
+is_clear empty = false
+is_clear (specifier s) = false
+is_clear (clear reason s) = true
+is_clear (detail d) = false
+is_clear (cache_headers h) = false
+is_clear (opaque octets) = false
+
+abbrev pub clears : Option Received → Bool
+clears None = false
+clears (Some r) = is_clear r.message.body
+
+-- whether octets are an HTCP request to clear
+abbrev pub asks_clear : Socket → List ℕ → Bool
+asks_clear Icp octets = false
+asks_clear Htcp octets = clears (message_of octets)
+
+-- whether what is kept of an event is an HTCP request to clear
+abbrev pub keeps_clear : Option PlainEvent → Bool
+keeps_clear None = false
+keeps_clear (Some (Arrived datagram now)) = asks_clear datagram.socket datagram.payload
+keeps_clear (Some (Requested client key mode now)) = false
+keeps_clear (Some (Ticked now)) = false
+keeps_clear (Some (Ended number attempt outcome now)) = false
+keeps_clear (Some (Left client)) = false
+
+-- an event takes no memory: a datagram for which no datagram is sent and which asks for nothing to be cleared, such as a rejected one, a
+-- request of a client that waits already, a tick, a result that serves no object, a client that goes away, and a swap that empties a slot
 abbrev pub TakesNone : State → Happening → Type 0
-TakesNone old (arrives datagram now) = sends_none (actions_at old (arrives datagram now)) ≡ true
-TakesNone old (asks client key mode now) = ⊥
+TakesNone old (arrives datagram now) =
+    (sends_none (actions_at old (arrives datagram now)) ≡ true) × (keeps_clear (kept_event old.filters (arrives datagram now)) ≡ false)
+TakesNone old (asks client key mode now) = waits client old.plain.fetches.list ≡ true
 TakesNone old (ticks now) = Unit {0}
 TakesNone old (ends number attempt outcome now) =
     serves_none old.plain attempt outcome (fetch_of number old.plain.fetches.list) ≡ true

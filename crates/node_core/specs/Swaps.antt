@@ -3,12 +3,15 @@ use Rattle.std.specs.Prelude.{List, [], ◌∷◌, Option, Some, None, IfSome}
 use Rattle.bpf_check.specs.Accepted.{IsAccepted}
 use Rattle.bpf_check.specs.declared.insn.Insn.{Insn}
 use Rattle.bpf_run.specs.declared.ends.Socket.{Socket}
-use Rattle.bpf_run.specs.declared.ends.Socket.TheVariants.{Icp}
+use Rattle.bpf_run.specs.declared.ends.Socket.TheVariants.{Icp, Htcp}
 use Rattle.node_core.specs.Happening.{Happening, arrives, asks, ticks, ends, leaves, swaps}
 
 -- what an event puts into a socket's slot, if it does
 abbrev pub swap_of : Socket → Happening → Option (Option (List Insn))
 swap_of Icp (swaps Icp program) = Some program
+swap_of Icp (swaps Htcp program) = None
+swap_of Htcp (swaps Icp program) = None
+swap_of Htcp (swaps Htcp program) = Some program
 swap_of socket (arrives datagram now) = None
 swap_of socket (asks client key mode now) = None
 swap_of socket (ticks now) = None

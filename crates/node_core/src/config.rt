@@ -110,6 +110,13 @@ impl Rules {
         self.icp.addr
     }
 
+    /// The own end of the HTCP socket.
+    pub fn htcp(&self) -> End
+        ensures { result ≡ self.now.htcp }
+    {
+        self.htcp
+    }
+
     /// Whether MISS_NOFETCH is answered in place of MISS.
     pub fn miss_nofetch(&self) -> bool
         ensures { result ≡ self.now.miss_nofetch }

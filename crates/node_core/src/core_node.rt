@@ -1,11 +1,11 @@
 //! The node without filters and counters.
-ghost use Rattle.std.specs.Prelude.{◌≡◌, ◌≤◌, ℕ, [], length, true, None, IfOk, IfErr, IsOk, OnOk, OnErr, option_copied, option_map, unwrap_or, if◌then◌else◌};
+ghost use Rattle.std.specs.Prelude.{◌≡◌, ◌≤◌, ℕ, [], length, true, false, None, IfOk, IfErr, IsOk, OnOk, OnErr, option_copied, option_map, unwrap_or, if◌then◌else◌};
 ghost use Rattle.pending_fetch.specs.Fetches.{PendingFetch, fetch_of, changed, with_next, left, waiters_of};
 ghost use Rattle.pending_fetch.specs.Legal.{IsLegal};
 ghost use Rattle.node_core.specs.Settings.{setup_of, setup_fault};
 ghost use Rattle.node_core.specs.Plain.{Arrived, plain_step};
 ghost use Rattle.node_core.specs.Counters.{is_no_message};
-ghost use Rattle.node_core.specs.State.{opening_node, sends_none};
+ghost use Rattle.node_core.specs.State.{opening_node, sends_none, asks_clear};
 ghost use Rattle.node_core.specs.Fitting.{fault_after};
 ghost use Rattle.node_core.specs.PlainNode.{moved, closed, with_fetches};
 
@@ -109,10 +109,11 @@ impl Core {
         ensures actions { OnOk result (out.new ≡ (plain_step self.old (Arrived (record datagram.now { payload = octets.now }) now)).1) }
         ensures malformed { IfOk result (λ malformed. malformed ≡ is_no_message datagram.now.socket octets.now) }
         ensures refused { OnErr result ((self.new ≡ self.old) × (out.new ≡ [])) }
-        ensures silent { sends_none (plain_step self.old (Arrived (record datagram.now { payload = octets.now }) now)).1 ≡ true → IsOk result }
+        ensures silent { sends_none (plain_step self.old (Arrived (record datagram.now { payload = octets.now }) now)).1 ≡ true → asks_clear datagram.now.socket octets.now ≡ false → IsOk result }
     {
         match datagram.socket() {
             Socket::Icp => self.icp(alloc, datagram.from(), octets, now, out),
+            Socket::Htcp => self.htcp(alloc, datagram, octets, now, out),
         }
     }
 

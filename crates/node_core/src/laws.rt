@@ -7,7 +7,7 @@ ghost use Rattle.filter_slots.specs.Verdict.{verdict_in_force};
 ghost use Rattle.node_core.specs.declared.action.Action.{Action};
 ghost use Rattle.node_core.specs.Happening.{Happening, arrives};
 ghost use Rattle.node_core.specs.PlainNode.{PlainNode};
-ghost use Rattle.node_core.specs.Kept.{kept, filters_after};
+ghost use Rattle.node_core.specs.Kept.{kept, kept_event, kept_places, filters_after};
 ghost use Rattle.node_core.specs.Swaps.{last_swap, PutsInAccepted};
 ghost use Rattle.node_core.specs.Run.{run_node, answers};
 ghost use Rattle.node_core.specs.Counters.{counted};
@@ -57,6 +57,13 @@ pub fn rejected_law()
     ensures without { (node : PlainNode) (filters : Filters) (before after : List Happening) →
         answers node filters (before ++ after)
         ≡ answers node filters before ++ answers (run_node node (kept filters before)) (filters_after filters before) after }
+{}
+
+/// What is kept at a place among events is what is kept of that event under the filters after the events before it.
+pub fn kept_law()
+    ensures { (filters : Filters) (before after : List Happening) (event : Happening) →
+        kept_places filters (before ++ event ∷ after)
+        ≡ kept_places filters before ++ kept_event (filters_after filters before) event ∷ kept_places (filters_after filters (before ++ event ∷ [])) after }
 {}
 
 /// The program in force is that of the last swap of its slot, or the one that stood there first.

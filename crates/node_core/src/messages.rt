@@ -195,7 +195,7 @@ impl Core {
     }
 
     /// The neighbour at a place has no misses.
-    fn forgive(&mut self, n: usize)
+    pub(crate) fn forgive(&mut self, n: usize)
         requires { n < length self.old.rows.neighbours }
         ensures { self.new ≡ heard self.old n }
     {
@@ -209,7 +209,7 @@ impl Core {
         let Some(fetch) = self.pending.fetch(number) else {
             return None;
         };
-        if !is_awaited(&fetch, n, url) {
+        if !is_awaited(&fetch, n) || fetch.key.as_slice() != url {
             return None;
         }
         Some(fetch.round.began())
@@ -217,7 +217,7 @@ impl Core {
 
     /// A reply that counts: it is a sample of the time since the round's start, and may decide the round.
     #[tactic(auto, unfolding(crate::specs::Messages::counted_step))]
-    fn count(&mut self, number: u32, n: usize, kind: Kind, start: Moment, out: &mut Out)
+    pub(crate) fn count(&mut self, number: u32, n: usize, kind: Kind, start: Moment, out: &mut Out)
         requires place { n < length self.old.rows.neighbours }
         requires empty { out.old ≡ [] }
         ensures plain { (fetch : PendingFetch) → fetch_of number self.old.fetches.list ≡ Some fetch → fetch.round.start ≡ start →
@@ -250,14 +250,11 @@ impl Core {
     }
 }
 
-/// Whether a reply of the neighbour at a place counts for a fetch, and the URL is the fetch's key.
-fn is_awaited(fetch: &Fetch<'_>, n: usize, url: &[u8]) -> bool
-    ensures { (f : PendingFetch) → shown fetch.now ≡ told f → result ≡ (awaits n f && bytes_eq f.key url.now) }
+/// Whether a reply of the neighbour at a place counts for a fetch.
+pub(crate) fn is_awaited(fetch: &Fetch<'_>, n: usize) -> bool
+    ensures { (f : PendingFetch) → shown fetch.now ≡ told f → result ≡ awaits n f }
 {
-    if fetch.round.decided() || !fetch.round.asked(n) || fetch.round.has_reply(n) {
-        return false;
-    }
-    fetch.key.as_slice() == url
+    !fetch.round.decided() && fetch.round.asked(n) && !fetch.round.has_reply(n)
 }
 
 /// What a reply counts as. An echo counts as nothing, and a query is no reply.

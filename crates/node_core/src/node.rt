@@ -1,9 +1,9 @@
 //! The node: filters in front of the plain node, counters beside it.
-ghost use Rattle.std.specs.Prelude.{◌≡◌, ◌∷◌, [], true, IfOk, IfErr, OnOk, OnErr, IsOk, None, unwrap_or, option_copied};
+ghost use Rattle.std.specs.Prelude.{◌≡◌, ◌∷◌, [], true, false, IfOk, IfErr, OnOk, OnErr, IsOk, None, unwrap_or, option_copied};
 ghost use Rattle.std.specs.Option.{option_map};
 ghost use Rattle.std.specs.Arc.{arc_value};
 ghost use Rattle.filter_slots.specs.Filters.{AreAccepted, with_slot};
-ghost use Rattle.pending_fetch.specs.Fetches.{PendingFetch, fetch_of};
+ghost use Rattle.pending_fetch.specs.Fetches.{PendingFetch, fetch_of, waits};
 ghost use Rattle.node_core.specs.Settings.{setup_of, setup_fault};
 ghost use Rattle.node_core.specs.Plain.{Requested, Ticked, Ended, Left, plain_step};
 ghost use Rattle.node_core.specs.Happening.{happening};
@@ -41,7 +41,7 @@ impl Model for Node {
 }
 
 impl Node {
-    ghost use Rattle.node_core.specs.State.{HasTaken, TakesNone, opening, sends_none, serves_none};
+    ghost use Rattle.node_core.specs.State.{HasTaken, TakesNone, opening, sends_none, keeps_clear, serves_none};
 
     /// The node of a configuration, with no filter, nothing stored, nothing pending and nothing counted. Errors: what is wrong
     /// with the neighbours and keys, else a prefix or a limit out of its range, else that there was no memory.
@@ -132,7 +132,7 @@ impl Node {
         ensures filters { OnOk result (self.new.filters ≡ self.old.filters) }
         ensures stats { OnOk result (self.new.stats ≡ counted_datagram self.old.stats self.old.filters datagram.now) }
         ensures refused { OnErr result ((self.new ≡ self.old) × (out.new ≡ [])) }
-        ensures silent { sends_none (actions_of self.old.plain (kept_datagram self.old.filters datagram.now now)) ≡ true → IsOk result }
+        ensures silent { sends_none (actions_of self.old.plain (kept_datagram self.old.filters datagram.now now)) ≡ true → keeps_clear (kept_datagram self.old.filters datagram.now now) ≡ false → IsOk result }
     {
         let socket = datagram.socket();
         let value = self.slots.force(datagram).value;
@@ -163,6 +163,7 @@ impl Node {
         ensures filters { OnOk result (self.new.filters ≡ self.old.filters) }
         ensures stats { OnOk result (self.new.stats ≡ self.old.stats) }
         ensures refused { OnErr result ((self.new ≡ self.old) × (out.new ≡ [])) }
+        ensures silent { waits client self.old.plain.fetches.list ≡ true → IsOk result }
     {
         self.core.request(alloc, client, key, mode, now, out)
     }

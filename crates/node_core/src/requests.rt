@@ -1,5 +1,5 @@
 //! What a client's request does.
-ghost use Rattle.std.specs.Prelude.{◌≡◌, ◌∷◌, [], max, true, false, None, is_some, option_map, IfOk, OnOk, OnErr};
+ghost use Rattle.std.specs.Prelude.{◌≡◌, ◌∷◌, [], max, true, false, None, is_some, option_map, IfOk, IsOk, OnOk, OnErr};
 ghost use Rattle.object_store.specs.declared.entry.Entry.{Entry as Stored};
 ghost use Rattle.object_store.specs.Store.{fresh_at};
 ghost use Rattle.peer_select.specs.Poll.{begun, matches};
@@ -38,6 +38,7 @@ impl Core {
         ensures plain { OnOk result (self.new ≡ (plain_step self.old (Requested client key.now mode now)).0) }
         ensures actions { OnOk result (out.new ≡ (plain_step self.old (Requested client key.now mode now)).1) }
         ensures refused { OnErr result ((self.new ≡ self.old) × (out.new ≡ [])) }
+        ensures silent { waits client self.old.fetches.list ≡ true → IsOk result }
     {
         if self.waits(client) {
             self.tick(now);
@@ -199,7 +200,7 @@ impl Core {
             self.turn_away(client, key, shared, now, out);
             return Ok(());
         }
-        let number = self.ask(alloc, key, shared, out)?;
+        let number = self.ask(alloc, key, shared, now, out)?;
         if let Err(e) = self.enter(alloc, client, key, shared, now) {
             out.clear();
             return Err(e);

@@ -56,6 +56,10 @@ impl Stats {
                 icp: self.icp.raised(rejected, cut, malformed),
                 htcp: self.htcp,
             },
+            Socket::Htcp => Stats {
+                icp: self.icp,
+                htcp: self.htcp.raised(rejected, cut, malformed),
+            },
         }
     }
 }

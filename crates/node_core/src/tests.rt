@@ -1,6 +1,7 @@
 use super::*;
 use bpf_check::{Insn, check};
 use filter_slots::{Datagram, End, Moment, Socket};
+use neighbours::{ConfigFault, Neighbour, Role};
 use std::alloc::Global;
 use std::sync::Arc;
 use std::test::*;
@@ -10,48 +11,75 @@ const OWN: End = End {
     port: 3130,
 };
 
-/// A query, who sent it, and the reply.
+/// A query, by which socket it came and who sent it, and the reply.
 struct Row {
+    socket: Socket,
     from: [u8; 4],
     query: &'static [u8],
     reply: &'static [u8],
 }
 
-const ROWS: [Row; 3] = [
+const ROWS: [Row; 4] = [
     Row {
+        socket: Socket::Icp,
         from: [10, 0, 0, 9],
         query: b"\x01\x02\x00\x22\x00\x00\x00\x01\x00\x00\x00\x00\x00\x00\x00\x00\x00\x00\x00\x00\x00\x00\x00\x00http://a/\x00",
         reply: b"\x03\x02\x00\x1e\x00\x00\x00\x01\x00\x00\x00\x00\x00\x00\x00\x00\x0a\x00\x00\x01http://a/\x00",
     },
     Row {
+        socket: Socket::Icp,
         from: [192, 0, 2, 7],
         query: b"\x01\x02\x00\x22\x00\x00\x00\x01\x00\x00\x00\x00\x00\x00\x00\x00\x00\x00\x00\x00\x00\x00\x00\x00http://a/\x00",
         reply: b"\x16\x02\x00\x1e\x00\x00\x00\x01\x00\x00\x00\x00\x00\x00\x00\x00\x0a\x00\x00\x01http://a/\x00",
     },
     Row {
+        socket: Socket::Icp,
         from: [10, 0, 0, 9],
         query: b"\x01\x02\x00\x21\x00\x00\x00\x01\x00\x00\x00\x00\x00\x00\x00\x00\x00\x00\x00\x00\x00\x00\x00\x00ftp://a/\x00",
         reply: b"\x04\x02\x00\x1d\x00\x00\x00\x01\x00\x00\x00\x00\x00\x00\x00\x00\x0a\x00\x00\x01ftp://a/\x00",
     },
+    // An HTCP request NOP.
+    Row {
+        socket: Socket::Htcp,
+        from: [10, 0, 0, 9],
+        query: b"\x00\x0e\x00\x00\x00\x08\x00\x02\x00\x00\x00\x07\x00\x02",
+        reply: b"\x00\x0e\x00\x00\x00\x08\x00\x01\x00\x00\x00\x07\x00\x02",
+    },
 ];
 
-fn new_node(alloc: Global) -> Result<Node, Fail> {
+/// A network with this prefix, a store of so many entries, and so many neighbours at one end.
+fn config_of(alloc: Global, prefix: u8, entries: u32, neighbours: u8) -> Result<Config, Fail> {
     let mut allowed = Vec::new(alloc);
     allowed.push(Network {
         addr: [10, 0, 0, 0],
-        prefix: 8,
+        prefix,
     })?;
-    let config = Config {
+    let mut list = Vec::new(alloc);
+    for _ in 0..neighbours {
+        list.push(Neighbour {
+            kind: Role::Parent,
+            protocol: Socket::Icp,
+            end: OWN,
+            http_port: 3128,
+            weight: 1,
+            key: None,
+        })?;
+    }
+    Ok(Config {
         icp: OWN,
         htcp: OWN,
         allowed,
         miss_nofetch: false,
         origin: true,
-        entries: 10,
+        entries,
         octets: 1_000,
-        neighbours: Vec::new(alloc),
+        neighbours: list,
         keys: Vec::new(alloc),
-    };
+    })
+}
+
+fn new_node(alloc: Global) -> Result<Node, Fail> {
+    let config = config_of(alloc, 8, 10, 0)?;
     Ok(Node::new(alloc, config).ok().ok_or("a node")?)
 }
 
@@ -76,7 +104,7 @@ fn arrival(alloc: Global, row: &Row) -> Result<Event, Fail> {
         addr: row.from,
         port: 3130,
     };
-    let datagram = Datagram::new(Socket::Icp, from, OWN, row.query.to_vec(alloc)?)
+    let datagram = Datagram::new(row.socket, from, OWN, row.query.to_vec(alloc)?)
         .ok()
         .ok_or("a short datagram")?;
     Ok(Event::Datagram {
@@ -119,6 +147,23 @@ fn queries_get_their_replies(rt: HostRuntime) -> Result<(), Fail> {
     for row in &ROWS {
         assert!(rt; is_answered(alloc, row)?);
         assert!(rt; is_answered_in_list(alloc, row)?);
+    }
+    Ok(())
+}
+
+#[test]
+fn configurations_are_refused(rt: HostRuntime) -> Result<(), Fail> {
+    let alloc = rt.alloc();
+    let rows = [
+        (33, 10, 0, NodeFault::Limits),
+        (8, 0, 0, NodeFault::Limits),
+        (8, 1_000_001, 1, NodeFault::Limits),
+        (33, 0, 2, NodeFault::Table(ConfigFault::DoubleAddress)),
+        (8, 10, 65, NodeFault::Table(ConfigFault::Count)),
+    ];
+    for (prefix, entries, neighbours, fault) in rows {
+        let config = config_of(alloc, prefix, entries, neighbours)?;
+        assert!(rt; Node::new(alloc, config).err() == Some(fault));
     }
     Ok(())
 }

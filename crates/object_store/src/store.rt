@@ -123,6 +123,13 @@ impl Store {
     pub fn holds(&self, key: &CacheKey) -> bool
         ensures { result ≡ is_some (entry_at key.now self.now.pairs) }
     {
+        self.holds_octets(key.as_slice())
+    }
+
+    /// Whether there is an entry whose key has these octets, fresh or not.
+    pub fn holds_octets(&self, key: &[u8]) -> bool
+        ensures { result ≡ is_some (entry_at key.now self.now.pairs) }
+    {
         self.pairs.contains(key)
     }
 
@@ -131,11 +138,19 @@ impl Store {
         ensures value { result ≡ entry_at key.now self.old.pairs }
         ensures changed { self.new ≡ after_remove key.now self.old }
     {
+        self.remove_octets(key.as_slice())
+    }
+
+    /// Takes the entry out whose key has these octets.
+    pub fn remove_octets(&mut self, key: &[u8]) -> Option<Entry>
+        ensures value { result ≡ entry_at key.now self.old.pairs }
+        ensures changed { self.new ≡ after_remove key.now self.old }
+    {
         let _ = self.pairs.len();
         let Some(removed) = self.pairs.pop(key) else {
             return None;
         };
-        self.sum -= size(key.as_slice().len(), &removed);
+        self.sum -= size(key.len(), &removed);
         Some(removed)
     }
 

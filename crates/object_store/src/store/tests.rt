@@ -267,3 +267,32 @@ fn calls(rt: HostRuntime) -> Result<(), Fail> {
     twins.store.facts();
     Ok(())
 }
+
+// An entry that is no longer fresh is held until it is removed, by the octets of its key.
+#[test]
+fn stale_entries(rt: HostRuntime) -> Result<(), Fail> {
+    let alloc = rt.alloc();
+    let mut store = Store::new(alloc, 10, 100)?;
+    assert!(rt;
+        store
+            .put(key(alloc, A)?, entry(alloc, 21, 60, 1010)?)
+            .is_ok()
+    );
+    let stale = Moment::new(61010).ok_or("no moment")?;
+    assert!(rt; store.peek_octets(A.as_bytes(), stale).is_none());
+    for (name, held) in [(A, true), (B, false), ("http://a", false), ("", false)] {
+        assert!(rt; store.holds_octets(name.as_bytes()) == held, "{name}");
+    }
+    assert!(rt; store.remove_octets(B.as_bytes()).is_none());
+    let removed = store.remove_octets(A.as_bytes()).ok_or("the entry")?;
+    assert_eq!(rt; removed.object.get().body().len(), 21);
+    assert!(rt; !store.holds_octets(A.as_bytes()));
+    assert!(rt; store.remove_octets(A.as_bytes()).is_none());
+    // the octets that it had are free again
+    assert!(rt;
+        store
+            .put(key(alloc, B)?, entry(alloc, 91, 60, 1010)?)
+            .is_ok()
+    );
+    Ok(())
+}

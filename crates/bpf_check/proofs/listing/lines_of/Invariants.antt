@@ -1,6 +1,9 @@
-use Rattle.std.proofs.Common.{◌≡◌, ◌++◌, drop, map}
-use Rattle.std.specs.Str.Lines.{lines_of_parts}
+use Rattle.std.proofs.Common.{◌≡◌, ◌++◌, length, map}
+use Rattle.std.specs.Str.Lines.{lines}
 use Rattle.bpf_check.proofs.listing.lines_of.Given as goal
 
-abbrev pub invariant-loop-i : goal.invariant-loop-i
-invariant-loop-i l = map (λ x. x.now) l.lines.items ++ lines_of_parts (map (λ x. x.now) (drop l.i l.parts.items)) ≡ lines_of_parts (map (λ x. x.now) l.parts.items)
+abbrev pub decreases-loop-line : goal.decreases-loop-line
+decreases-loop-line l = length l.rest
+
+abbrev pub invariant-loop-line : goal.invariant-loop-line
+invariant-loop-line l = map (λ x. x.now) l.lines.items ++ lines l.rest ≡ lines l.text

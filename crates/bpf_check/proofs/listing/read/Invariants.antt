@@ -1,20 +1,18 @@
-use Rattle.std.proofs.Common.{◌≡◌, ℕ, ◌+◌, ◌<◌, ◌≤◌, List, [], ◌∷◌, length, map, Some}
-use Rattle.std.specs.Prelude.{slice_get}
+use Rattle.std.proofs.Common.{◌≡◌, ℕ, ◌+◌, ◌<◌, ◌≤◌, [], ◌∷◌, length, drop, Some}
+use Rattle.std.specs.Prelude.{slice_get, IfSome}
+use Rattle.std.specs.Str.Lines.{lines}
 use Rattle.bpf_check.specs.declared.insn.Insn.{Insn}
-use Rattle.bpf_check.specs.Listing.{words, SaysAt, fields, InRange, NoneBefore}
+use Rattle.bpf_check.specs.Insn.{InRange}
+use Rattle.bpf_check.specs.Listing.{SaysAt, fields, NoneBefore}
 use Rattle.bpf_check.proofs.listing.read.Given as goal
 
 abbrev pub invariant-loop-place : goal.invariant-loop-place
 invariant-loop-place l = record {
-  counted : SaysAt (map (λ x. x.now) l.lines) 0 (l.count ∷ []);
+  counted : SaysAt (lines l.text) 0 (l.count ∷ []);
   short : l.count ≤ 512;
-  long : length l.insns.items ≡ l.place;
-  each : (place : ℕ) (i : Insn) → slice_get l.insns.items place ≡ Some i → SaysAt (map (λ x. x.now) l.lines) (place + 1) (fields i) × InRange i;
-  none : NoneBefore (map (λ x. x.now) l.lines) (l.place + 2);
-}
-
-abbrev pub invariant-loop-at : goal.invariant-loop-at
-invariant-loop-at l = record {
-  rest : (at : ℕ) (text : List ℕ) → l.count < at → at < l.at → slice_get (map (λ x. x.now) l.lines) at ≡ Some text → words text ≡ [];
-  none : NoneBefore (map (λ x. x.now) l.lines) (l.at + 1);
+  left : drop (l.place + 1) (lines l.text) ≡ lines l.rest;
+  inside : l.place < length (lines l.text);
+  bound : l.place + 1 + length l.rest ≤ length l.text;
+  each : IfSome l.kept (λ v. (length v.items ≡ l.place) × ((place : ℕ) (i : Insn) → slice_get v.items place ≡ Some i → SaysAt (lines l.text) (place + 1) (fields i) × InRange i));
+  none : NoneBefore (lines l.text) (l.place + 2);
 }

@@ -5,7 +5,7 @@ use Rattle.node_core.proofs.core_node.Core.ask_all.Given as goal
 
 abbrev pub invariant-loop-neighbour : goal.invariant-loop-neighbour
 invariant-loop-neighbour l = record {
-  asked : l.out ≡ map (λ (neighbour : Neighbour). query_by l.self l.number l.key neighbour.end neighbour.protocol) (take l.n l.self.rows.neighbours);
+  asked : l.out ≡ map (λ (neighbour : Neighbour). query_by (record l.self { clock = l.clock }) l.number l.key neighbour neighbour.protocol) (take l.n l.self.rows.neighbours);
   within : l.n ≤ length l.self.rows.neighbours;
   few : length l.self.rows.neighbours ≤ 64;
 }
