@@ -61,7 +61,7 @@ standing_by_check key sign.Absent = absent
 standing_by_check key sign.Good = good key
 standing_by_check key sign.Bad = bad
 
--- what it is worth by the key that it names: nothing where that isn't there
+-- what it is worth by the key that it names: it is bad where that key isn't there
 abbrev pub standing_by_key : Received → List ℕ → ℕ → Option SigningKey → Standing
 standing_by_key r ends seconds None = bad
 standing_by_key r ends seconds (Some key) = standing_by_check key (sign_of r ends key.secret seconds)
