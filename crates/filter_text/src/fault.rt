@@ -1,0 +1,63 @@
+//! Why a text holds no program that can be installed.
+
+use bpf_asm::AsmFault;
+use bpf_check::{CheckFault, ListingFault};
+use std::fmt;
+
+/// Why a text holds no program that can be installed. It prints as one line, without its end: `listing fault`,
+/// `assembler fault` or `check fault`, the fault's number, and ` line <n>` or ` place <i>` where it has one.
+#[derive(Drop)]
+pub enum ProgramFault {
+    /// The listing can't be read.
+    Listing(ListingFault),
+    /// The assembler text can't be read, or a program's text can't be made for want of memory.
+    Assembler(AsmFault),
+    /// The checker refuses the program.
+    Check(CheckFault),
+}
+
+impl ProgramFault {
+    /// Whether memory was refused, so that nothing is known of the text.
+    pub fn is_want_of_memory(&self) -> bool {
+        match self {
+            ProgramFault::Listing(fault) => matches!(fault, ListingFault::NoMemory),
+            ProgramFault::Assembler(fault) => matches!(fault, AsmFault::NoMemory),
+            ProgramFault::Check(_) => false,
+        }
+    }
+}
+
+impl fmt::Display for ProgramFault {
+    fn fmt<W: fmt::Write>(&self, f: &mut fmt::Formatter<W>) -> fmt::Result {
+        match self {
+            ProgramFault::Listing(fault) => {
+                write!(f, "listing fault {}", fault.number())?;
+                write_line(f, fault.line())
+            }
+            ProgramFault::Assembler(fault) => {
+                write!(f, "assembler fault {}", fault.number())?;
+                write_line(f, fault.line())
+            }
+            ProgramFault::Check(fault) => write_check(f, *fault),
+        }
+    }
+}
+
+fn write_line<W: fmt::Write>(f: &mut fmt::Formatter<W>, line: Option<usize>) -> fmt::Result {
+    match line {
+        Some(line) => write!(f, " line {line}"),
+        None => Ok(()),
+    }
+}
+
+fn write_check<W: fmt::Write>(f: &mut fmt::Formatter<W>, fault: CheckFault) -> fmt::Result {
+    match fault {
+        CheckFault::Empty => write!(f, "check fault 1"),
+        CheckFault::TooLong => write!(f, "check fault 2"),
+        CheckFault::UnknownCode(place) => write!(f, "check fault 3 place {place}"),
+        CheckFault::ZeroDivisor(place) => write!(f, "check fault 4 place {place}"),
+        CheckFault::BadScratch(place) => write!(f, "check fault 5 place {place}"),
+        CheckFault::BadJump(place) => write!(f, "check fault 6 place {place}"),
+        CheckFault::NoReturn => write!(f, "check fault 7"),
+    }
+}
