@@ -1,25 +1,34 @@
-# Two commands do everything on a machine that has the Rattle toolchain (`rt`) and make:
-#   make feed   builds the proved program and runs it on the example script
-#   make test   proves every crate from nothing, tries the must-fail edits, runs all tests and all script cases
-# `make bench` measures (it needs valgrind).
+# On a machine that has the Rattle toolchain (`rt`), python3 and make:
+#   make feed    runs the example script: by the proved program where it is built, otherwise unproved, and says which
+#   make build   proves every crate and builds the program
+#   make test    proves every crate from nothing, tries the must-fail edits, runs all tests, script cases and documents
+#   make edits   tries every must-fail edit there is, also those of more-edits/
+#   make bench   measures (it needs valgrind)
 
 PROGRAM = crates/cache_main/out/cache_main
 SCRIPT ?= examples/first_path.script
 
-.PHONY: feed test cases bench
+.PHONY: feed build test cases documents edits bench
 
 feed:
+	@tools/feed $(SCRIPT)
+
+build:
 	@tools/build
-	@echo "== $(PROGRAM) feed < $(SCRIPT)" >&2
-	@$(PROGRAM) feed < $(SCRIPT)
 
 test:
 	@tools/gate
 
-# The script cases alone, against the program as it was last built.
+# The script cases, and the documents' commands, against the program as it was last built.
 cases:
 	@tools/cases $(PROGRAM) cases
 
-bench: feed
+documents:
+	@tools/documents $(PROGRAM)
+
+edits:
+	@tools/edits
+
+bench: build
 	@bench/feed_ir $(PROGRAM)
 	@bench/node_ir $(PROGRAM)
