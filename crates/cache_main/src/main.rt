@@ -1,12 +1,16 @@
 //! The program `cache_main`: its commands, and the lines and exit statuses by which they end.
 #![tactic(auto)]
 
-mod checking;
+mod check_command;
 
-use checking::accepted_text;
+use check_command::run_check;
 use feed_script::feed;
+use std::env::Env;
 use std::process::ExitCode;
-use std::{env, fs, io};
+use std::{env, io};
+
+/// What is told where standard output can't be written.
+pub const NO_OUTPUT: &str = "standard output can't be written";
 
 /// What the program can be asked to do.
 enum Command<'a> {
@@ -17,15 +21,31 @@ enum Command<'a> {
 }
 
 fn main(rt: HostRuntime) -> ExitCode {
-    let words = words_of(&rt).unwrap_or(Vec::new(rt.alloc()));
+    let Ok(words) = words_of(&rt) else {
+        return refuse_words(&rt);
+    };
     match command_of(words.as_slice()) {
         Some(Command::Feed) => run_feed(&rt),
         Some(Command::Check(file)) => run_check(&rt, file),
-        None => {
-            let _ = eprintln!(rt; "usage: cache_main feed | check <file> | serve <config.json>");
-            ExitCode::from(2)
-        }
+        None => tell_usage(&rt),
     }
+}
+
+fn tell_usage(rt: &HostRuntime) -> ExitCode {
+    let _ = eprintln!(rt; "usage: cache_main feed | check <file> | serve <config.json>");
+    ExitCode::from(2)
+}
+
+/// Where the arguments can't be read, since one is no UTF-8: a file of such a name can't be opened here.
+fn refuse_words(rt: &HostRuntime) -> ExitCode {
+    let mut word = [0; 5];
+    if !matches!(rt.arg(1, &mut word), Ok(5)) || word != *b"check" {
+        return tell_usage(rt);
+    }
+    if println!(rt; "file fault").is_err() {
+        let _ = eprintln!(rt; "{NO_OUTPUT}");
+    }
+    ExitCode::FAILURE
 }
 
 /// The program's arguments, its own name first.
@@ -50,24 +70,6 @@ fn run_feed(rt: &HostRuntime) -> ExitCode {
         Ok(()) => ExitCode::SUCCESS,
         Err(fault) => {
             let _ = eprintln!(rt; "{fault}");
-            ExitCode::FAILURE
-        }
-    }
-}
-
-/// Prints what program a file holds, or the line of its fault.
-fn run_check(rt: &HostRuntime, file: &str) -> ExitCode {
-    let Ok(octets) = fs::read(rt, file) else {
-        let _ = println!(rt; "file fault");
-        return ExitCode::FAILURE;
-    };
-    match accepted_text(rt.alloc(), octets.as_slice()) {
-        Ok(text) => match print!(rt; "{text}") {
-            Ok(()) => ExitCode::SUCCESS,
-            Err(_) => ExitCode::FAILURE,
-        },
-        Err(fault) => {
-            let _ = println!(rt; "{fault}");
             ExitCode::FAILURE
         }
     }

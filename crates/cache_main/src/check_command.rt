@@ -1,0 +1,55 @@
+//! The command `check`: prints what program a file holds, or the line of its fault.
+
+use crate::NO_OUTPUT;
+use filter_text::{accepted_text, read_program, script_text};
+use std::fmt::Display;
+use std::fs::File;
+use std::io::Read;
+use std::process::ExitCode;
+
+/// The most octets of a file with a program.
+const MOST_OCTETS: u64 = 16 * 1024 * 1024;
+
+/// Prints what program a file holds on standard output, and as a script has it on standard error; or the line of its fault.
+pub fn run_check(rt: &HostRuntime, file: &str) -> ExitCode {
+    let Some(octets) = octets_of(rt, file) else {
+        return refuse(rt, "file fault");
+    };
+    let program = match read_program(rt.alloc(), octets.as_slice()) {
+        Ok(program) => program,
+        Err(fault) => return refuse(rt, fault),
+    };
+    let Some(text) = accepted_text(rt.alloc(), &program) else {
+        return refuse(rt, "assembler fault 9");
+    };
+    if let Some(script) = script_text(rt.alloc(), &program) {
+        let _ = eprintln!(rt; "script: {script}");
+    }
+    match print!(rt; "{text}") {
+        Ok(()) => ExitCode::SUCCESS,
+        Err(_) => {
+            let _ = eprintln!(rt; "{NO_OUTPUT}");
+            ExitCode::FAILURE
+        }
+    }
+}
+
+/// Prints a fault's line.
+fn refuse<T: Display + Drop>(rt: &HostRuntime, fault: T) -> ExitCode {
+    if println!(rt; "{fault}").is_err() {
+        let _ = eprintln!(rt; "{NO_OUTPUT}");
+    }
+    ExitCode::FAILURE
+}
+
+/// The octets of a file, where it can be read and holds at most 16 MiB.
+fn octets_of(rt: &HostRuntime, file: &str) -> Option<Vec<u8>> {
+    let file = File::open(rt, file).ok()?;
+    let mut octets = Vec::new(rt.alloc());
+    let mut front = file.take(MOST_OCTETS + 1);
+    front.read_to_end(&mut octets).ok()?;
+    if octets.len() as u64 > MOST_OCTETS {
+        return None;
+    }
+    Some(octets)
+}
