@@ -74,4 +74,7 @@ fn run_check(rt: &HostRuntime, file: &str) -> ExitCode {
 }
 
 #[cfg(test)]
+mod event_tests;
+
+#[cfg(test)]
 mod node_tests;
