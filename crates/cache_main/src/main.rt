@@ -76,4 +76,7 @@ fn run_feed(rt: &HostRuntime) -> ExitCode {
 }
 
 #[cfg(test)]
+mod event_tests;
+
+#[cfg(test)]
 mod node_tests;

@@ -2,12 +2,12 @@
 use Rattle.std.proofs.Common.{◌≡◌, true, is_some, unwrap_or, Option, Some, None, List, [], ◌∷◌, ◌++◌, ap, sym, ◌∙◌, refl}
 use Rattle.neighbours.specs.declared.key.Key.{Key}
 use Rattle.neighbours.specs.declared.neighbour.Neighbour.{Neighbour}
-use Rattle.node_core.specs.declared.config.Config.{Config}
-use Rattle.node_core.specs.declared.config.Network.{Network}
-use Rattle.node_core.specs.declared.config.NodeFault.{NodeFault}
-use Rattle.node_core.specs.declared.config.NodeFault.TheVariants.{Table, Limits, NoMemory}
+use Rattle.plain_node.specs.declared.config.Config.{Config}
+use Rattle.plain_node.specs.declared.config.Network.{Network}
+use Rattle.plain_node.specs.declared.config.NodeFault.{NodeFault}
+use Rattle.plain_node.specs.declared.config.NodeFault.TheVariants.{Table, Limits, NoMemory}
 use Rattle.neighbours.specs.declared.fault.ConfigFault.{ConfigFault}
-use Rattle.node_core.specs.Settings.{Setup, setup_of, setup_fault}
+use Rattle.plain_node.specs.Settings.{Setup, setup_of, setup_fault}
 use Rattle.node_core.specs.State.{opening}
 use Rattle.feed_script.specs.declared.phase.Phase.{Phase}
 use Rattle.feed_script.specs.declared.phase.Phase.TheVariants.{Before, Running}

@@ -1,10 +1,10 @@
 -- The text of a script, line by line.
 use Rattle.std.proofs.Common.{◌≡◌, ℕ, Bool, true, false, cond, is_some, List, [], ◌∷◌, ◌++◌, refl, ap, ◌∙◌, sym}
-use Rattle.node_core.specs.declared.action.Action.{Action}
-use Rattle.node_core.specs.Settings.{Setup, setup_fault}
+use Rattle.plain_node.specs.declared.action.Action.{Action}
+use Rattle.plain_node.specs.Settings.{Setup, setup_fault}
 use Rattle.node_core.specs.Happening.{Happening}
 use Rattle.node_core.specs.Run.{answers}
-use Rattle.node_core.specs.PlainNode.{PlainNode}
+use Rattle.plain_node.specs.PlainNode.{PlainNode}
 use Rattle.node_core.specs.State.{State, opening, HasTaken, state_after, actions_at}
 use Rattle.feed_script.specs.ScriptLine.{ScriptLine, sets, goes, happens, refuses, inquires, blank, wrong, script_of}
 use Rattle.feed_script.specs.Printed.{actions_text, refuse_text, stats_text}

@@ -1,7 +1,7 @@
 -- What is still to be printed, for lines that are still to come.
 -- These words serve the contracts of private functions.
 use Rattle.std.specs.Prelude.{◌≡◌, ℕ, ◌+◌, false, List, [], ◌∷◌, ◌++◌, Option, Some, None, if◌then◌else◌}
-use Rattle.node_core.specs.Settings.{Setup, setup_of}
+use Rattle.plain_node.specs.Settings.{Setup, setup_of}
 use Rattle.node_core.specs.State.{State, opening, actions_at, state_after}
 use Rattle.feed_script.specs.declared.station.Station.{Station}
 use Rattle.feed_script.specs.declared.phase.Phase.{Phase}

@@ -12,9 +12,9 @@ use Rattle.bpf_run.specs.declared.ends.Socket.{Socket}
 use Rattle.bpf_run.specs.declared.ends.Socket.TheVariants.{Icp, Htcp}
 use Rattle.neighbours.specs.declared.neighbour.Role.{Role}
 use Rattle.neighbours.specs.declared.neighbour.Role.TheVariants.{Sibling, Parent}
-use Rattle.node_core.specs.declared.config.Network.{Network}
-use Rattle.node_core.specs.declared.event.Mode.{Mode}
-use Rattle.node_core.specs.declared.event.Mode.TheVariants.{Shared, Cached, Private}
+use Rattle.plain_node.specs.declared.config.Network.{Network}
+use Rattle.plain_node.specs.declared.event.Mode.{Mode}
+use Rattle.plain_node.specs.declared.event.Mode.TheVariants.{Shared, Cached, Private}
 use Rattle.object_store.specs.Object.{ObjectFields, object_of}
 
 -- the number that n and then these digits spell

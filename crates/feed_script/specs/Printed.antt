@@ -7,10 +7,10 @@ use Rattle.bpf_check.specs.declared.checked.CheckFault.TheVariants.{Empty, TooLo
 use Rattle.bpf_run.specs.declared.ends.End.{End}
 use Rattle.bpf_run.specs.declared.ends.Socket.{Socket}
 use Rattle.bpf_run.specs.declared.ends.Socket.TheVariants.{Icp, Htcp}
-use Rattle.node_core.specs.declared.action.Action.{Action}
-use Rattle.node_core.specs.declared.action.Action.TheVariants.{Send, Fetch, Serve}
-use Rattle.node_core.specs.declared.action.Answer.{Answer}
-use Rattle.node_core.specs.declared.action.Answer.TheVariants.{Hit, Got, Fail}
+use Rattle.plain_node.specs.declared.action.Action.{Action}
+use Rattle.plain_node.specs.declared.action.Action.TheVariants.{Send, Fetch, Serve}
+use Rattle.plain_node.specs.declared.action.Answer.{Answer}
+use Rattle.plain_node.specs.declared.action.Answer.TheVariants.{Hit, Got, Fail}
 use Rattle.peer_select.specs.declared.reply.Source.{Source}
 use Rattle.peer_select.specs.declared.reply.Source.TheVariants.{Peer, Origin}
 use Rattle.pending_fetch.specs.Fetches.{PendingFetch, fetch_of}

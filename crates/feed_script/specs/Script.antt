@@ -4,8 +4,8 @@ use Rattle.bpf_run.specs.declared.ends.End.{End}
 use Rattle.bpf_run.specs.declared.ends.Socket.{Socket}
 use Rattle.bpf_run.specs.declared.ends.Socket.TheVariants.{Icp, Htcp}
 use Rattle.pending_fetch.specs.Fetches.{PendingFetch}
-use Rattle.node_core.specs.declared.action.Action.{Action}
-use Rattle.node_core.specs.Settings.{Settings, Setup, setup_fault}
+use Rattle.plain_node.specs.declared.action.Action.{Action}
+use Rattle.plain_node.specs.Settings.{Settings, Setup, setup_fault}
 use Rattle.node_core.specs.Happening.{Happening, arrives}
 use Rattle.node_core.specs.Kept.{kept}
 use Rattle.node_core.specs.Run.{run_node, answers}

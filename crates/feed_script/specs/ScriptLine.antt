@@ -12,9 +12,9 @@ use Rattle.neighbours.specs.declared.key.Key.{Key}
 use Rattle.neighbours.specs.declared.neighbour.Neighbour.{Neighbour}
 use Rattle.neighbours.specs.declared.neighbour.Role.{Role}
 use Rattle.object_store.specs.Object.{ObjectFields}
-use Rattle.node_core.specs.declared.config.Network.{Network}
-use Rattle.node_core.specs.declared.event.Mode.{Mode}
-use Rattle.node_core.specs.declared.event.Outcome.TheVariants.{Object, Failed}
+use Rattle.plain_node.specs.declared.config.Network.{Network}
+use Rattle.plain_node.specs.declared.event.Mode.{Mode}
+use Rattle.plain_node.specs.declared.event.Outcome.TheVariants.{Object, Failed}
 use Rattle.node_core.specs.Happening.{Happening, asks, ticks, ends, leaves, swaps}
 use Rattle.feed_script.specs.Lexis.{number, address, end_at, network, octets, program, switch, socket, role, mode, name, key, object}
 

@@ -1,6 +1,6 @@
 //! Where a script stands, and the lines that it obeys there.
 ghost use Rattle.std.specs.Prelude.{◌≡◌, ◌≤◌, true, length, is_some, None, Err, OnOk, OnErr, IfOk};
-ghost use Rattle.node_core.specs.Settings.{setup_fault, setup_of};
+ghost use Rattle.plain_node.specs.Settings.{setup_fault, setup_of};
 ghost use Rattle.node_core.specs.State.{opening};
 ghost use Rattle.node_core.specs.Happening.{happening};
 ghost use Rattle.feed_script.specs.Item.{script_line_of, IsShort};

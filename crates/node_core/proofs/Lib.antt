@@ -1,13 +1,2 @@
-pub mod Crowds
-pub mod Endings
-pub mod Findings
-pub mod Joins
-pub mod Keeps
-pub mod Lent
-pub mod Opens
 pub mod Runs
-pub mod Servings
 pub mod Swaps
-pub mod Tries
-pub mod MessageLemmas
-pub mod RoundLemmas

@@ -1,12 +1,11 @@
 -- What is counted of the events, for each socket.
-use Rattle.std.specs.Prelude.{ℕ, ◌+◌, ◌==◌, nat_lt, not, ◌&&◌, is_none, min, Bool, true, false, List, [], ◌∷◌, length, if◌then◌else◌}
+use Rattle.std.specs.Prelude.{ℕ, ◌+◌, ◌==◌, nat_lt, not, ◌&&◌, min, Bool, true, false, List, [], ◌∷◌, length, if◌then◌else◌}
 use Rattle.bpf_run.specs.declared.ends.Socket.{Socket}
 use Rattle.bpf_run.specs.declared.ends.Socket.TheVariants.{Icp, Htcp}
 use Rattle.filter_slots.specs.Datagram.{DatagramFields}
 use Rattle.filter_slots.specs.Filters.{Filters}
 use Rattle.filter_slots.specs.Verdict.{verdict_in_force}
-use Rattle.icp_packet.specs.Reading as icp
-use Rattle.htcp_packet.specs.Reading as htcp
+use Rattle.plain_node.specs.Plain.{is_no_message}
 use Rattle.node_core.specs.declared.stats.Counters.{Counters}
 use Rattle.node_core.specs.declared.stats.Stats.{Stats}
 use Rattle.node_core.specs.Happening.{Happening, arrives, asks, ticks, ends, leaves, swaps}
@@ -27,11 +26,6 @@ is_rejected filters datagram = verdict_in_force filters datagram == 0
 abbrev pub is_cut : Filters → DatagramFields → Bool
 is_cut filters datagram =
     not (is_rejected filters datagram) && nat_lt (length (handed_on filters datagram).payload) (length datagram.payload)
-
--- whether octets are no message of the socket
-abbrev pub is_no_message : Socket → List ℕ → Bool
-is_no_message Icp octets = is_none (icp.message_of octets)
-is_no_message Htcp octets = is_none (htcp.message_of octets)
 
 -- another verdict, and what is handed on is no message
 abbrev pub is_malformed : Filters → DatagramFields → Bool

@@ -7,8 +7,8 @@ use Rattle.bpf_run.specs.declared.ends.Socket.{Socket}
 use Rattle.filter_slots.specs.Datagram.{DatagramFields}
 use Rattle.node_core.specs.declared.event.Event.{Event}
 use Rattle.node_core.specs.declared.event.Event.TheVariants as event
-use Rattle.node_core.specs.declared.event.Mode.{Mode}
-use Rattle.node_core.specs.declared.event.Outcome.{Outcome}
+use Rattle.plain_node.specs.declared.event.Mode.{Mode}
+use Rattle.plain_node.specs.declared.event.Outcome.{Outcome}
 
 -- a datagram arrives at a moment; a client asks for a key; time goes by; a fetch's attempt ends; a client goes away; or a socket's program is
 -- replaced or taken out

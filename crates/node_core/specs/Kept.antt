@@ -5,7 +5,7 @@ use Rattle.filter_slots.specs.Filters.{Filters, with_slot}
 use Rattle.filter_slots.specs.Verdict.{verdict_in_force}
 use Rattle.filter_slots.specs.Cut.{cut_of}
 use Rattle.node_core.specs.Happening.{Happening, arrives, asks, ticks, ends, leaves, swaps}
-use Rattle.node_core.specs.Plain.{PlainEvent, Arrived, Requested, Ticked, Ended, Left}
+use Rattle.plain_node.specs.Plain.{PlainEvent, Arrived, Requested, Ticked, Ended, Left}
 
 -- the filters after one event
 abbrev pub swapped : Filters → Happening → Filters

@@ -1,10 +1,10 @@
 -- Whole runs of the plain node.
 use Rattle.std.specs.Prelude.{List, [], ◌∷◌, Option, Some, None}
 use Rattle.filter_slots.specs.Filters.{Filters}
-use Rattle.node_core.specs.declared.action.Action.{Action}
+use Rattle.plain_node.specs.declared.action.Action.{Action}
 use Rattle.node_core.specs.Happening.{Happening}
-use Rattle.node_core.specs.PlainNode.{PlainNode}
-use Rattle.node_core.specs.Plain.{PlainEvent, plain_step}
+use Rattle.plain_node.specs.PlainNode.{PlainNode}
+use Rattle.plain_node.specs.Plain.{PlainEvent, plain_step}
 use Rattle.node_core.specs.Kept.{kept, kept_places}
 
 -- the node after the events

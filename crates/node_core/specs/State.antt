@@ -1,24 +1,17 @@
 -- A node as contracts see it, and what it is for it to have taken events.
-use Rattle.std.specs.Prelude.{◌≡◌, ℕ, Bool, true, false, not, ◌||◌, List, [], ◌∷◌, Option, Some, None}
-use Rattle.std.specs.List.{list_all}
+use Rattle.std.specs.Prelude.{◌≡◌, ℕ, Bool, true, false, List, [], ◌∷◌, Option, Some, None}
 use Rattle.bpf_run.specs.declared.ends.Socket.{Socket}
-use Rattle.bpf_run.specs.declared.ends.Socket.TheVariants.{Icp, Htcp}
 use Rattle.filter_slots.specs.Filters.{Filters, no_filters}
-use Rattle.htcp_packet.specs.Message.{Body, empty, specifier, clear, detail, cache_headers, opaque}
-use Rattle.htcp_packet.specs.Reading.{Received, message_of}
-use Rattle.node_core.specs.declared.action.Action.{Action}
-use Rattle.node_core.specs.declared.action.Action.TheVariants.{Send, Fetch, Serve}
+use Rattle.pending_fetch.specs.Fetches.{fetch_of, waits}
+use Rattle.plain_node.specs.declared.action.Action.{Action}
+use Rattle.plain_node.specs.Settings.{Setup}
+use Rattle.plain_node.specs.PlainNode.{PlainNode}
+use Rattle.plain_node.specs.Plain.{PlainEvent, Arrived, Requested, Ticked, Ended, Left}
+use Rattle.plain_node.specs.Opening.{opening_node}
+use Rattle.plain_node.specs.Memory.{serves_none, sends_none, asks_clear}
 use Rattle.node_core.specs.declared.stats.Counters.{Counters}
 use Rattle.node_core.specs.declared.stats.Stats.{Stats}
-use Rattle.neighbours.specs.Rows.{opening as opening_rows}
-use Rattle.pending_fetch.specs.Fetches.{PendingFetch, fetch_of, waits}
-use Rattle.node_core.specs.declared.event.Outcome.{Outcome}
-use Rattle.node_core.specs.declared.event.Outcome.TheVariants.{Object, Failed}
-use Rattle.node_core.specs.Settings.{Setup}
 use Rattle.node_core.specs.Happening.{Happening, arrives, asks, ticks, ends, leaves, swaps}
-use Rattle.node_core.specs.PlainNode.{PlainNode}
-use Rattle.node_core.specs.Plain.{PlainEvent, Arrived, Requested, Ticked, Ended, Left}
-use Rattle.node_core.specs.Outcomes.{counts, is_failure}
 use Rattle.node_core.specs.Kept.{kept, kept_event, filters_after, swapped}
 use Rattle.node_core.specs.Run.{run_node, answers, plain_after, actions_of}
 use Rattle.node_core.specs.Counters.{counted}
@@ -31,16 +24,6 @@ pub record State : Type 0 where
 
 abbrev pub no_counts : Counters
 no_counts = record { judged = 0; rejected = 0; cut = 0; malformed = 0 }
-
--- the plain node before the first event: no times, no misses, nothing stored, nothing pending
-abbrev pub opening_node : Setup → PlainNode
-opening_node setup = record {
-  settings = setup.settings;
-  rows = opening_rows setup.neighbours setup.keys;
-  store = record { most_entries = setup.entries; most_octets = setup.octets; pairs = [] };
-  fetches = record { last = 0; list = [] };
-  clock = 0;
-}
 
 -- the state before the first event
 abbrev pub opening : Setup → State
@@ -68,44 +51,6 @@ state_after old event = record {
 -- the actions of one event
 abbrev pub actions_at : State → Happening → List Action
 actions_at old event = actions_of old.plain (kept_event old.filters event)
-
--- whether a result is no object that is served: a failure, or a sibling's 504
-abbrev pub is_no_object : PlainNode → PendingFetch → Outcome → Bool
-is_no_object node fetch Failed = true
-is_no_object node fetch (Object object) = is_failure node fetch object
-
--- whether a result serves no object: it doesn't count, or is a failure
-abbrev pub serves_none : PlainNode → ℕ → Outcome → Option PendingFetch → Bool
-serves_none node attempt outcome None = true
-serves_none node attempt outcome (Some fetch) = not (counts fetch attempt) || is_no_object node fetch outcome
-
--- whether an action is no datagram that is sent
-abbrev pub is_no_send : Action → Bool
-is_no_send (Send socket to payload) = false
-is_no_send (Fetch fetch attempt source only_if_cached owner) = true
-is_no_send (Serve client answer) = true
-
--- whether no datagram is sent
-abbrev pub sends_none : List Action → Bool
-sends_none actions = list_all is_no_send actions
-
--- whether a message is a request to clear
-abbrev pub is_clear : Body → Bool
-is_clear empty = false
-is_clear (specifier s) = false
-is_clear (clear reason s) = true
-is_clear (detail d) = false
-is_clear (cache_headers h) = false
-is_clear (opaque octets) = false
-
-abbrev pub clears : Option Received → Bool
-clears None = false
-clears (Some r) = is_clear r.message.body
-
--- whether octets are an HTCP request to clear
-abbrev pub asks_clear : Socket → List ℕ → Bool
-asks_clear Icp octets = false
-asks_clear Htcp octets = clears (message_of octets)
 
 -- whether what is kept of an event is an HTCP request to clear
 abbrev pub keeps_clear : Option PlainEvent → Bool

@@ -1,28 +1,9 @@
 //! What happens to a node.
 use bpf_check::Checked;
 use filter_slots::{Datagram, Moment, Socket};
-use object_store::{CacheKey, SharedObject};
+use object_store::CacheKey;
+use plain_node::{Mode, Outcome};
 use std::sync::Arc;
-
-/// How a client's request may be answered.
-#[derive(Clone, Copy, Debug, PartialEq, Eq)]
-pub enum Mode {
-    /// From the store, or by a fetch that others may join.
-    Shared,
-    /// From the store alone.
-    Cached,
-    /// By a fetch of its own, whose result isn't stored.
-    Private,
-}
-
-/// How an attempt of a fetch ended.
-#[derive(Drop)]
-pub enum Outcome {
-    /// With this object.
-    Object(SharedObject),
-    /// Without one.
-    Failed,
-}
 
 /// What happens to a node.
 #[derive(Drop)]

@@ -4,22 +4,20 @@ ghost use Rattle.std.specs.Option.{option_map};
 ghost use Rattle.std.specs.Arc.{arc_value};
 ghost use Rattle.filter_slots.specs.Filters.{AreAccepted, with_slot};
 ghost use Rattle.pending_fetch.specs.Fetches.{PendingFetch, fetch_of, waits};
-ghost use Rattle.node_core.specs.Settings.{setup_of, setup_fault};
-ghost use Rattle.node_core.specs.Plain.{Requested, Ticked, Ended, Left, plain_step};
+ghost use Rattle.plain_node.specs.Settings.{setup_of, setup_fault};
+ghost use Rattle.plain_node.specs.Plain.{Requested, Ticked, Ended, Left, plain_step};
 ghost use Rattle.node_core.specs.Happening.{happening};
 ghost use Rattle.node_core.specs.Kept.{kept_datagram};
 ghost use Rattle.node_core.specs.Run.{plain_after, actions_of};
 ghost use Rattle.node_core.specs.Raised.{counted_datagram};
 
 use crate::NoMemory;
-use crate::action::Out;
-use crate::config::{Config, NodeFault};
-use crate::core_node::Core;
-use crate::event::{Event, Mode, Outcome};
+use crate::event::Event;
 use crate::stats::{Counters, Stats};
 use bpf_check::Checked;
 use filter_slots::{Datagram, Moment, Slots, Socket, cut};
 use object_store::CacheKey;
+use plain_node::{Config, Core, Mode, NodeFault, Out, Outcome};
 use std::alloc::Global;
 use std::marker::Model;
 use std::sync::Arc;
@@ -41,7 +39,8 @@ impl Model for Node {
 }
 
 impl Node {
-    ghost use Rattle.node_core.specs.State.{HasTaken, TakesNone, opening, sends_none, keeps_clear, serves_none};
+    ghost use Rattle.node_core.specs.State.{HasTaken, TakesNone, opening, keeps_clear};
+    ghost use Rattle.plain_node.specs.Memory.{sends_none, serves_none};
 
     /// The node of a configuration, with no filter, nothing stored, nothing pending and nothing counted. Errors: what is wrong
     /// with the neighbours and keys, else a prefix or a limit out of its range, else that there was no memory.

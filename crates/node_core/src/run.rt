@@ -3,9 +3,9 @@ ghost use Rattle.std.specs.Prelude.{◌≤◌, length, take, map, IfOk, IfErr};
 ghost use Rattle.node_core.specs.Happening.{happening};
 ghost use Rattle.node_core.specs.State.{HasTaken};
 
-use crate::action::Out;
 use crate::event::Event;
 use crate::node::Node;
+use plain_node::Out;
 use std::alloc::Global;
 
 /// Memory, or the sharing of a program, was refused: the first `done` events were taken, and `outs` are their actions.

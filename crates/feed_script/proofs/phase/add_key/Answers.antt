@@ -1,4 +1,4 @@
-use Rattle.node_core.specs.Settings.{setup_of}
+use Rattle.plain_node.specs.Settings.{setup_of}
 use Rattle.feed_script.proofs.PhaseLemmas.{with-key}
 use Rattle.feed_script.proofs.phase.add_key.Goals as goal
 

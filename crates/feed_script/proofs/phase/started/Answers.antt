@@ -1,4 +1,4 @@
-use Rattle.node_core.specs.Settings.{setup_fault, setup_of}
+use Rattle.plain_node.specs.Settings.{setup_fault, setup_of}
 use Rattle.feed_script.proofs.PhaseLemmas.{table-some, limits-some}
 use Rattle.feed_script.proofs.phase.started.Goals as goal
 

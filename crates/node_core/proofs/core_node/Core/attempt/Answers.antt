@@ -1,6 +1,0 @@
-use Rattle.pending_fetch.specs.Calls.{told}
-use Rattle.node_core.proofs.Lent.{none_is}
-use Rattle.node_core.proofs.core_node.Core.attempt.Goals as goal
-
-pub returns-in_err-fetch : goal.returns-in_err-fetch
-returns-in_err-fetch c = λ f found. none_is (told f) (c.in_err-fetch.ensures.held f found)

@@ -1,0 +1,11 @@
+pub mod Crowds
+pub mod Endings
+pub mod Findings
+pub mod Joins
+pub mod Keeps
+pub mod Lent
+pub mod MessageLemmas
+pub mod Opens
+pub mod RoundLemmas
+pub mod Servings
+pub mod Tries

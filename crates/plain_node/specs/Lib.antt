@@ -1,0 +1,15 @@
+pub mod Fitting
+pub mod HtcpReplies
+pub mod HtcpRequests
+pub mod Memory
+pub mod Messages
+pub mod Opening
+pub mod Outcomes
+pub mod Plain
+pub mod PlainNode
+pub mod Requests
+pub mod Rounds
+pub mod Settings
+pub mod Signatures
+pub mod Signed
+pub mod Sources

@@ -1,0 +1,120 @@
+//! What an HTCP response does.
+ghost use Rattle.std.specs.Prelude.{◌≡◌, ◌<◌, [], length, true, Some};
+ghost use Rattle.std.specs.Option.{option_map};
+ghost use Rattle.bpf_run.specs.declared.ends.Socket.TheVariants.{Htcp};
+ghost use Rattle.htcp_packet.specs.View.{shown, received};
+ghost use Rattle.pending_fetch.specs.Fetches.{PendingFetch, fetch_of};
+ghost use Rattle.plain_node.specs.PlainNode.{moved};
+ghost use Rattle.plain_node.specs.Messages.{awaiting};
+ghost use Rattle.plain_node.specs.HtcpReplies.{response_step, tested_step, is_trusted, key_name_at, response_kind, answer_kind};
+ghost use Rattle.plain_node.specs.Signatures.{standing};
+
+use crate::action::Out;
+use crate::core_node::Core;
+use crate::messages::is_awaited;
+use filter_slots::{End, Moment, Socket};
+use htcp_packet::HtcpView;
+use peer_select::Kind;
+
+impl Core {
+    /// Takes a response: one that may be trusted of a neighbour counts for the round that asked it.
+    #[tactic(auto, unfolding(crate::specs::HtcpReplies::response_step))]
+    pub(crate) fn take_response(
+        &mut self,
+        from: End,
+        to: End,
+        view: &HtcpView<'_>,
+        now: Moment,
+        out: &mut Out,
+    )
+        requires { out.old ≡ [] }
+        ensures plain { self.new ≡ (response_step (moved self.old now) from to (received view.now)).0 }
+        ensures actions { out.new ≡ (response_step (moved self.old now) from to (received view.now)).1 }
+    {
+        self.tick(now);
+        let Some(n) = self.table.find(Socket::Htcp, from) else {
+            return;
+        };
+        if !self.is_trusted(n, from, to, view) {
+            return;
+        }
+        self.forgive(n);
+        self.take_tested(n, view, out);
+    }
+
+    /// Whether a response of the neighbour at a place may be trusted.
+    fn is_trusted(&self, n: usize, from: End, to: End, view: &HtcpView<'_>) -> bool
+        requires { n < length self.now.rows.neighbours }
+        ensures { result ≡ is_trusted (standing self.now from to (received view.now)) (key_name_at self.now.rows.neighbours n) }
+    {
+        let Some(neighbour) = self.table.get(n) else {
+            return true;
+        };
+        let Some(name) = &neighbour.key else {
+            return true;
+        };
+        let judgement = self.judgement(view, from, to, self.clock);
+        judgement.is_good_by(name.as_slice())
+    }
+
+    /// The answer to a TST counts for the fetch of its number.
+    fn take_tested(&mut self, n: usize, view: &HtcpView<'_>, out: &mut Out)
+        requires place { n < length self.old.rows.neighbours }
+        requires empty { out.old ≡ [] }
+        ensures plain { self.new ≡ (tested_step self.old view.now.trans n (response_kind (shown view.now))).0 }
+        ensures actions { out.new ≡ (tested_step self.old view.now.trans n (response_kind (shown view.now))).1 }
+    {
+        let Some(kind) = kind_of(view) else {
+            return;
+        };
+        self.hear_number(n, view.trans, kind, out);
+    }
+
+    /// A reply of the neighbour at a place counts for the fetch of this number, whatever its key.
+    #[tactic(auto, unfolding(crate::specs::Messages::counted_step))]
+    fn hear_number(&mut self, n: usize, number: u32, kind: Kind, out: &mut Out)
+        requires place { n < length self.old.rows.neighbours }
+        requires empty { out.old ≡ [] }
+        ensures plain { self.new ≡ (tested_step self.old number n (Some kind)).0 }
+        ensures actions { out.new ≡ (tested_step self.old number n (Some kind)).1 }
+    {
+        let Some(start) = self.awaited_by(number, n) else {
+            return;
+        };
+        self.count(number, n, kind, start, out);
+    }
+
+    /// When the round of the fetch of this number began, if a reply of the neighbour at a place counts for it.
+    fn awaited_by(&self, number: u32, n: usize) -> Option<Moment>
+        ensures { result ≡ option_map (λ (fetch : PendingFetch). fetch.round.start) (awaiting n (λ fetch. true) (fetch_of number self.now.fetches.list)) }
+    {
+        let Some(fetch) = self.pending.fetch(number) else {
+            return None;
+        };
+        if !is_awaited(&fetch, n) {
+            return None;
+        }
+        Some(fetch.round.began())
+    }
+}
+
+/// What a response counts as: an answer to a TST alone counts.
+fn kind_of(view: &HtcpView<'_>) -> Option<Kind>
+    ensures { result ≡ response_kind (shown view.now) }
+{
+    if view.opcode != 1 {
+        return None;
+    }
+    Some(answer_kind(view.response, view.f1))
+}
+
+/// What the answer to a TST counts as.
+fn answer_kind(code: u8, mo: bool) -> Kind
+    ensures { result ≡ answer_kind code mo }
+{
+    match (mo, code) {
+        (false, 0) => Kind::Hit,
+        (false, 1) => Kind::Miss,
+        _ => Kind::Refused,
+    }
+}

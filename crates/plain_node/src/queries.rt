@@ -1,0 +1,183 @@
+//! The queries that a shared fetch sends to the neighbours.
+ghost use Rattle.std.specs.Prelude.{◌≡◌, ◌≤◌, [], length, slice_get, option_copied, IfOk, OnOk, OnErr};
+ghost use Rattle.icp_packet.specs.Message.{spelling};
+ghost use Rattle.pending_fetch.specs.Fetches.{next_number};
+ghost use Rattle.plain_node.specs.Requests.{queries, query_by, icp_query, htcp_query, key_named};
+ghost use Rattle.plain_node.specs.Fitting.{asking};
+ghost use Rattle.plain_node.specs.PlainNode.{moved};
+ghost use Rattle.plain_node.specs.Signatures.{text_to};
+ghost use Rattle.htcp_packet.specs.View.{shown as shown_htcp};
+
+use crate::NoMemory;
+use crate::action::{Action, Out, Payload};
+use crate::core_node::Core;
+use filter_slots::Moment;
+use htcp_packet::{HtcpAuth, HtcpBody, HtcpView, Specifier};
+use icp_packet::{EncodeFault, IcpBody, IcpView, Opcode, encode};
+use neighbours::{Neighbour, Socket};
+use object_store::CacheKey;
+use std::alloc::Global;
+
+impl Core {
+    /// The queries for the fetch that is opened next at a moment, and its number. A refusal leaves no action.
+    pub(crate) fn ask(
+        &self,
+        alloc: Global,
+        key: &CacheKey,
+        shared: bool,
+        now: Moment,
+        out: &mut Out,
+    ) -> Result<u32, NoMemory>
+        requires { out.old ≡ [] }
+        ensures number { IfOk result (λ number. number ≡ next_number self.now.fetches) }
+        ensures ok { OnOk result (out.new ≡ asking (moved self.now now) (next_number self.now.fetches) key.now shared) }
+        ensures err { OnErr result (out.new ≡ []) }
+    {
+        let number = self.next_number();
+        if shared {
+            self.ask_all(alloc, number, key, self.clock.later(now), out)?;
+        }
+        Ok(number)
+    }
+
+    /// The number that the next fetch gets.
+    fn next_number(&self) -> u32
+        ensures { result ≡ next_number self.now.fetches }
+    {
+        self.pending.next_number()
+    }
+
+    /// A query to each neighbour at a moment, in order. A refusal leaves no action.
+    #[tactic(auto, unfolding(crate::specs::Requests::queries))]
+    fn ask_all(
+        &self,
+        alloc: Global,
+        number: u32,
+        key: &CacheKey,
+        clock: Moment,
+        out: &mut Out,
+    ) -> Result<(), NoMemory>
+        requires { out.old ≡ [] }
+        ensures ok { OnOk result (out.new ≡ queries (record self.now { clock = clock }) number key.now) }
+        ensures err { OnErr result (out.new ≡ []) }
+    {
+        self.few();
+        let mut n = 0;
+        while let Some(neighbour) = self.neighbour(n) {
+            match self.query_to(alloc, neighbour, number, key, clock) {
+                Ok(action) => out.push(action),
+                Err(e) => {
+                    out.clear();
+                    return Err(e);
+                }
+            }
+            n += 1;
+        }
+        Ok(())
+    }
+
+    /// There are at most 64 neighbours. It does nothing.
+    pub(crate) fn few(&self)
+        ensures { length self.now.rows.neighbours ≤ 64 }
+    {
+        self.table.facts();
+    }
+
+    /// The neighbour at a place.
+    fn neighbour(&self, n: usize) -> Option<&Neighbour>
+        ensures { option_copied result ≡ slice_get self.now.rows.neighbours n }
+    {
+        self.table.get(n)
+    }
+
+    /// The query to a neighbour at a moment, by its protocol.
+    fn query_to(
+        &self,
+        alloc: Global,
+        neighbour: &Neighbour,
+        number: u32,
+        key: &CacheKey,
+        clock: Moment,
+    ) -> Result<Action, NoMemory>
+        ensures { IfOk result (λ action. action ≡ query_by (record self.now { clock = clock }) number key.now neighbour.now neighbour.now.protocol) }
+    {
+        match neighbour.protocol {
+            Socket::Icp => Ok(Action::Send {
+                socket: Socket::Icp,
+                to: neighbour.end,
+                payload: self.icp_query(alloc, number, key)?,
+            }),
+            Socket::Htcp => Ok(Action::Send {
+                socket: Socket::Htcp,
+                to: neighbour.end,
+                payload: self.htcp_query(alloc, neighbour, number, key, clock)?,
+            }),
+        }
+    }
+
+    /// The query by HTCP (RFC 2756): a TST, signed where the neighbour has a key.
+    fn htcp_query(
+        &self,
+        alloc: Global,
+        neighbour: &Neighbour,
+        number: u32,
+        key: &CacheKey,
+        clock: Moment,
+    ) -> Result<Payload, NoMemory>
+        ensures { IfOk result (λ payload. payload ≡ text_to (record self.now { clock = clock }) neighbour.now.end (htcp_query number key.now) (key_named self.now neighbour.now.key)) }
+    {
+        let view = tested(number, key.as_slice());
+        self.text_to(
+            alloc,
+            clock,
+            neighbour.end,
+            &view,
+            self.key_named(&neighbour.key),
+        )
+    }
+
+    /// The query by ICP (RFC 2186).
+    fn icp_query(&self, alloc: Global, number: u32, key: &CacheKey) -> Result<Payload, NoMemory>
+        ensures { IfOk result (λ payload. payload ≡ spelling (icp_query self.now number key.now)) }
+    {
+        let url = key.as_slice();
+        let view = IcpView {
+            op: Opcode::Query,
+            number,
+            options: 0,
+            option_data: 0,
+            sender: self.rules.sender(),
+            body: IcpBody::Query {
+                requester: [0; 4],
+                url,
+            },
+        };
+        match encode(alloc, &view) {
+            Ok(octets) => Ok(Payload::new(octets)),
+            Err(EncodeFault::NoMemory) => Err(NoMemory),
+            Err(EncodeFault::TooLong) => unreachable!(),
+        }
+    }
+}
+
+/// The TST that asks for a key: by GET and HTTP/1.1, with an answer wanted (RD).
+fn tested(number: u32, key: &[u8]) -> HtcpView<'_>
+    ensures { shown_htcp result ≡ htcp_query number key.now }
+{
+    HtcpView {
+        minor: 0,
+        opcode: 1,
+        response: 0,
+        f1: true,
+        rr: false,
+        trans: number,
+        body: HtcpBody::Specifier(Specifier {
+            method: b"GET",
+            uri: key,
+            version: b"HTTP/1.1",
+            headers: b"",
+        }),
+        raw: b"",
+        auth: HtcpAuth::Unsigned,
+    }
+}

@@ -1,0 +1,205 @@
+//! Signatures of HTCP messages, judged and made.
+ghost use Rattle.std.specs.Prelude.{◌≡◌, ◌≤◌, ◌/◌, length, Some, IfOk};
+ghost use Rattle.std.specs.Option.{option_map};
+ghost use Rattle.filter_slots.specs.Datagram.{ends_of};
+ghost use Rattle.htcp_packet.specs.View.{shown, shown_auth, shown_body, received};
+ghost use Rattle.htcp_packet.specs.Writing.{IsWritable, body_text, message_text, without_auth};
+ghost use Rattle.htcp_packet.specs.Signing.{sealed};
+ghost use Rattle.plain_node.specs.Requests.{key_named};
+ghost use Rattle.plain_node.specs.Signatures.{standing, standing_of_auth, standing_by_check, key_of_standing, is_absent, is_bad, is_good_by, text_to};
+ghost use Rattle.plain_node.specs.Signed.{shown_key, shown_standing, IsShortlyNamed};
+
+use crate::NoMemory;
+use crate::action::Payload;
+use crate::core_node::Core;
+use filter_slots::{End, Moment, both_ends};
+use htcp_packet::{EncodeFault, HtcpAuth, HtcpView, Sign, encode, sign, verify};
+use neighbours::Octets;
+use std::alloc::Global;
+
+/// A key that messages are signed with.
+#[derive(Clone, Copy, Debug)]
+pub struct Signer<'a> {
+    pub name: &'a [u8],
+    pub secret: &'a [u8],
+}
+
+/// What the signature of a received message is worth.
+#[derive(Clone, Copy, Debug)]
+pub enum Judgement<'a> {
+    /// The message isn't signed.
+    Absent,
+    /// Its signature is good, by this key.
+    Good(Signer<'a>),
+    /// Its signature isn't good, or names no key that is there.
+    Bad,
+}
+
+impl<'a> Judgement<'a> {
+    /// Whether there is no signature.
+    pub fn is_absent(&self) -> bool
+        ensures { result ≡ is_absent (shown_standing self.now) }
+    {
+        matches!(self, Judgement::Absent)
+    }
+
+    /// Whether there is a signature that isn't good.
+    pub fn is_bad(&self) -> bool
+        ensures { result ≡ is_bad (shown_standing self.now) }
+    {
+        matches!(self, Judgement::Bad)
+    }
+
+    /// The key of a good signature.
+    pub fn key(&self) -> Option<Signer<'a>>
+        ensures { option_map shown_key result ≡ key_of_standing (shown_standing self.now) }
+    {
+        match self {
+            Judgement::Good(key) => Some(*key),
+            Judgement::Absent | Judgement::Bad => None,
+        }
+    }
+
+    /// Whether the signature is good, and by the key of this name.
+    pub fn is_good_by(&self, name: &[u8]) -> bool
+        ensures { result ≡ is_good_by name.now (shown_standing self.now) }
+    {
+        match self {
+            Judgement::Good(key) => key.name == name,
+            Judgement::Absent | Judgement::Bad => false,
+        }
+    }
+}
+
+impl Core {
+    /// What the signature of a message is worth that came from one end to the other, at a moment.
+    #[tactic(auto, unfolding(crate::specs::Signatures::standing))]
+    pub(crate) fn judgement<'a>(
+        &'a self,
+        view: &HtcpView<'a>,
+        from: End,
+        to: End,
+        clock: Moment,
+    ) -> Judgement<'a>
+        ensures value { shown_standing result ≡ standing (record self.now { clock = clock }) from to (received view.now) }
+        ensures named { IsShortlyNamed (key_of_standing (shown_standing result)) }
+    {
+        self.judged(view, &both_ends(from, to), clock.seconds())
+    }
+
+    /// What the signature of a message is worth that came between these ends, at a second.
+    fn judged<'a>(&'a self, view: &HtcpView<'a>, ends: &[u8; 12], seconds: u32) -> Judgement<'a>
+        ensures value { shown_standing result ≡ standing_of_auth self.now.rows.keys (received view.now) ends.now seconds (shown_auth view.now.auth) }
+        ensures named { IsShortlyNamed (key_of_standing (shown_standing result)) }
+    {
+        let HtcpAuth::Signed { key_name, .. } = view.auth else {
+            return Judgement::Absent;
+        };
+        let Some(secret) = self.table.secret(key_name) else {
+            return Judgement::Bad;
+        };
+        let key = Signer {
+            name: key_name,
+            secret,
+        };
+        judged_under(key, verify(view, ends, secret, seconds))
+    }
+
+    /// The key of this name, if one is named.
+    pub(crate) fn key_named<'a>(&'a self, name: &'a Option<Octets>) -> Option<Signer<'a>>
+        ensures value { option_map shown_key result ≡ key_named self.now name.now }
+        ensures named { IsShortlyNamed (option_map shown_key result) }
+    {
+        let Some(name) = name else {
+            return None;
+        };
+        let name = name.as_slice();
+        let Some(secret) = self.table.secret(name) else {
+            return None;
+        };
+        Some(Signer { name, secret })
+    }
+
+    /// The octets of a message to a receiver at a moment: signed, where there is a key to sign it with.
+    pub(crate) fn text_to(
+        &self,
+        alloc: Global,
+        clock: Moment,
+        to: End,
+        view: &HtcpView<'_>,
+        key: Option<Signer<'_>>,
+    ) -> Result<Payload, NoMemory>
+        requires writable { IsWritable (shown view.now) }
+        requires short { length (body_text (shown_body view.now.body)) ≤ 65000 }
+        requires named { IsShortlyNamed (option_map shown_key key) }
+        ensures { IfOk result (λ payload. payload ≡ text_to (record self.now { clock = clock }) to (shown view.now) (option_map shown_key key.entry)) }
+    {
+        match key {
+            None => unsigned(alloc, view),
+            Some(key) => self.signed_to(alloc, clock, to, view, key),
+        }
+    }
+
+    /// The octets of a message to a receiver at a moment, signed with a key.
+    fn signed_to(
+        &self,
+        alloc: Global,
+        clock: Moment,
+        to: End,
+        view: &HtcpView<'_>,
+        key: Signer<'_>,
+    ) -> Result<Payload, NoMemory>
+        requires writable { IsWritable (shown view.now) }
+        requires short { length (body_text (shown_body view.now.body)) ≤ 65000 }
+        requires named { length key.name.now ≤ 255 }
+        ensures { IfOk result (λ payload. payload ≡ text_to (record self.now { clock = clock }) to (shown view.now) (Some (shown_key key.entry))) }
+    {
+        let ends = both_ends(self.rules.htcp(), to);
+        signed(alloc, view, &ends, key.name, key.secret, clock.seconds())
+    }
+}
+
+/// What a signature is worth by its own check under this key.
+fn judged_under(key: Signer<'_>, sign: Sign) -> Judgement<'_>
+    ensures { shown_standing result ≡ standing_by_check (shown_key key.entry) sign }
+{
+    match sign {
+        Sign::Absent => Judgement::Absent,
+        Sign::Good => Judgement::Good(key),
+        Sign::Bad => Judgement::Bad,
+    }
+}
+
+/// The octets of a message, signed with a key of this name and secret.
+fn signed(
+    alloc: Global,
+    view: &HtcpView<'_>,
+    ends: &[u8; 12],
+    name: &[u8],
+    secret: &[u8],
+    seconds: u32,
+) -> Result<Payload, NoMemory>
+    requires writable { IsWritable (shown view.now) }
+    requires short { length (body_text (shown_body view.now.body)) ≤ 65000 }
+    requires named { length name.now ≤ 255 }
+    ensures { IfOk result (λ payload. payload ≡ message_text (sealed (shown view.now) ends.now name.now secret.now seconds)) }
+{
+    match sign(alloc, view, ends, name, secret, seconds) {
+        Ok(octets) => Ok(Payload::new(octets)),
+        Err(EncodeFault::NoMemory) => Err(NoMemory),
+        Err(EncodeFault::TooLong) => unreachable!(),
+    }
+}
+
+/// The octets of a message without a signature.
+fn unsigned(alloc: Global, view: &HtcpView<'_>) -> Result<Payload, NoMemory>
+    requires writable { IsWritable (shown view.now) }
+    requires short { length (body_text (shown_body view.now.body)) ≤ 65000 }
+    ensures { IfOk result (λ payload. payload ≡ message_text (without_auth (shown view.now))) }
+{
+    match encode(alloc, view) {
+        Ok(octets) => Ok(Payload::new(octets)),
+        Err(EncodeFault::NoMemory) => Err(NoMemory),
+        Err(EncodeFault::TooLong) => unreachable!(),
+    }
+}

@@ -1,0 +1,137 @@
+//! Where a fetch goes once its round is decided.
+ghost use Rattle.std.specs.Prelude.{◌≡◌, ◌≤◌, ◌+◌, ◌++◌, length, true, Some, None, option_map, IfSome};
+ghost use Rattle.peer_select.specs.declared.reply.Source.{Source};
+ghost use Rattle.peer_select.specs.Poll.{decided, matches};
+ghost use Rattle.pending_fetch.specs.Fetches.{PendingFetch, fetch_of, waiters_of};
+ghost use Rattle.pending_fetch.specs.Calls.{told, shown};
+ghost use Rattle.plain_node.specs.declared.action.Action.TheVariants.{Fetch};
+ghost use Rattle.plain_node.specs.declared.action.Answer.TheVariants.{Fail};
+ghost use Rattle.plain_node.specs.PlainNode.{closed, serves};
+ghost use Rattle.plain_node.specs.Sources.{decision_step, tried, source_of, is_sibling, is_sibling_at, is_sibling_source};
+
+use crate::action::{Action, Out};
+use crate::core_node::Core;
+use crate::serving::serve_fail;
+use neighbours::Role;
+use peer_select::Source;
+use pending_fetch::Fetch as Pended;
+
+impl Core {
+    /// If its round is decided, the fetch of this number goes to its first source; to have none at all is 503.
+    #[tactic(auto, unfolding(crate::specs::Sources::decision_step))]
+    pub(crate) fn decide(&mut self, number: u32, out: &mut Out)
+        requires room { length out.old + 1 + length (waiters_of number self.old.fetches.list) ≤ 1344 }
+        ensures node { (f : PendingFetch) → fetch_of number self.old.fetches.list ≡ Some f → self.new ≡ (decision_step self.old f).0 }
+        ensures actions { (f : PendingFetch) → fetch_of number self.old.fetches.list ≡ Some f → out.new ≡ out.old ++ (decision_step self.old f).1 }
+    {
+        if self.is_decided(number) {
+            self.try_source(number, 503, out);
+        }
+    }
+
+    /// The fetch of this number goes to the source of its attempt. Where there is none, each waiter is told this status, and
+    /// the fetch is closed.
+    #[tactic(auto, unfolding(crate::specs::Sources::tried))]
+    pub(crate) fn try_source(&mut self, number: u32, status: u16, out: &mut Out)
+        requires room { length out.old + 1 + length (waiters_of number self.old.fetches.list) ≤ 1344 }
+        ensures node { (f : PendingFetch) → fetch_of number self.old.fetches.list ≡ Some f → self.new ≡ (tried self.old status f (source_of self.old f)).0 }
+        ensures actions { (f : PendingFetch) → fetch_of number self.old.fetches.list ≡ Some f → out.new ≡ out.old ++ (tried self.old status f (source_of self.old f)).1 }
+    {
+        match self.attempt(number) {
+            Some(action) => out.push(action),
+            None => self.give_up(number, status, out),
+        }
+    }
+
+    /// Each waiter is told this status, and the fetch is closed.
+    fn give_up(&mut self, number: u32, status: u16, out: &mut Out)
+        requires { length out.old + length (waiters_of number self.old.fetches.list) ≤ 1344 }
+        ensures node { self.new ≡ closed self.old number }
+        ensures actions { out.new ≡ out.old ++ serves (Fail status) (waiters_of number self.old.fetches.list) }
+    {
+        self.tell(number, status, out);
+        self.close(number);
+    }
+
+    /// Each waiter is told this status.
+    fn tell(&self, number: u32, status: u16, out: &mut Out)
+        requires { length out.old + length (waiters_of number self.now.fetches.list) ≤ 1344 }
+        ensures { out.new ≡ out.old ++ serves (Fail status) (waiters_of number self.now.fetches.list) }
+    {
+        serve_fail(&self.pending, number, status, out);
+    }
+
+    /// Whether the round of the fetch of this number is decided.
+    pub(crate) fn is_decided(&self, number: u32) -> bool
+        ensures { (f : PendingFetch) → fetch_of number self.now.fetches.list ≡ Some f → result ≡ decided f.round }
+    {
+        match self.held(number) {
+            Some(fetch) => fetch.round.decided(),
+            None => false,
+        }
+    }
+
+    /// The fetch of this number at its attempt, where it has a source.
+    fn attempt(&self, number: u32) -> Option<Action>
+        ensures { (f : PendingFetch) → fetch_of number self.now.fetches.list ≡ Some f →
+            result ≡ option_map (λ (source : Source). Fetch number f.attempt source (is_sibling_source self.now.rows.neighbours source) f.owner) (source_of self.now f) }
+    {
+        let fetch = self.held(number)?;
+        let source = self.source(fetch)?;
+        Some(Action::Fetch {
+            fetch: number,
+            attempt: fetch.attempt,
+            source,
+            only_if_cached: self.is_sibling(source),
+            owner: fetch.owner,
+        })
+    }
+
+    /// The source of a fetch at its attempt.
+    pub(crate) fn source(&self, fetch: Pended<'_>) -> Option<Source>
+        requires { matches self.now.rows.neighbours fetch.round.now.peers ≡ true }
+        ensures { (f : PendingFetch) → shown fetch.entry ≡ told f → result ≡ source_of self.now f }
+    {
+        fetch
+            .round
+            .source(&self.table, fetch.attempt, self.rules.origin())
+    }
+
+    /// Whether a source is a sibling.
+    pub(crate) fn is_sibling(&self, source: Source) -> bool
+        ensures { result ≡ is_sibling_source self.now.rows.neighbours source }
+    {
+        match source {
+            Source::Peer(n) => self.is_sibling_at(n),
+            Source::Origin => false,
+        }
+    }
+
+    /// Whether the neighbour at a place is a sibling.
+    fn is_sibling_at(&self, n: usize) -> bool
+        ensures { result ≡ is_sibling_at self.now.rows.neighbours n }
+    {
+        match self.table.get(n) {
+            Some(neighbour) => is_sibling(neighbour.kind),
+            None => false,
+        }
+    }
+
+    /// The pending fetch of this number.
+    pub(crate) fn held(&self, number: u32) -> Option<Pended<'_>>
+        ensures held { (f : PendingFetch) → fetch_of number self.now.fetches.list ≡ Some f → option_map shown result ≡ Some (told f) }
+        ensures absent { fetch_of number self.now.fetches.list ≡ None → result ≡ None }
+        ensures matching { IfSome result (λ fetch. matches self.now.rows.neighbours fetch.round.now.peers ≡ true) }
+    {
+        self.pending.fetch(number)
+    }
+}
+
+fn is_sibling(role: Role) -> bool
+    ensures { result ≡ is_sibling role }
+{
+    match role {
+        Role::Sibling => true,
+        Role::Parent => false,
+    }
+}
