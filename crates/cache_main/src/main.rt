@@ -2,11 +2,15 @@
 #![tactic(auto)]
 
 mod check_command;
+mod serve_command;
 
 use check_command::run_check;
 use feed_script::feed;
+use serve_command::run_serve;
 use std::env::Env;
+use std::marker::Brand;
 use std::process::ExitCode;
+use std::sync::ledger::Blank;
 use std::{env, io};
 
 /// What is told where standard output can't be written.
@@ -18,6 +22,8 @@ enum Command<'a> {
     Feed,
     /// Say what program a file holds.
     Check(&'a str),
+    /// Run a proxy by a configuration file.
+    Serve(&'a str),
 }
 
 fn main(rt: HostRuntime) -> ExitCode {
@@ -27,6 +33,13 @@ fn main(rt: HostRuntime) -> ExitCode {
     match command_of(words.as_slice()) {
         Some(Command::Feed) => run_feed(&rt),
         Some(Command::Check(file)) => run_check(&rt, file),
+        Some(Command::Serve(file)) => {
+            if run_serve::<Brand, _>(rt, Blank::new(7), file) {
+                ExitCode::SUCCESS
+            } else {
+                ExitCode::FAILURE
+            }
+        }
         None => tell_usage(&rt),
     }
 }
@@ -58,6 +71,7 @@ fn command_of(words: &[String]) -> Option<Command<'_>> {
     match words {
         [_, word] if word.as_str() == "feed" => Some(Command::Feed),
         [_, word, file] if word.as_str() == "check" => Some(Command::Check(file.as_str())),
+        [_, word, file] if word.as_str() == "serve" => Some(Command::Serve(file.as_str())),
         _ => None,
     }
 }
@@ -77,6 +91,5 @@ fn run_feed(rt: &HostRuntime) -> ExitCode {
 
 #[cfg(test)]
 mod event_tests;
-
 #[cfg(test)]
 mod node_tests;

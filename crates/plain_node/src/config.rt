@@ -18,7 +18,7 @@ pub struct Network {
 
 impl Network {
     /// Whether an address is in the network.
-    fn contains(&self, addr: [u8; 4]) -> bool
+    pub fn contains(&self, addr: [u8; 4]) -> bool
         ensures { result ≡ is_inside addr self.now }
     {
         first_bits(self.prefix, addr) == first_bits(self.prefix, self.addr)

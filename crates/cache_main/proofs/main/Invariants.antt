@@ -1,0 +1,5 @@
+-- The ledger that the proxy's seats count with.
+use Rattle.cache_main.proofs.main.Given as goal
+
+abbrev pub ghosts-run_serve : goal.ghosts-run_serve
+ghosts-run_serve a = record { name = a.blank.name; parts = a.blank.parts }

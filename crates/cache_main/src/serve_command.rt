@@ -1,0 +1,96 @@
+//! The command `serve`: a proxy, until it has given its last answer.
+ghost use Rattle.std.specs.Prelude.{◌≡◌};
+
+use cache_serve::{Limits, Port, ServeFault, start};
+use serve_config::Settings;
+use std::alloc::AllocGlobal;
+use std::fs;
+use std::fs::Files;
+use std::io::{Eprint, Print};
+use std::net::Net;
+use std::random::RandomSource;
+use std::sync::Wait;
+use std::sync::ledger::{Blank, Ledger};
+use std::thread::Threads;
+use std::time::Clock;
+
+/// Runs a proxy by a configuration file. Prints `ready` once all its sockets are bound, and the line of a fault on standard error.
+/// The answer is whether all went well.
+pub fn run_serve<L, R>(rt: R, blank: Blank, file: &str) -> bool
+where
+    L: Ledger + Send + Sync + 'static,
+    R: Threads
+        + Wait
+        + Net
+        + Clock
+        + RandomSource
+        + AllocGlobal
+        + Files
+        + Print
+        + Eprint
+        + Copy
+        + Send
+        + 'static,
+    requires name { blank.name ≡ L.name }
+    requires parts { blank.parts ≡ L.parts }
+    requires seven { blank.parts ≡ 7 }
+{
+    let Ok(text) = fs::read(&rt, file) else {
+        let _ = eprintln!(rt; "file fault");
+        return false;
+    };
+    let settings = match Settings::read(rt.alloc(), text.as_slice()) {
+        Ok(settings) => settings,
+        Err(fault) => {
+            let _ = eprintln!(rt; "{fault}");
+            return false;
+        }
+    };
+    match start::<L, R>(rt, blank, settings, Limits::usual()) {
+        Ok(site) => {
+            let _ = println!(rt; "ready");
+            match site.finish(rt) {
+                Ok(_) => true,
+                Err(fault) => tell_end(&rt, fault),
+            }
+        }
+        Err(fault) => tell_start(&rt, fault),
+    }
+}
+
+/// Why no proxy runs by a configuration.
+fn tell_start<R: Eprint>(rt: &R, fault: ServeFault) -> bool {
+    let _ = match fault {
+        ServeFault::Node(fault) => eprintln!(rt; "config fault 3\n{fault}"),
+        ServeFault::Volume => eprintln!(rt; "config fault 3\nvolume: not 1 to 1048576"),
+        ServeFault::Bind(port) => {
+            let key = key_of(port);
+            eprintln!(rt; "config fault 4\n{key}: no socket can be bound there")
+        }
+        ServeFault::NoMemory => eprintln!(rt; "config fault 5"),
+        ServeFault::Settle => eprintln!(rt; "serve fault 2"),
+        ServeFault::QuerySocket => eprintln!(rt; "serve fault 3"),
+    };
+    false
+}
+
+/// How a proxy ended that ran.
+fn tell_end<R: Eprint>(rt: &R, fault: ServeFault) -> bool {
+    let number = match fault {
+        ServeFault::Settle => 2,
+        ServeFault::QuerySocket => 3,
+        _ => 1,
+    };
+    let _ = eprintln!(rt; "serve fault {number}");
+    false
+}
+
+/// The key of a port in the configuration.
+fn key_of(port: Port) -> &'static str {
+    match port {
+        Port::Icp => "icp_port",
+        Port::Htcp => "htcp_port",
+        Port::Clients => "http_port",
+        Port::Administration => "admin_port",
+    }
+}
