@@ -78,3 +78,6 @@ mod event_tests;
 
 #[cfg(test)]
 mod node_tests;
+
+#[cfg(test)]
+mod tally_tests;
