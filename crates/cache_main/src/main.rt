@@ -93,3 +93,6 @@ fn run_feed(rt: &HostRuntime) -> ExitCode {
 mod event_tests;
 #[cfg(test)]
 mod node_tests;
+
+#[cfg(test)]
+mod tally_tests;

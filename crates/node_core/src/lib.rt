@@ -12,7 +12,7 @@ pub use event::Event;
 pub use laws::{accepted_law, append_law, filters_law, kept_law, rejected_law, step_law};
 pub use node::Node;
 pub use plain_node::{
-    Action, Answer, Config, Mode, Network, NoMemory, NodeFault, Out, Outcome, Payload,
+    Action, Answer, Config, Mode, Network, NoMemory, NodeFault, Out, Outcome, Payload, Tally,
 };
 pub use run::{RunFault, run_events};
 pub use stats::{Counters, Stats};

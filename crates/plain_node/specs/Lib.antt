@@ -13,3 +13,4 @@ pub mod Settings
 pub mod Signatures
 pub mod Signed
 pub mod Sources
+pub mod Tally

@@ -17,9 +17,11 @@ mod rounds;
 mod serving;
 mod signatures;
 mod sources;
+mod tally;
 
 pub use action::{Action, Answer, Out, Payload};
 pub use config::{Config, Network, NodeFault};
 pub use core_node::Core;
 pub use event::{Mode, Outcome};
 pub use std::alloc::AllocError as NoMemory;
+pub use tally::Tally;

@@ -1,0 +1,221 @@
+//! What the actions of one event come to: how many there are of each kind, and a digest of them all.
+ghost use Rattle.std.specs.Prelude.{◌≡◌, ◌++◌, ◌∷◌, [], ℕ, List, Bool};
+ghost use Rattle.std.specs.List.{flat_map};
+ghost use Rattle.md5.specs.Md5.{Holds, md5};
+ghost use Rattle.object_store.specs.Object.{spelled_number, spelled_octets};
+ghost use Rattle.plain_node.specs.declared.action.Action.TheVariants as action;
+ghost use Rattle.plain_node.specs.Tally.{how_many, kind_of, spelled, spelled_end, spelled_flag, spelled_owner, spelled_socket, spelled_source, tally_of};
+
+use crate::{Action, Answer, Out};
+use filter_slots::{End, Socket};
+use md5::{Digest, Md5};
+use object_store::SharedObject;
+use peer_select::Source;
+
+/// How many actions an event had of each kind, and a digest of them all.
+#[derive(Clone, Copy, Debug, PartialEq, Eq)]
+pub struct Tally {
+    /// The datagrams.
+    pub sends: u64,
+    /// The fetches.
+    pub fetches: u64,
+    /// The answers with a stored object.
+    pub hits: u64,
+    /// The answers with a fetched object.
+    pub gots: u64,
+    /// The answers with a status alone.
+    pub fails: u64,
+    /// MD5 (RFC 1321) of the actions, spelled one after the other.
+    pub digest: [u8; 16],
+}
+
+impl Tally {
+    /// What these actions come to. It takes no memory.
+    pub fn of(actions: &[Action]) -> Tally
+        ensures { result ≡ tally_of actions.now }
+    {
+        Tally {
+            sends: how_many(0, actions),
+            fetches: how_many(1, actions),
+            hits: how_many(2, actions),
+            gots: how_many(3, actions),
+            fails: how_many(4, actions),
+            digest: digest_of(actions),
+        }
+    }
+}
+
+impl Out {
+    /// What the actions come to. It takes no memory.
+    pub fn tally(&self) -> Tally
+        ensures { result ≡ tally_of self.now }
+    {
+        Tally::of(self.actions())
+    }
+}
+
+// The kind of an action, as it is counted and spelled.
+fn kind_of(action: &Action) -> u8
+    ensures { result ≡ kind_of action.now }
+{
+    match action {
+        Action::Send { .. } => 0,
+        Action::Fetch { .. } => 1,
+        Action::Serve {
+            answer: Answer::Hit { .. },
+            ..
+        } => 2,
+        Action::Serve {
+            answer: Answer::Got(_),
+            ..
+        } => 3,
+        Action::Serve {
+            answer: Answer::Fail(_),
+            ..
+        } => 4,
+    }
+}
+
+// How many actions are of a kind.
+fn how_many(kind: u8, actions: &[Action]) -> u64
+    ensures { result ≡ how_many kind actions.now }
+{
+    actions
+        .iter()
+        .filter(|action| kind_of(action) == kind)
+        .count() as u64
+}
+
+// MD5 of the actions, spelled one after the other.
+fn digest_of(actions: &[Action]) -> [u8; 16]
+    ensures { result ≡ md5 (flat_map spelled actions.now) }
+{
+    let mut hasher = Md5::new();
+    for action in actions {
+        add_action(&mut hasher, action);
+    }
+    hasher.finalize()
+}
+
+// Takes an action in.
+fn add_action(hasher: &mut Md5, action: &Action)
+    ensures { (m : List ℕ) → Holds hasher.old m → Holds hasher.new (m ++ spelled action.now) }
+{
+    match action {
+        Action::Send {
+            socket,
+            to,
+            payload,
+        } => {
+            let octets = payload.as_slice();
+            hasher.update(&send_head(*socket, *to, octets.len() as u64));
+            hasher.update(octets);
+        }
+        Action::Fetch {
+            fetch,
+            attempt,
+            source,
+            only_if_cached,
+            owner,
+        } => {
+            hasher.update(&tagged_number(1, u64::from(*fetch)));
+            add_number(hasher, u64::from(*attempt));
+            add_source(hasher, *source);
+            add_flag(hasher, *only_if_cached);
+            add_owner(hasher, *owner);
+        }
+        Action::Serve { client, answer } => add_answer(hasher, *client, answer),
+    }
+}
+
+// Takes an answer to a client in.
+fn add_answer(hasher: &mut Md5, client: u64, answer: &Answer)
+    ensures { (m : List ℕ) → Holds hasher.old m → Holds hasher.new (m ++ spelled (action.Serve client answer.now)) }
+{
+    match answer {
+        Answer::Hit { object, age } => {
+            hasher.update(&tagged_number(2, client));
+            hasher.update(&object.get().digest());
+            add_number(hasher, u64::from(*age));
+        }
+        Answer::Got(object) => {
+            hasher.update(&tagged_number(3, client));
+            hasher.update(&object.get().digest());
+        }
+        Answer::Fail(status) => {
+            hasher.update(&tagged_number(4, client));
+            add_number(hasher, u64::from(*status));
+        }
+    }
+}
+
+// Takes a source in.
+fn add_source(hasher: &mut Md5, source: Source)
+    ensures { (m : List ℕ) → Holds hasher.old m → Holds hasher.new (m ++ spelled_source source) }
+{
+    match source {
+        Source::Peer(place) => hasher.update(&tagged_number(0, place as u64)),
+        Source::Origin => hasher.update(&[1]),
+    }
+}
+
+// Takes the owner of a fetch in, or that it has none.
+fn add_owner(hasher: &mut Md5, owner: Option<u64>)
+    ensures { (m : List ℕ) → Holds hasher.old m → Holds hasher.new (m ++ spelled_owner owner) }
+{
+    match owner {
+        None => hasher.update(&[0]),
+        Some(client) => hasher.update(&tagged_number(1, client)),
+    }
+}
+
+// One octet for a choice, then a number.
+#[tactic(auto, unfolding(object_store::specs::Object::spelled_number))]
+fn tagged_number(choice: u8, number: u64) -> [u8; 9]
+    ensures { result ≡ choice ∷ spelled_number number }
+{
+    let octets = number.to_be_bytes();
+    [
+        choice, octets[0], octets[1], octets[2], octets[3], octets[4], octets[5], octets[6],
+        octets[7],
+    ]
+}
+
+// What stands before a datagram's octets: the kind, the socket, the end and how many octets there are.
+fn send_head(socket: Socket, to: End, octets: u64) -> [u8; 22]
+    ensures { result ≡ 0 ∷ spelled_socket socket ++ spelled_end to ++ spelled_number octets }
+{
+    let choice = socket_octet(socket);
+    let port = u64::from(to.port).to_be_bytes();
+    let length = octets.to_be_bytes();
+    [
+        0, choice, to.addr[0], to.addr[1], to.addr[2], to.addr[3], port[0], port[1], port[2],
+        port[3], port[4], port[5], port[6], port[7], length[0], length[1], length[2], length[3],
+        length[4], length[5], length[6], length[7],
+    ]
+}
+
+// The choice of a socket.
+fn socket_octet(socket: Socket) -> u8
+    ensures { spelled_socket socket ≡ result ∷ [] }
+{
+    match socket {
+        Socket::Icp => 0,
+        Socket::Htcp => 1,
+    }
+}
+
+// Takes a number in.
+#[tactic(auto, unfolding(object_store::specs::Object::spelled_number))]
+fn add_number(hasher: &mut Md5, number: u64)
+    ensures { (m : List ℕ) → Holds hasher.old m → Holds hasher.new (m ++ spelled_number number) }
+{
+    hasher.update(&number.to_be_bytes());
+}
+
+// Takes a choice between no and yes in.
+fn add_flag(hasher: &mut Md5, flag: bool)
+    ensures { (m : List ℕ) → Holds hasher.old m → Holds hasher.new (m ++ spelled_flag flag) }
+{
+    hasher.update(&[u8::from(flag)]);
+}
