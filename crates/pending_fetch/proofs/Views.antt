@@ -1,5 +1,5 @@
 -- What holds of the slots after each call, and what is seen of them.
-use Rattle.std.proofs.Common.{◌≡◌, ℕ, ◌<◌, ◌≤◌, Bool, true, false, nat_le, List, [], ◌∷◌, ◌++◌, length, map, get_or, refl, ap, sym, ◌∙◌, subst, arith, ◌==◌, ◌||◌, Some, None, if◌then◌else◌}
+use Rattle.std.proofs.Common.{◌≡◌, ℕ, ◌<◌, ◌≤◌, Bool, true, false, nat_le, List, [], ◌∷◌, ◌++◌, length, map, drop, get_or, refl, ap, sym, ◌∙◌, subst, arith, ◌==◌, ◌||◌, Some, None, if◌then◌else◌}
 use Rattle.std.specs.List.{list_any, list_all, find, position, IsDistinct}
 use Rattle.std.specs.Option.{option_map}
 use Rattle.std.specs.Prelude.{Option, Result, Ok, Err, OnOk, is_err}
@@ -229,3 +229,9 @@ held_opened cap after number last slots new clients more slot key client shared 
       legal = legal_by (held new more) (list ++ as_fetch slot (client ∷ []) ∷ []) joined
           (IsLegal-push list (as_fetch slot (client ∷ [])) client refl few space unused (ap (λ (w : Fetches). waits client w.list) e ∙ absent) after_all h.legal);
     }
+
+-- when all rounds started
+pub starts_held : (start : ℕ) (slots : List Slot) (clients : List ℕ) →
+    list_all (λ (slot : Slot). nat_le slot.round.start start) slots ≡ list_all (λ one. nat_le one start) (starts (held slots clients))
+starts_held start [] clients = refl
+starts_held start (slot ∷ slots) clients = rw (starts_held start slots (drop slot.waiting clients)) refl

@@ -7,13 +7,15 @@ ghost use Rattle.pending_fetch.specs.Fetches.{changed, with_reply, with_end, wit
 ghost use Rattle.pending_fetch.specs.Calls.{is_crowded, is_full, join_fault, join_answer, join_list, may_advance, fits, told, shown};
 ghost use Rattle.pending_fetch.specs.Legal.{IsLegal};
 ghost use Rattle.pending_fetch.specs.Slots.{as_fetch, slot_told};
+ghost use Rattle.pending_fetch.specs.declared.slot.Slot.{Slot};
 
 use crate::fault::{JoinFault, OpenFault};
 use crate::fetch::Fetch;
 use crate::slot::Slot;
 use crate::slots::{
-    advance_in, are_crowded, are_many, close_in, due_in, expire_in, free_number, has_client,
-    join_at, leave_in, open_in, place_of, place_of_shared, reply_in, waiter_in,
+    advance_in, are_crowded, are_many, close_in, copies_of, copy_of_clients, due_in, expire_in,
+    free_number, has_client, join_at, leave_in, open_in, place_of, place_of_shared, reply_in,
+    waiter_in,
 };
 use neighbours::{Moment, Table};
 use object_store::CacheKey;
@@ -50,6 +52,19 @@ impl Pending {
         Ok(Pending {
             last: 0,
             slots: Vec::new(alloc),
+            clients,
+        })
+    }
+
+    /// An equal value, with memory of its own and room for 1,024 waiters. It shares the keys.
+    pub fn copy(&self, alloc: Global) -> Result<Pending, AllocError>
+        ensures { IfOk result (λ pending. pending ≡ self.now) }
+    {
+        let clients = copy_of_clients(&self.clients, alloc)?;
+        let slots = copies_of(&self.slots, alloc)?;
+        Ok(Pending {
+            last: self.last,
+            slots,
             clients,
         })
     }
@@ -223,6 +238,25 @@ impl Pending {
     {
         advance_in(&mut self.slots, number)
     }
+}
+
+#[cfg(test)]
+impl Pending {
+    // Whether all rounds started by then.
+    pub(crate) fn starts_by(&self, start: Moment) -> bool
+        ensures { result ≡ list_all (λ one. nat_le one start) (starts self.now.list) }
+    {
+        start_by(&self.slots, start)
+    }
+}
+
+#[cfg(test)]
+fn start_by(slots: &[Slot], start: Moment) -> bool
+    ensures { result ≡ list_all (λ (slot : Slot). nat_le slot.round.start start) slots.now }
+{
+    slots
+        .iter()
+        .all(|slot| slot.round.began().millis() <= start.millis())
 }
 
 fn first_slot(number: u32, key: CacheKey, client: u64, shared: bool, round: Round) -> Slot

@@ -1,6 +1,6 @@
 //! Slots, and the clients of all slots in one list: what is read off them and what is done to them.
 
-ghost use Rattle.std.specs.Prelude.{◌≡◌, ◌+◌, ◌%◌, ◌^◌, ◌<◌, ◌≤◌, ◌==◌, ◌&&◌, ◌++◌, ◌∷◌, [], ℕ, List, nat_eq, length, map, filter, not, find, position, option_map, slice_get, sum_by, take, drop, Some, OnOk, OnErr, true, vec_capacity, slice_index_or, nat_le, nat_lt, if◌then◌else◌};
+ghost use Rattle.std.specs.Prelude.{◌≡◌, ◌+◌, ◌%◌, ◌^◌, ◌<◌, ◌≤◌, ◌==◌, ◌&&◌, ◌++◌, ◌∷◌, [], ℕ, List, nat_eq, length, map, filter, not, find, position, option_map, slice_get, sum_by, take, drop, Some, OnOk, OnErr, IfOk, true, vec_capacity, slice_index_or, nat_le, nat_lt, if◌then◌else◌};
 ghost use Rattle.std.specs.List.{list_any, IsDistinct};
 ghost use Rattle.std.specs.Str.{bytes_eq};
 ghost use Rattle.peer_select.specs.Poll.{replied, ended, matches};
@@ -13,7 +13,28 @@ ghost use Rattle.pending_fetch.specs.Slots.{held, waiting_in, as_fetch, has_that
 use crate::slot::Slot;
 use neighbours::{Moment, Table};
 use peer_select::Kind;
-use std::alloc::AllocError;
+use std::alloc::{AllocError, Global};
+
+/// The same slots, with memory of their own. The keys get one owner more.
+pub fn copies_of(slots: &[Slot], alloc: Global) -> Result<Vec<Slot>, AllocError>
+    ensures { IfOk result (λ copies. copies.items ≡ slots.now) }
+{
+    let mut copies = Vec::with_capacity(alloc, slots.len())?;
+    for slot in slots {
+        copies.push(slot.copy()?)?;
+    }
+    Ok(copies)
+}
+
+/// The same clients, with room for 1,024.
+pub fn copy_of_clients(clients: &[u64], alloc: Global) -> Result<Vec<u64>, AllocError>
+    ensures items { IfOk result (λ copy. copy.items ≡ clients.now) }
+    ensures room { IfOk result (λ copy. 1024 ≤ vec_capacity copy) }
+{
+    let mut copy = Vec::with_capacity(alloc, 1024)?;
+    copy.extend_from_slice(clients)?;
+    Ok(copy)
+}
 
 /// The place of the fetch of this number.
 pub fn place_of(slots: &[Slot], number: u32) -> Option<usize>

@@ -40,6 +40,17 @@ fn first(alloc: Global) -> Result<Pending, AllocError> {
     }
 }
 
+// Opens a private fetch, where the client waits for none and its round starts late enough.
+fn open_at(alloc: Global, pending: &mut Pending, client: u64, round: Round) -> Option<u32> {
+    let Ok(key) = key(alloc) else {
+        return None;
+    };
+    if pending.waits(client) || !pending.starts_by(round.began()) {
+        return None;
+    }
+    pending.open(alloc, key, client, false, round).ok()
+}
+
 #[test]
 fn joining(rt: HostRuntime) -> Result<(), AllocError> {
     let key = key(rt.alloc())?;
@@ -88,5 +99,54 @@ fn expiring(rt: HostRuntime) -> Result<(), AllocError> {
         );
     }
     assert!(rt; pending.fetch(1).is_some() && pending.fetch(2).is_none());
+    Ok(())
+}
+
+// A copy has the fetch with its waiters, and is changed alone.
+#[test]
+fn copied(rt: HostRuntime) -> Result<(), AllocError> {
+    let key = key(rt.alloc())?;
+    let mut pending = first(rt.alloc())?;
+    assert!(rt; matches!(pending.join(&key, 2), Some(Ok(()))));
+    let mut copy = pending.copy(rt.alloc())?;
+    pending.close(1);
+    assert!(rt; pending.fetch(1).is_none() && copy.waiter(1, 1) == Some(2));
+    assert!(rt; matches!(copy.join(&key, 3), Some(Ok(()))) && !pending.waits(3));
+    assert!(rt; copy.next_number() == 2 && copy.expire(1));
+    Ok(())
+}
+
+// Fetches 1 to 256 are opened, 2 to 255 closed and two more opened: these are 257 and 258. All four are due in order.
+#[test]
+fn numbers_and_the_order_of_opening(rt: HostRuntime) -> Result<(), AllocError> {
+    let table = table(rt.alloc())?;
+    let mut pending = Pending::new(rt.alloc())?;
+    let Some(start) = Moment::new(1000) else {
+        return Err(AllocError);
+    };
+    for client in 1..257u32 {
+        let round = Round::start(&table, start);
+        assert!(rt; !pending.waits(u64::from(client)));
+        let opened = open_at(rt.alloc(), &mut pending, u64::from(client), round);
+        assert!(rt; opened == Some(client), "{client}");
+    }
+    let round = Round::start(&table, start);
+    assert!(rt; pending.is_full() && open_at(rt.alloc(), &mut pending, 999, round).is_none());
+    for number in 2..256 {
+        pending.close(number);
+    }
+    for client in [257, 258] {
+        let round = Round::start(&table, start);
+        let opened = open_at(rt.alloc(), &mut pending, client, round);
+        assert!(rt; opened == Some(client as u32), "{client}");
+    }
+    let Some(now) = Moment::new(3000) else {
+        return Err(AllocError);
+    };
+    for number in [1, 256, 257, 258] {
+        assert!(rt; pending.due(now) == Some(number), "{number}");
+        assert!(rt; pending.expire(number));
+    }
+    assert!(rt; pending.due(now).is_none());
     Ok(())
 }
