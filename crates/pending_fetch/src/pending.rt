@@ -7,19 +7,20 @@ ghost use Rattle.pending_fetch.specs.Fetches.{changed, with_reply, with_end, wit
 ghost use Rattle.pending_fetch.specs.Calls.{is_crowded, is_full, join_fault, join_answer, join_list, may_advance, fits, told, shown};
 ghost use Rattle.pending_fetch.specs.Legal.{IsLegal};
 ghost use Rattle.pending_fetch.specs.Slots.{as_fetch, slot_told};
-ghost use Rattle.pending_fetch.specs.declared.slot.Slot.{Slot};
 
 use crate::fault::{JoinFault, OpenFault};
 use crate::fetch::Fetch;
+use crate::queue::{copy_of_queue, dequeue, due_in, enqueue, entry_for, settle};
 use crate::slot::Slot;
 use crate::slots::{
-    advance_in, are_crowded, are_many, close_in, copies_of, copy_of_clients, due_in, expire_in,
+    advance_in, are_crowded, are_many, close_in, copies_of, copy_of_clients, expire_in,
     free_number, has_client, join_at, leave_in, open_in, place_of, place_of_shared, reply_in,
     waiter_in,
 };
+use crate::undecided::Undecided;
 use neighbours::{Moment, Table};
 use object_store::CacheKey;
-use peer_select::{Kind, Round, matching_law};
+use peer_select::{Kind, Round, matching_law, unchanged_law};
 use std::alloc::{AllocError, Global};
 use std::marker::Model;
 
@@ -29,18 +30,21 @@ pub struct Pending {
     last: u32,
     slots: Vec<Slot>,
     clients: Vec<u64>,
+    undecided: Vec<Undecided>,
 }
 
 impl Model for Pending {
     ghost use Rattle.std.specs.Prelude.{vec_capacity};
     ghost use Rattle.pending_fetch.specs.Fetches.{Fetches};
     ghost use Rattle.pending_fetch.specs.Slots.{held, IsHeld};
+    ghost use Rattle.pending_fetch.specs.Queue.{IsQueue};
 
     ghost Value = { Fetches };
 
     ghost view = { λ p. record { last = p.last; list = held p.slots.items p.clients.items } };
 
-    ghost invariant = { λ p. IsHeld (vec_capacity p.clients) p.slots.items p.clients.items };
+    ghost invariant = { λ p. IsHeld (vec_capacity p.clients) p.slots.items p.clients.items
+        × IsQueue (vec_capacity p.undecided) p.undecided.items (held p.slots.items p.clients.items) };
 }
 
 impl Pending {
@@ -49,10 +53,12 @@ impl Pending {
         ensures { IfOk result (λ pending. pending ≡ record { last = 0; list = [] }) }
     {
         let clients = Vec::with_capacity(alloc, 1024)?;
+        let undecided = Vec::with_capacity(alloc, 256)?;
         Ok(Pending {
             last: 0,
             slots: Vec::new(alloc),
             clients,
+            undecided,
         })
     }
 
@@ -62,10 +68,12 @@ impl Pending {
     {
         let clients = copy_of_clients(&self.clients, alloc)?;
         let slots = copies_of(&self.slots, alloc)?;
+        let undecided = copy_of_queue(&self.undecided, alloc)?;
         Ok(Pending {
             last: self.last,
             slots,
             clients,
+            undecided,
         })
     }
 
@@ -147,10 +155,12 @@ impl Pending {
             return Err(OpenFault::Full);
         }
         let number = self.next_number();
+        let entry = entry_for(number, &round);
         let slot = first_slot(number, key, client, shared, round);
         if open_in(&mut self.slots, &mut self.clients, slot, client).is_err() {
             return Err(OpenFault::NoMemory);
         }
+        enqueue(&mut self.undecided, entry);
         self.last = number;
         Ok(number)
     }
@@ -191,13 +201,14 @@ impl Pending {
         ensures { self.new ≡ record self.old { list = without number self.old.list } }
     {
         close_in(&mut self.slots, &mut self.clients, number);
+        dequeue(&mut self.undecided, number);
     }
 
     /// The number of the first fetch, in order of opening, whose round is undecided and started 2,000 ms ago or earlier.
     pub fn due(&self, now: Moment) -> Option<u32>
         ensures { result ≡ first_due now self.now.list }
     {
-        due_in(&self.slots, now)
+        due_in(&self.undecided, now)
     }
 
     /// The fetch of this number.
@@ -219,7 +230,10 @@ impl Pending {
         ensures found { result ≡ has_number number self.old.list }
     {
         matching_law();
-        reply_in(&mut self.slots, number, table, n, kind, s)
+        unchanged_law();
+        let decided = reply_in(&mut self.slots, number, table, n, kind, s);
+        settle(&mut self.undecided, number, decided);
+        decided.is_some()
     }
 
     /// The time of this fetch's round is up. Whether the fetch is pending.
@@ -228,7 +242,10 @@ impl Pending {
         ensures found { result ≡ has_number number self.old.list }
     {
         matching_law();
-        expire_in(&mut self.slots, number)
+        unchanged_law();
+        let found = expire_in(&mut self.slots, number);
+        settle(&mut self.undecided, number, decided_where(found));
+        found
     }
 
     /// The fetch goes on to its next attempt. False where it isn't pending, or its attempt is 65,535.
@@ -240,23 +257,11 @@ impl Pending {
     }
 }
 
-#[cfg(test)]
-impl Pending {
-    // Whether all rounds started by then.
-    pub(crate) fn starts_by(&self, start: Moment) -> bool
-        ensures { result ≡ list_all (λ one. nat_le one start) (starts self.now.list) }
-    {
-        start_by(&self.slots, start)
-    }
-}
-
-#[cfg(test)]
-fn start_by(slots: &[Slot], start: Moment) -> bool
-    ensures { result ≡ list_all (λ (slot : Slot). nat_le slot.round.start start) slots.now }
+// That the round of a fetch is decided, where there is one.
+fn decided_where(found: bool) -> Option<bool>
+    ensures { result ≡ (if found then Some true else None) }
 {
-    slots
-        .iter()
-        .all(|slot| slot.round.began().millis() <= start.millis())
+    if found { Some(true) } else { None }
 }
 
 fn first_slot(number: u32, key: CacheKey, client: u64, shared: bool, round: Round) -> Slot
@@ -293,3 +298,6 @@ fn lent(slot: &Slot) -> Fetch<'_>
         round: &slot.round,
     }
 }
+
+#[cfg(test)]
+mod tests;

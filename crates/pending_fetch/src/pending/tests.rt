@@ -1,4 +1,11 @@
-use crate::{JoinFault, Pending};
+ghost use Rattle.std.specs.Prelude.{◌≡◌, nat_le};
+ghost use Rattle.std.specs.List.{list_all};
+ghost use Rattle.pending_fetch.specs.Fetches.{starts};
+ghost use Rattle.pending_fetch.specs.declared.slot.Slot.{Slot};
+
+use super::Pending;
+use crate::JoinFault;
+use crate::slot::Slot;
 use neighbours::{End, Moment, Neighbour, Role, Socket, Table};
 use object_store::CacheKey;
 use peer_select::Round;
@@ -40,12 +47,27 @@ fn first(alloc: Global) -> Result<Pending, AllocError> {
     }
 }
 
+// Whether all rounds started by then.
+fn starts_by(pending: &Pending, start: Moment) -> bool
+    ensures { result ≡ list_all (λ one. nat_le one start) (starts pending.now.list) }
+{
+    start_by(&pending.slots, start)
+}
+
+fn start_by(slots: &[Slot], start: Moment) -> bool
+    ensures { result ≡ list_all (λ (slot : Slot). nat_le slot.round.start start) slots.now }
+{
+    slots
+        .iter()
+        .all(|slot| slot.round.began().millis() <= start.millis())
+}
+
 // Opens a private fetch, where the client waits for none and its round starts late enough.
 fn open_at(alloc: Global, pending: &mut Pending, client: u64, round: Round) -> Option<u32> {
     let Ok(key) = key(alloc) else {
         return None;
     };
-    if pending.waits(client) || !pending.starts_by(round.began()) {
+    if pending.waits(client) || !starts_by(pending, round.began()) {
         return None;
     }
     pending.open(alloc, key, client, false, round).ok()
