@@ -1,8 +1,12 @@
 //! Laws of the order of peers, for the crates above. No function here does anything.
 
-ghost use Rattle.std.specs.Prelude.{◌≡◌, ℕ, ◌<◌, ◌≢◌, ◌↔◌, ◌⊎◌, IsTrue, true, false};
-ghost use Rattle.neighbours.specs.Rows.{Rows};
-ghost use Rattle.neighbours.specs.Faults.{IsTable};
+ghost use Rattle.std.specs.Prelude.{◌≡◌, ℕ, ◌<◌, ◌≢◌, ◌↔◌, ◌⊎◌, IsTrue, List, map, true, false};
+ghost use Rattle.std.specs.List.{IsDistinct};
+ghost use Rattle.std.specs.Str.{bytes_eq};
+ghost use Rattle.neighbours.specs.Rows.{Rows, same_end};
+ghost use Rattle.neighbours.specs.Faults.{IsTable, has_double, has_double_name};
+ghost use Rattle.neighbours.specs.declared.key.Key.{Key};
+ghost use Rattle.neighbours.specs.declared.neighbour.Neighbour.{Neighbour};
 ghost use Rattle.neighbours.specs.Rank.{before, Before, IsBefore, IsOrder};
 ghost use Rattle.neighbours.specs.declared.rank.Ranked.{Ranked};
 
@@ -44,3 +48,12 @@ pub fn order_law()
     transitive_law();
     total_law();
 }
+
+/// There is no double among neighbours exactly where no two of their ends are equal, and none among keys exactly where
+/// no two of their names are.
+pub fn distinct_law()
+    ensures ends { (neighbours : List Neighbour) →
+        (has_double neighbours ≡ false) ↔ IsDistinct same_end (map (λ (neighbour : Neighbour). neighbour.end) neighbours) }
+    ensures names { (keys : List Key) →
+        (has_double_name keys ≡ false) ↔ IsDistinct bytes_eq (map (λ (key : Key). key.name) keys) }
+{}

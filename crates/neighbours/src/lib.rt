@@ -14,11 +14,13 @@ pub use fault::ConfigFault;
 pub use filter_slots::{End, Moment, Socket};
 pub use key::Key;
 pub use laws::{
-    irreflexive_law, one_way_law, order_law, test_law, through_law, total_law, transitive_law,
+    distinct_law, irreflexive_law, one_way_law, order_law, test_law, through_law, total_law,
+    transitive_law,
 };
 pub use neighbour::{Neighbour, Role};
 pub use octets::Octets;
 pub use rank::{Ranked, is_before};
+pub use std::alloc::AllocError as NoMemory;
 pub use table::{Mark, Table};
 
 #[cfg(test)]

@@ -1,7 +1,8 @@
 //! Owned octets that contracts see as a list.
 
-ghost use Rattle.std.specs.Prelude.{◌≡◌};
+ghost use Rattle.std.specs.Prelude.{◌≡◌, IfOk};
 
+use std::alloc::{AllocError, Global};
 use std::marker::Model;
 
 /// Octets of its own, as a key's name or its secret.
@@ -24,6 +25,15 @@ impl Octets {
         ensures { result ≡ octets.items }
     {
         Octets { octets }
+    }
+
+    /// The same octets, with memory of their own.
+    pub fn copy(&self, alloc: Global) -> Result<Octets, AllocError>
+        ensures { IfOk result (λ octets. octets ≡ self.now) }
+    {
+        Ok(Octets {
+            octets: Vec::from_slice(alloc, &self.octets)?,
+        })
     }
 
     /// The octets in order.

@@ -13,7 +13,7 @@ use crate::key::Key;
 use crate::neighbour::Neighbour;
 use crate::rank::{Ranked, is_before};
 use filter_slots::{End, Socket};
-use std::alloc::Global;
+use std::alloc::{AllocError, Global};
 use std::marker::Model;
 
 /// What is known of a neighbour: its smoothed time (an eighth of it is milliseconds), and how many rounds it has
@@ -58,6 +58,20 @@ impl Table {
             return Err(fault);
         }
         let marks = blank_marks(alloc, neighbours.len())?;
+        Ok(Table {
+            neighbours,
+            keys,
+            marks,
+        })
+    }
+
+    /// An equal table, with memory of its own.
+    pub fn copy(&self, alloc: Global) -> Result<Table, AllocError>
+        ensures { IfOk result (λ table. table ≡ self.now) }
+    {
+        let neighbours = copies_of_neighbours(&self.neighbours, alloc)?;
+        let keys = copies_of_keys(&self.keys, alloc)?;
+        let marks = Vec::from_slice(alloc, &self.marks)?;
         Ok(Table {
             neighbours,
             keys,
@@ -241,4 +255,27 @@ fn secret_in<'a>(keys: &'a [Key], name: &[u8]) -> Option<&'a [u8]>
     keys.iter()
         .find(|key| key.name.as_slice() == name)
         .map(|key| key.secret.as_slice())
+}
+
+fn copies_of_neighbours(
+    neighbours: &[Neighbour],
+    alloc: Global,
+) -> Result<Vec<Neighbour>, AllocError>
+    ensures { IfOk result (λ copies. copies.items ≡ neighbours.now) }
+{
+    let mut copies = Vec::with_capacity(alloc, neighbours.len())?;
+    for neighbour in neighbours {
+        copies.push(neighbour.copy(alloc)?)?;
+    }
+    Ok(copies)
+}
+
+fn copies_of_keys(keys: &[Key], alloc: Global) -> Result<Vec<Key>, AllocError>
+    ensures { IfOk result (λ copies. copies.items ≡ keys.now) }
+{
+    let mut copies = Vec::with_capacity(alloc, keys.len())?;
+    for key in keys {
+        copies.push(key.copy(alloc)?)?;
+    }
+    Ok(copies)
 }

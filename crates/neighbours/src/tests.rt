@@ -73,6 +73,86 @@ fn first_faults(rt: HostRuntime) -> Result<(), AllocError> {
     Ok(())
 }
 
+// Neighbours at 10.0.0.(each of these).
+fn neighbours_at(alloc: Global, ends: &[u8]) -> Result<Vec<Neighbour>, AllocError> {
+    let mut list = Vec::new(alloc);
+    for last in ends {
+        list.push(neighbour(alloc, *last, 1, None)?)?;
+    }
+    Ok(list)
+}
+
+#[test]
+fn doubles_at_every_place(rt: HostRuntime) -> Result<(), AllocError> {
+    let places: [(&[u8], bool); 6] = [
+        (&[1, 2, 3], false),
+        (&[1, 1, 2], true),
+        (&[1, 2, 1], true),
+        (&[2, 1, 1], true),
+        (&[1, 2, 2], true),
+        (&[2, 2], true),
+    ];
+    for (octets, doubled) in places {
+        let list = neighbours_at(rt.alloc(), octets)?;
+        let made = Table::new(rt.alloc(), list, Vec::new(rt.alloc()));
+        let fault = if doubled {
+            Some(ConfigFault::DoubleAddress)
+        } else {
+            None
+        };
+        assert!(rt; made.err() == fault, "{octets:?}");
+        let made = Table::new(rt.alloc(), Vec::new(rt.alloc()), keys(rt.alloc(), octets)?);
+        let fault = if doubled {
+            Some(ConfigFault::KeyName)
+        } else {
+            None
+        };
+        assert!(rt; made.err() == fault, "{octets:?}");
+    }
+    Ok(())
+}
+
+#[test]
+fn lengths_of_names(rt: HostRuntime) -> Result<(), AllocError> {
+    let cases = [
+        (0, Some(ConfigFault::KeyName)),
+        (1, None),
+        (255, None),
+        (256, Some(ConfigFault::KeyName)),
+    ];
+    for (octets, fault) in cases {
+        let mut list = Vec::new(rt.alloc());
+        list.push(Key {
+            name: Octets::new(vec![in rt.alloc(); b'k'; octets]?),
+            secret: Octets::new(Vec::new(rt.alloc())),
+        })?;
+        let made = Table::new(rt.alloc(), Vec::new(rt.alloc()), list);
+        assert!(rt; made.err() == fault, "{octets}");
+    }
+    Ok(())
+}
+
+// A copy has the times and misses, and is changed alone; neither shows the secret.
+#[test]
+fn copied(rt: HostRuntime) -> Result<(), AllocError> {
+    let list = neighbours(rt.alloc(), 1, 2, 7, Some(b'k'))?;
+    let Ok(mut table) = Table::new(rt.alloc(), list, keys(rt.alloc(), b"k")?) else {
+        return Err(AllocError);
+    };
+    assert!(rt; table.len() == 2);
+    table.sample(1, 40);
+    table.missed(0);
+    let copy = table.copy(rt.alloc())?;
+    let shown = format!(in rt.alloc(); "{table:?}")?;
+    let again = format!(in rt.alloc(); "{copy:?}")?;
+    assert!(rt; shown.as_str() == again.as_str() && !shown.as_str().contains("1, 2, 3"));
+    table.missed(0);
+    let changed = format!(in rt.alloc(); "{table:?}")?;
+    let kept = format!(in rt.alloc(); "{copy:?}")?;
+    assert!(rt; changed.as_str() != shown.as_str() && kept.as_str() == shown.as_str());
+    Ok(())
+}
+
 #[test]
 fn times_and_misses(rt: HostRuntime) -> Result<(), AllocError> {
     let list = neighbours(rt.alloc(), 0, 2, 2, None)?;

@@ -1,5 +1,5 @@
 -- What the words on a store's pairs give at the cache that holds them.
-use Rattle.std.proofs.Common.{◌≡◌, ℕ, ◌+◌, ◌-◌, ◌^◌, ◌<◌, ◌≤◌, Bool, true, false, not, cond, bytes_eq, List, [], ◌∷◌, length, min, take, filter, get_or, option_map, Option, Some, None, refl, sym, ap, ◌∙◌, arith}
+use Rattle.std.proofs.Common.{◌≡◌, ℕ, ◌+◌, ◌-◌, ◌^◌, ◌<◌, ◌≤◌, Bool, true, false, not, cond, bytes_eq, List, [], ◌∷◌, ◌++◌, subst, length, min, take, filter, get_or, option_map, Option, Some, None, refl, sym, ap, ◌∙◌, arith}
 use Rattle.std.specs.List.{AllByRecursion, IsDistinct}
 use Rattle.std.specs.Map.{keys_of, lookup, lookup_entry, remove_entry}
 use Rattle.std.specs.Option.{option_map_or}
@@ -99,6 +99,29 @@ pub put-is : (cache : LruCache (List ℕ) Entry) (key : List ℕ) (entry : Entry
 put-is cache key entry few d =
     put-at key entry cache.entries cache.cap (lookup_entry (bytes_eq key) cache.entries) refl few
     ∙ ap (λ (l : List Pair). (key, entry) ∷ l) (sym (without-removes key cache.entries d))
+
+-- under a key that isn't there
+pub put-absent : (cache : LruCache (List ℕ) Entry) (key : List ℕ) (entry : Entry) → length cache.entries ≤ cache.cap - 1 → IsDistinct bytes_eq (keys_of cache.entries)
+    → entry_at key cache.entries ≡ None → put_entries bytes_eq cache key entry ≡ (key, entry) ∷ cache.entries
+put-absent cache key entry few d none =
+    put-is cache key entry few d
+    ∙ ap (λ (l : List Pair). (key, entry) ∷ l) (without-removes key cache.entries d ∙ remove-absent (bytes_eq key) cache.entries none)
+
+none_found : (key : List ℕ) (pairs : List Pair) → AllByRecursion (λ k. bytes_eq key k ≡ false) (keys_of pairs) → entry_at key pairs ≡ None
+none_found key [] h = refl
+none_found key (pair ∷ pairs) h = rw h.0 (none_found key pairs h.1)
+
+absent_after : (key : List ℕ) (entry : Entry) (front back : List Pair) → IsDistinct bytes_eq (keys_of ((front ++ (key, entry) ∷ []) ++ back)) → entry_at key back ≡ None
+absent_after key entry [] back d = none_found key back (IsDistinct-head bytes_eq key (keys_of back) d)
+absent_after key entry (pair ∷ front) back d =
+    absent_after key entry front back (IsDistinct-tail bytes_eq pair.0 (keys_of ((front ++ (key, entry) ∷ []) ++ back)) d)
+
+-- the key of the last pair of a front isn't behind it
+pub last_absent : (key : List ℕ) (entry : Entry) (front rest back pairs : List Pair) → rest ≡ front ++ (key, entry) ∷ [] → rest ++ back ≡ pairs
+    → IsDistinct bytes_eq (keys_of pairs) → entry_at key back ≡ None
+last_absent key entry front rest back pairs e g d =
+    let P : List Pair → Type 0 = λ l. IsDistinct bytes_eq (keys_of l) in
+    absent_after key entry front back (subst P (sym (ap (λ (l : List Pair). l ++ back) (sym e) ∙ g)) d)
 
 -- the octets after a put under a key that wasn't there, and under one that was
 pub put-new : (key : List ℕ) (entry : Entry) (pairs : List Pair) → IsDistinct bytes_eq (keys_of pairs) → entry_at key pairs ≡ None

@@ -1,11 +1,12 @@
 //! Entries of a store.
 
-ghost use Rattle.std.specs.Prelude.{◌≡◌, ◌+◌, ◌-◌, ◌^◌, length, min, sum_by};
+ghost use Rattle.std.specs.Prelude.{◌≡◌, ◌+◌, ◌-◌, ◌^◌, IfOk, length, min, sum_by};
 ghost use Rattle.object_store.specs.Object.{head_of};
 ghost use Rattle.object_store.specs.Pairs.{is_fresh, octets_in};
 
 use crate::object::SharedObject;
 use bpf_run::Moment;
+use std::alloc::AllocError;
 
 /// An object, and the moment at which it was stored.
 #[derive(Debug, Drop)]
@@ -15,6 +16,18 @@ pub struct Entry {
 }
 
 impl Entry {
+    /// The same entry, as one more owner of its object. It requests no memory, and is refused only
+    /// where there are too many owners.
+    pub fn share(&self) -> Result<Entry, AllocError>
+        ensures { IfOk result (λ entry. entry ≡ self.now) }
+    {
+        let object = self.object.share()?;
+        Ok(Entry {
+            object,
+            at: self.at,
+        })
+    }
+
     /// Whether the moment is before `at` and the life of the object, in seconds.
     pub fn is_fresh(&self, now: Moment) -> bool
         ensures { result ≡ is_fresh now self.now }

@@ -1,13 +1,13 @@
 //! The pairs of a store in the cache that holds them, with the sum of their octets beside it.
 
-ghost use Rattle.std.specs.Prelude.{◌≡◌, ◌+◌, ◌-◌, ◌^◌, ◌<◌, ◌≤◌, ◌∷◌, length, min, take, bytes_eq, OnOk, OnErr, IfOk, IfErr, IsTrue, ◌↔◌};
+ghost use Rattle.std.specs.Prelude.{◌≡◌, ◌+◌, ◌-◌, ◌^◌, ◌<◌, ◌≤◌, ◌∷◌, length, min, take, bytes_eq, OnOk, OnErr, IfOk, IfErr, IsOk, IsSome, IsTrue, None, ◌↔◌};
 ghost use Rattle.lru.specs.LruCache.{lru_cache};
-ghost use Rattle.object_store.specs.Pairs.{IsWithin, cut, octets_of, size_of, without};
+ghost use Rattle.object_store.specs.Pairs.{IsWithin, cut, entry_at, octets_of, size_of, without};
 
 use crate::entry::{Entry, size};
 use crate::key::CacheKey;
 use lru::LruCache;
-use std::alloc::AllocFailed;
+use std::alloc::{AllocError, AllocFailed, Global};
 
 /// Pairs, the most recently used first.
 pub(crate) type Pairs = LruCache<CacheKey, Entry>;
@@ -28,6 +28,7 @@ pub(crate) fn put_pair(
     ensures sum { IfOk result (λ new_sum. new_sum ≡ octets_of ((key, entry) ∷ without key pairs.old.entries)) }
     ensures back { IfErr result (λ refused. refused.value ≡ (key, entry)) }
     ensures unchanged { OnErr result (pairs.new ≡ pairs.old) }
+    ensures held { IsSome (entry_at key pairs.old.entries) → IsOk result }
 {
     let key_octets = key.as_slice().len();
     let _ = pairs.len();
@@ -67,5 +68,34 @@ fn drop_last(pairs: &mut Pairs, sum: u64) -> u64
     match pairs.pop_lru() {
         None => sum,
         Some((key, entry)) => sum - size(key.as_slice().len(), &entry),
+    }
+}
+
+// The same pairs in a cache of their own, put from the least recent on. Keys and objects get one
+// owner more.
+pub(crate) fn copy_pairs(pairs: &Pairs, alloc: Global) -> Result<Pairs, AllocError>
+    ensures { IfOk result (λ copy. copy ≡ lru_cache pairs.now.entries (2 ^ 64 - 1)) }
+{
+    let _ = pairs.len();
+    let mut copy = LruCache::unbounded(alloc)?;
+    let mut rest = pairs.iter();
+    'least: while let Some((key, entry)) = rest.next_back() {
+        let key = key.share()?;
+        let entry = entry.share()?;
+        add_pair(&mut copy, key, entry)?;
+    }
+    Ok(copy)
+}
+
+// Puts a pair in front, of a key that isn't there.
+fn add_pair(pairs: &mut Pairs, key: CacheKey, entry: Entry) -> Result<(), AllocError>
+    requires absent { entry_at key pairs.old.entries ≡ None }
+    requires boundless { pairs.old.cap ≡ 2 ^ 64 - 1 }
+    ensures { OnOk result (pairs.new ≡ lru_cache ((key, entry) ∷ pairs.old.entries) pairs.old.cap) }
+{
+    let _ = pairs.len();
+    match pairs.put(key, entry) {
+        Ok(_) => Ok(()),
+        Err(_) => Err(AllocError),
     }
 }

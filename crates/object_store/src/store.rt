@@ -1,6 +1,6 @@
 //! The store: objects by their keys, within a number of entries and of octets.
 
-ghost use Rattle.std.specs.Prelude.{◌≡◌, ◌≤◌, ◌↔◌, [], IsTrue, IsOk, IfOk, IfErr, OnOk, OnErr, is_some, option_copied};
+ghost use Rattle.std.specs.Prelude.{◌≡◌, ◌≤◌, ◌↔◌, [], IsTrue, IsOk, IfOk, IfErr, IsSome, OnOk, OnErr, is_some, option_copied};
 ghost use Rattle.std.specs.Borrow.{sem};
 ghost use Rattle.object_store.specs.Pairs.{entry_at, size_of};
 ghost use Rattle.object_store.specs.Store.{AreLimits, IsPutFault, IsStore, IsStoreFault, after_get, after_put, after_remove, fresh_at};
@@ -9,10 +9,10 @@ ghost use Rattle.object_store.specs.Lending.{ends_as};
 use crate::entry::{Entry, size};
 use crate::faults::{PutFault, StoreFault};
 use crate::key::CacheKey;
-use crate::pairs::{Pairs, evict, put_pair};
+use crate::pairs::{Pairs, copy_pairs, evict, put_pair};
 use bpf_run::Moment;
 use lru::LruCache;
-use std::alloc::Global;
+use std::alloc::{AllocError, Global};
 use std::marker::Model;
 
 /// The most entries that a store may be made for.
@@ -58,6 +58,20 @@ impl Store {
             most_entries: entries,
             most_octets: octets,
             sum: 0,
+            pairs,
+        })
+    }
+
+    /// An equal store. Its pairs are put from the least recent on, and share keys and objects with
+    /// those here.
+    pub fn copy(&self, alloc: Global) -> Result<Store, AllocError>
+        ensures { IfOk result (λ store. store ≡ self.now) }
+    {
+        let pairs = copy_pairs(&self.pairs, alloc)?;
+        Ok(Store {
+            most_entries: self.most_entries,
+            most_octets: self.most_octets,
+            sum: self.sum,
             pairs,
         })
     }
@@ -155,13 +169,15 @@ impl Store {
     }
 
     /// Puts an entry in front, in the place of the old one of its key. The least recently used pairs
-    /// go out until the others are within the limits. A refusal hands key and entry back.
+    /// go out until the others are within the limits. A refusal hands key and entry back. Where the
+    /// key is held, no memory is requested.
     pub fn put(&mut self, key: CacheKey, entry: Entry) -> Result<(), (PutFault, CacheKey, Entry)>
         ensures fits { IsOk result → size_of key entry ≤ self.old.most_octets }
         ensures changed { OnOk result (self.new ≡ after_put key entry self.old) }
         ensures fault { IfErr result (λ refused. IsPutFault self.old key entry refused.0) }
         ensures back { IfErr result (λ refused. (refused.1 ≡ key) × (refused.2 ≡ entry)) }
         ensures unchanged { OnErr result (self.new ≡ self.old) }
+        ensures held { IsSome (entry_at key self.old.pairs) → size_of key entry ≤ self.old.most_octets → IsOk result }
     {
         let octets = size(key.as_slice().len(), &entry);
         if octets > u64::from(self.most_octets) {

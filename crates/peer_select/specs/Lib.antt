@@ -1,3 +1,4 @@
 pub mod Poll
 pub mod Choice
 pub mod Best
+pub mod Kept

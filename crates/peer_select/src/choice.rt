@@ -1,13 +1,14 @@
 //! The choice of sources, on the peers and the replies of a round.
 
-ghost use Rattle.std.specs.Prelude.{◌≡◌, ◌≤◌, length, slice_get, find, nat_lt, true};
-ghost use Rattle.peer_select.specs.Poll.{is_hit, has_reply, all_replied};
-ghost use Rattle.peer_select.specs.Choice.{is_miss, is_parent, is_refused, peer_at, reply_before, is_parent_miss, hit_of, parent_of, is_at, has_refused, is_left, parents_left};
-ghost use Rattle.peer_select.specs.Best.{best_of, better};
-ghost use Rattle.std.specs.List.{list_any, list_all};
+ghost use Rattle.std.specs.Prelude.{◌≡◌, ◌≤◌, ℕ, ◌<◌, ◌==◌, ◌&&◌, ◌||◌, not, length, slice_get, is_some, if◌then◌else◌};
+ghost use Rattle.peer_select.specs.Poll.{is_hit};
+ghost use Rattle.peer_select.specs.Choice.{is_miss, is_parent, is_refused, peer_at, reply_before, is_parent_miss, is_at};
+ghost use Rattle.peer_select.specs.Best.{better};
+ghost use Rattle.peer_select.specs.Kept.{has, is_left_by, left_by};
 
 use crate::reply::{Kind, Peer, Reply, Source};
-use neighbours::{Ranked, Role, is_before, one_way_law, through_law};
+use crate::set::PeerSet;
+use neighbours::{Ranked, Role, is_before};
 
 fn is_hit_kind(kind: Kind) -> bool
     ensures { result ≡ is_hit kind }
@@ -61,36 +62,34 @@ fn find_peer(peers: &[Peer], n: usize) -> Peer
     }
 }
 
-pub fn any_hit(replies: &[Reply]) -> bool
-    ensures { result ≡ list_any (λ reply. is_hit reply.kind) replies.now }
+/// The Hit so far after one more reply.
+pub fn hit_after(hit: Option<Reply>, reply: Reply) -> Option<Reply>
+    ensures { result ≡ (if is_some hit || not (is_hit reply.kind) then hit else Some reply) }
 {
-    replies.iter().any(|reply| is_hit_kind(reply.kind))
-}
-
-pub fn find_reply(replies: &[Reply], n: usize) -> bool
-    ensures { result ≡ has_reply replies.now n }
-{
-    replies.iter().any(|reply| reply.n as usize == n)
-}
-
-pub fn have_replied(replies: &[Reply], peers: &[Peer]) -> bool
-    ensures { result ≡ all_replied replies.now 0 peers.now }
-{
-    for n in 0..peers.len() {
-        if peers[n].up && !find_reply(replies, n) {
-            return false;
-        }
+    if hit.is_some() || !is_hit_kind(reply.kind) {
+        return hit;
     }
-    true
+    Some(reply)
 }
 
-pub fn first_hit(replies: &[Reply]) -> Option<Reply>
-    ensures { result ≡ hit_of replies.now }
+/// Those that count as Refused after one more reply.
+pub fn refused_after(refused: PeerSet, reply: Reply) -> PeerSet
+    requires { reply.n < 64 }
+    ensures { (n : ℕ) → has result n ≡ (has refused n || ((reply.n == n) && is_refused reply.kind)) }
 {
-    replies
-        .iter()
-        .copied()
-        .find(|reply| is_hit_kind(reply.kind))
+    refused.with_if(reply.n as usize, is_refused_kind(reply.kind))
+}
+
+/// The peers that were up.
+pub fn up_of(peers: &[Peer]) -> PeerSet
+    requires { length peers.now ≤ 64 }
+    ensures { (k : ℕ) → has result k ≡ (peer_at peers.now k).up }
+{
+    let mut up = PeerSet::empty();
+    for n in 0..peers.len() {
+        up = up.with_if(n, peers[n].up);
+    }
+    up
 }
 
 fn is_less(peers: &[Peer], a: Reply, b: Reply) -> bool
@@ -133,24 +132,14 @@ fn better_of(peers: &[Peer], best: Option<Reply>, reply: Reply) -> Option<Reply>
     }
 }
 
-pub fn best_parent(peers: &[Peer], replies: &[Reply]) -> Option<Reply>
-    ensures { result ≡ best_of peers.now replies.now }
+/// The best Miss parent so far after one more reply.
+pub fn parent_after(peers: &[Peer], parent: Option<Reply>, reply: Reply) -> Option<Reply>
+    ensures { result ≡ (if is_parent_miss peers.now reply then better (reply_before peers.now) parent reply else parent) }
 {
-    replies
-        .iter()
-        .copied()
-        .filter(|reply| is_miss_of_parent(peers, *reply))
-        .fold(None, |best, reply| better_of(peers, best, reply))
-}
-
-/// That Miss parent which no other Miss parent is before.
-pub fn chosen_parent(peers: &[Peer], replies: &[Reply]) -> Option<Reply>
-    requires { list_all (λ peer. nat_lt 0 peer.weight) peers.now ≡ true }
-    ensures { result ≡ parent_of peers.now replies.now }
-{
-    one_way_law();
-    through_law();
-    best_parent(peers, replies)
+    if !is_miss_of_parent(peers, reply) {
+        return parent;
+    }
+    better_of(peers, parent, reply)
 }
 
 fn stands_at(reply: Option<Reply>, n: usize) -> bool
@@ -162,36 +151,33 @@ fn stands_at(reply: Option<Reply>, n: usize) -> bool
     }
 }
 
-fn refuses(replies: &[Reply], n: usize) -> bool
-    ensures { result ≡ has_refused replies.now n }
-{
-    replies.iter().any(|reply| reply.n as usize == n && is_refused_kind(reply.kind))
-}
-
 fn is_to_list(
-    replies: &[Reply],
+    refused: PeerSet,
     hit: Option<Reply>,
     parent: Option<Reply>,
     n: usize,
     peer: Peer,
 ) -> bool
-    ensures { result ≡ is_left replies.now hit parent n peer }
+    requires { n < 64 }
+    ensures { result ≡ is_left_by refused hit parent n peer }
 {
-    is_parent_role(peer.role) && !stands_at(hit, n) && !stands_at(parent, n) && !refuses(replies, n)
+    is_parent_role(peer.role) && !stands_at(hit, n) && !stands_at(parent, n) && !refused.has(n)
 }
 
+/// The parent at a place among those that are left.
 pub fn parent_left(
-    replies: &[Reply],
+    refused: PeerSet,
     hit: Option<Reply>,
     parent: Option<Reply>,
     peers: &[Peer],
     place: u16,
 ) -> Option<Source>
-    ensures { result ≡ slice_get (parents_left replies.now hit parent 0 peers.now) place }
+    requires { length peers.now ≤ 64 }
+    ensures { result ≡ slice_get (left_by refused hit parent 0 peers.now) place }
 {
     let mut left = place;
     for n in 0..peers.len() {
-        if !is_to_list(replies, hit, parent, n, peers[n]) {
+        if !is_to_list(refused, hit, parent, n, peers[n]) {
             continue;
         }
         if left == 0 {

@@ -5,6 +5,7 @@ mod choice;
 mod laws;
 mod reply;
 mod round;
+mod set;
 
 pub use laws::{matching_law, parent_law, unchanged_law};
 pub use reply::{Kind, Peer, Reply, Source};

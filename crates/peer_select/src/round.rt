@@ -5,13 +5,15 @@ ghost use Rattle.neighbours.specs.Rows.{mark_at, is_up};
 ghost use Rattle.peer_select.specs.Poll.{begun, peers_of, peers_from, decided, replied, ended, has_reply, matches, IsPoll};
 ghost use Rattle.peer_select.specs.Choice.{sources, sources_by, last_sources, listed, hit_of, parent_of};
 
-use crate::choice::{any_hit, chosen_parent, find_reply, first_hit, have_replied, parent_left};
+use crate::choice::{hit_after, parent_after, parent_left, refused_after, up_of};
 use crate::laws::matching_law;
 use crate::reply::{Kind, Peer, Reply, Source};
-use neighbours::{Moment, Role, Table};
+use crate::set::PeerSet;
+use neighbours::{Moment, Role, Table, one_way_law, through_law};
 use std::marker::Model;
 
-/// A round of queries: whom it asked, and all replies in order.
+/// A round of queries: whom it asked, and all replies in order. Beside them stand the first Hit and the best Miss parent
+/// so far, and which peers were up, have replied and count as Refused.
 #[derive(Drop)]
 pub struct Round {
     start: Moment,
@@ -21,11 +23,17 @@ pub struct Round {
     replies: [Reply; 64],
     len: usize,
     expired: bool,
+    hit: Option<Reply>,
+    parent: Option<Reply>,
+    up: PeerSet,
+    replied: PeerSet,
+    refused: PeerSet,
 }
 
 impl Model for Round {
     ghost use Rattle.std.specs.Prelude.{◌≤◌, take};
     ghost use Rattle.peer_select.specs.Poll.{Poll, IsHeld};
+    ghost use Rattle.peer_select.specs.Kept.{IsKept};
 
     ghost Value = { Poll };
 
@@ -38,6 +46,12 @@ impl Model for Round {
     } };
 
     ghost invariant = { λ r. IsHeld r.count r.len r.peers r.replies (record {
+      start = r.start;
+      asked = r.asked;
+      peers = take r.count r.peers;
+      replies = take r.len r.replies;
+      expired = r.expired;
+    }) × IsKept r.hit r.parent r.up r.replied r.refused (record {
       start = r.start;
       asked = r.asked;
       peers = take r.count r.peers;
@@ -69,11 +83,14 @@ impl Round {
         ensures { result ≡ begun table.now asked start }
     {
         table.facts();
+        let peers = peers_in(table);
+        let count = table.len();
+        let up = up_of(&peers[..count]);
         Round {
             start,
             asked,
-            peers: peers_in(table),
-            count: table.len(),
+            peers,
+            count,
             replies: [Reply {
                 s: 0,
                 n: 0,
@@ -81,6 +98,31 @@ impl Round {
             }; 64],
             len: 0,
             expired: false,
+            hit: None,
+            parent: None,
+            up,
+            replied: PeerSet::empty(),
+            refused: PeerSet::empty(),
+        }
+    }
+
+    /// An equal round. It requests no memory.
+    pub fn copy(&self) -> Round
+        ensures { result ≡ self.now }
+    {
+        Round {
+            start: self.start,
+            asked: self.asked,
+            peers: self.peers,
+            count: self.count,
+            replies: self.replies,
+            len: self.len,
+            expired: self.expired,
+            hit: self.hit,
+            parent: self.parent,
+            up: self.up,
+            replied: self.replied,
+            refused: self.refused,
         }
     }
 
@@ -112,17 +154,23 @@ impl Round {
     pub fn has_reply(&self, n: usize) -> bool
         ensures { result ≡ has_reply self.now.replies n }
     {
-        find_reply(&self.replies[..self.len], n)
+        if self.count <= n {
+            return false;
+        }
+        self.replied.has(n)
     }
 
     /// Whether the sources are fixed.
     pub fn decided(&self) -> bool
         ensures { result ≡ decided self.now }
     {
-        !self.asked
-            || self.expired
-            || any_hit(&self.replies[..self.len])
-            || have_replied(&self.replies[..self.len], &self.peers[..self.count])
+        if !self.asked || self.expired {
+            return true;
+        }
+        if self.hit.is_some() {
+            return true;
+        }
+        self.up.is_within(self.replied)
     }
 
     /// The peer at place n replies; s is its smoothed time just after this reply's sample. On a decided round, or a
@@ -147,8 +195,18 @@ impl Round {
         requires fresh { has_reply self.old.replies reply.n ≡ false }
         ensures { self.new ≡ record self.old { replies = self.old.replies ++ reply ∷ [] } }
     {
+        one_way_law();
+        through_law();
+        let parent = parent_after(&self.peers[..self.count], self.parent, reply);
+        let hit = hit_after(self.hit, reply);
+        let replied = self.replied.with(reply.n as usize);
+        let refused = refused_after(self.refused, reply);
         self.replies[self.len] = reply;
         self.len += 1;
+        self.hit = hit;
+        self.parent = parent;
+        self.replied = replied;
+        self.refused = refused;
     }
 
     /// The time is up. On a decided round it changes nothing.
@@ -177,13 +235,13 @@ impl Round {
     fn hit(&self) -> Option<Reply>
         ensures { result ≡ hit_of self.now.replies }
     {
-        first_hit(&self.replies[..self.len])
+        self.hit
     }
 
     fn parent(&self) -> Option<Reply>
         ensures { result ≡ parent_of self.now.peers self.now.replies }
     {
-        chosen_parent(&self.peers[..self.count], &self.replies[..self.len])
+        self.parent
     }
 
     fn from_hit(
@@ -235,19 +293,14 @@ impl Round {
     ) -> Option<Source>
         ensures { result ≡ slice_get (last_sources self.now hit parent origin) place }
     {
-        if !origin {
-            return parent_left(
-                &self.replies[..self.len],
-                hit,
-                parent,
-                &self.peers[..self.count],
-                place,
-            );
+        if origin {
+            return if place == 0 {
+                Some(Source::Origin)
+            } else {
+                None
+            };
         }
-        if place == 0 {
-            return Some(Source::Origin);
-        }
-        None
+        parent_left(self.refused, hit, parent, &self.peers[..self.count], place)
     }
 }
 

@@ -8,11 +8,14 @@ use Rattle.pending_fetch.proofs.Words.{Keeps}
 pub next_waiters : (f : PendingFetch) → (with_next f).waiters ≡ f.waiters
 next_waiters f = elim (eqb f.attempt 65535) as (λ v. (if v then f else record f { attempt = f.attempt + 1 }).waiters ≡ f.waiters) [ true ↦ refl | false ↦ refl ]
 
-next_number : (f : PendingFetch) → (with_next f).number ≡ f.number
+pub next_number : (f : PendingFetch) → (with_next f).number ≡ f.number
 next_number f = elim (eqb f.attempt 65535) as (λ v. (if v then f else record f { attempt = f.attempt + 1 }).number ≡ f.number) [ true ↦ refl | false ↦ refl ]
 
 next_start : (f : PendingFetch) → (with_next f).round.start ≡ f.round.start
 next_start f = elim (eqb f.attempt 65535) as (λ v. (if v then f else record f { attempt = f.attempt + 1 }).round.start ≡ f.round.start) [ true ↦ refl | false ↦ refl ]
+
+pub next_round : (f : PendingFetch) → (with_next f).round ≡ f.round
+next_round f = elim (eqb f.attempt 65535) as (λ v. (if v then f else record f { attempt = f.attempt + 1 }).round ≡ f.round) [ true ↦ refl | false ↦ refl ]
 
 pub Keeps-next : Keeps with_next
 Keeps-next = record { number = next_number; start = next_start; waiters = next_waiters }

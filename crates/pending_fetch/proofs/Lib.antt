@@ -7,3 +7,4 @@ pub mod Keeping
 pub mod Waits
 pub mod Held
 pub mod Views
+pub mod Queues

@@ -1,5 +1,5 @@
 -- What holds of the slots after each call, and what is seen of them.
-use Rattle.std.proofs.Common.{◌≡◌, ℕ, ◌<◌, ◌≤◌, Bool, true, false, nat_le, List, [], ◌∷◌, ◌++◌, length, map, get_or, refl, ap, sym, ◌∙◌, subst, arith, ◌==◌, ◌||◌, Some, None, if◌then◌else◌}
+use Rattle.std.proofs.Common.{◌≡◌, ℕ, ◌<◌, ◌≤◌, Bool, true, false, nat_le, List, [], ◌∷◌, ◌++◌, length, map, drop, get_or, refl, ap, sym, ◌∙◌, subst, arith, ◌==◌, ◌||◌, Some, None, if◌then◌else◌}
 use Rattle.std.specs.List.{list_any, list_all, find, position, IsDistinct}
 use Rattle.std.specs.Option.{option_map}
 use Rattle.std.specs.Prelude.{Option, Result, Ok, Err, OnOk, is_err}
@@ -7,12 +7,12 @@ use Rattle.neighbours.specs.declared.neighbour.Neighbour.{Neighbour}
 use Rattle.peer_select.specs.Poll.{Poll, matches}
 use Rattle.pending_fetch.specs.declared.slot.Slot.{Slot}
 use Rattle.pending_fetch.specs.Numbers.{next_of, is_taken, IsNext}
-use Rattle.pending_fetch.specs.Fetches.{PendingFetch, Fetches, all_waiters, numbers, starts, waits, left, changed, has_number, with_waiter, without, fetch_of, shared_number, first_due, is_due, next_number, fresh, opened}
+use Rattle.pending_fetch.specs.Fetches.{PendingFetch, Fetches, all_waiters, numbers, starts, waits, left, changed, has_number, with_waiter, without, fetch_of, shared_number, next_number, fresh, opened}
 use Rattle.pending_fetch.specs.Calls.{is_crowded, is_full, fits, told, join_fault, join_answer, join_list}
 use Rattle.pending_fetch.specs.declared.fault.JoinFault.{JoinFault}
 use Rattle.pending_fetch.specs.declared.fault.JoinFault.TheVariants.{Full, Double}
 use Rattle.pending_fetch.specs.Legal.{IsLegal}
-use Rattle.pending_fetch.specs.Slots.{as_fetch, held, waiting_in, IsHeld, has_that_number, slot_is_due, slot_shares, slot_told}
+use Rattle.pending_fetch.specs.Slots.{as_fetch, held, waiting_in, IsHeld, has_that_number, slot_shares, slot_told}
 use Rattle.pending_fetch.proofs.Words.{Keeps, IsLegal-changed, IsLegal-left, IsLegal-joined, IsLegal-push}
 use Rattle.pending_fetch.proofs.Waits.{IsLegal-without}
 use Rattle.pending_fetch.proofs.Held.{all_waiters-held, length-held, map_held, find_held, any_held, fetch_is, fetch_held, no_fetch, some_slot, open_held, shared_held, no_shared, first_at}
@@ -93,13 +93,6 @@ pub number_view : (last : ℕ) (slots ys : List Slot) (clients : List ℕ) (v : 
 number_view last slots ys clients v i e =
     ap (λ l. next_of (map (λ (slot : Slot). slot.number) l) last) e
     ∙ ap (λ l. next_of l last) (sym (map_held (λ (f : PendingFetch). f.number) (λ (slot : Slot). slot.number) (λ s w. refl) slots clients)) ∙ ap next_number i
-
-pub due_view : (now last : ℕ) (slots ys : List Slot) (clients : List ℕ) (v : Fetches) → seen last (held slots clients) ≡ v → ys ≡ slots →
-    option_map (λ (slot : Slot). slot.number) (find (slot_is_due now) ys) ≡ first_due now v.list
-due_view now last slots ys clients v i e =
-    ap (λ l. option_map (λ (slot : Slot). slot.number) (find (slot_is_due now) l)) e
-    ∙ sym (find_held (is_due now) (slot_is_due now) (λ (f : PendingFetch). f.number) (λ (slot : Slot). slot.number) (λ s w. refl) (λ s w. refl) slots clients)
-    ∙ ap (λ (w : Fetches). first_due now w.list) i
 
 pub found_view : (number last : ℕ) (slots : List Slot) (clients : List ℕ) (v : Fetches) → seen last (held slots clients) ≡ v →
     list_any (has_that_number number) slots ≡ has_number number v.list
@@ -229,3 +222,9 @@ held_opened cap after number last slots new clients more slot key client shared 
       legal = legal_by (held new more) (list ++ as_fetch slot (client ∷ []) ∷ []) joined
           (IsLegal-push list (as_fetch slot (client ∷ [])) client refl few space unused (ap (λ (w : Fetches). waits client w.list) e ∙ absent) after_all h.legal);
     }
+
+-- when all rounds started
+pub starts_held : (start : ℕ) (slots : List Slot) (clients : List ℕ) →
+    list_all (λ (slot : Slot). nat_le slot.round.start start) slots ≡ list_all (λ one. nat_le one start) (starts (held slots clients))
+starts_held start [] clients = refl
+starts_held start (slot ∷ slots) clients = rw (starts_held start slots (drop slot.waiting clients)) refl

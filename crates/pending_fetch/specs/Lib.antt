@@ -4,3 +4,4 @@ pub mod Calls
 pub mod Legal
 pub mod Slots
 pub mod Places
+pub mod Queue

@@ -1,8 +1,7 @@
 -- How the fetches are held: in slots, each with the count of its waiters, and all waiters in one list, fetch after fetch.
-use Rattle.std.specs.Prelude.{◌≡◌, ℕ, ◌+◌, ◌≤◌, Bool, not, nat_le, List, [], ◌∷◌, ◌++◌, length, take, drop, sum_by, ◌==◌, ◌&&◌, true, false, is_none, if◌then◌else◌}
+use Rattle.std.specs.Prelude.{◌≡◌, ℕ, ◌+◌, ◌≤◌, Bool, List, [], ◌∷◌, ◌++◌, length, take, drop, sum_by, ◌==◌, ◌&&◌, true, false, is_none, if◌then◌else◌}
 use Rattle.std.specs.List.{list_any}
 use Rattle.std.specs.Str.{bytes_eq}
-use Rattle.peer_select.specs.Poll.{decided}
 use Rattle.pending_fetch.specs.declared.slot.Slot.{Slot}
 use Rattle.pending_fetch.specs.Fetches.{PendingFetch, without_client}
 use Rattle.pending_fetch.specs.Calls.{Told}
@@ -35,10 +34,6 @@ has_that_number number slot = slot.number == number
 -- whether a slot is a shared fetch of the key
 abbrev pub slot_shares : List ℕ → Slot → Bool
 slot_shares key slot = is_none slot.owner && bytes_eq slot.key key
-
--- whether a slot is due
-abbrev pub slot_is_due : ℕ → Slot → Bool
-slot_is_due now slot = not (decided slot.round) && nat_le (slot.round.start + 2000) now
 
 -- a slot at its next attempt
 abbrev pub slot_advanced : Slot → Slot

@@ -5,14 +5,13 @@ mod fault;
 mod fetch;
 mod laws;
 mod pending;
+mod queue;
 mod slot;
 mod slots;
+mod undecided;
 
 pub use fault::{JoinFault, OpenFault};
 pub use fetch::Fetch;
 pub use laws::{due_law, matching_law, next_law, place_law, waits_law};
 pub use pending::Pending;
 pub use std::alloc::AllocError as NoMemory;
-
-#[cfg(test)]
-mod tests;

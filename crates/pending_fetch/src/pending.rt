@@ -10,14 +10,17 @@ ghost use Rattle.pending_fetch.specs.Slots.{as_fetch, slot_told};
 
 use crate::fault::{JoinFault, OpenFault};
 use crate::fetch::Fetch;
+use crate::queue::{copy_of_queue, dequeue, due_in, enqueue, entry_for, settle};
 use crate::slot::Slot;
 use crate::slots::{
-    advance_in, are_crowded, are_many, close_in, due_in, expire_in, free_number, has_client,
-    join_at, leave_in, open_in, place_of, place_of_shared, reply_in, waiter_in,
+    advance_in, are_crowded, are_many, close_in, copies_of, copy_of_clients, expire_in,
+    free_number, has_client, join_at, leave_in, open_in, place_of, place_of_shared, reply_in,
+    waiter_in,
 };
+use crate::undecided::Undecided;
 use neighbours::{Moment, Table};
 use object_store::CacheKey;
-use peer_select::{Kind, Round, matching_law};
+use peer_select::{Kind, Round, matching_law, unchanged_law};
 use std::alloc::{AllocError, Global};
 use std::marker::Model;
 
@@ -27,18 +30,21 @@ pub struct Pending {
     last: u32,
     slots: Vec<Slot>,
     clients: Vec<u64>,
+    undecided: Vec<Undecided>,
 }
 
 impl Model for Pending {
     ghost use Rattle.std.specs.Prelude.{vec_capacity};
     ghost use Rattle.pending_fetch.specs.Fetches.{Fetches};
     ghost use Rattle.pending_fetch.specs.Slots.{held, IsHeld};
+    ghost use Rattle.pending_fetch.specs.Queue.{IsQueue};
 
     ghost Value = { Fetches };
 
     ghost view = { λ p. record { last = p.last; list = held p.slots.items p.clients.items } };
 
-    ghost invariant = { λ p. IsHeld (vec_capacity p.clients) p.slots.items p.clients.items };
+    ghost invariant = { λ p. IsHeld (vec_capacity p.clients) p.slots.items p.clients.items
+        × IsQueue (vec_capacity p.undecided) p.undecided.items (held p.slots.items p.clients.items) };
 }
 
 impl Pending {
@@ -47,10 +53,27 @@ impl Pending {
         ensures { IfOk result (λ pending. pending ≡ record { last = 0; list = [] }) }
     {
         let clients = Vec::with_capacity(alloc, 1024)?;
+        let undecided = Vec::with_capacity(alloc, 256)?;
         Ok(Pending {
             last: 0,
             slots: Vec::new(alloc),
             clients,
+            undecided,
+        })
+    }
+
+    /// An equal value, with memory of its own and room for 1,024 waiters. It shares the keys.
+    pub fn copy(&self, alloc: Global) -> Result<Pending, AllocError>
+        ensures { IfOk result (λ pending. pending ≡ self.now) }
+    {
+        let clients = copy_of_clients(&self.clients, alloc)?;
+        let slots = copies_of(&self.slots, alloc)?;
+        let undecided = copy_of_queue(&self.undecided, alloc)?;
+        Ok(Pending {
+            last: self.last,
+            slots,
+            clients,
+            undecided,
         })
     }
 
@@ -132,10 +155,12 @@ impl Pending {
             return Err(OpenFault::Full);
         }
         let number = self.next_number();
+        let entry = entry_for(number, &round);
         let slot = first_slot(number, key, client, shared, round);
         if open_in(&mut self.slots, &mut self.clients, slot, client).is_err() {
             return Err(OpenFault::NoMemory);
         }
+        enqueue(&mut self.undecided, entry);
         self.last = number;
         Ok(number)
     }
@@ -176,13 +201,14 @@ impl Pending {
         ensures { self.new ≡ record self.old { list = without number self.old.list } }
     {
         close_in(&mut self.slots, &mut self.clients, number);
+        dequeue(&mut self.undecided, number);
     }
 
     /// The number of the first fetch, in order of opening, whose round is undecided and started 2,000 ms ago or earlier.
     pub fn due(&self, now: Moment) -> Option<u32>
         ensures { result ≡ first_due now self.now.list }
     {
-        due_in(&self.slots, now)
+        due_in(&self.undecided, now)
     }
 
     /// The fetch of this number.
@@ -204,7 +230,10 @@ impl Pending {
         ensures found { result ≡ has_number number self.old.list }
     {
         matching_law();
-        reply_in(&mut self.slots, number, table, n, kind, s)
+        unchanged_law();
+        let decided = reply_in(&mut self.slots, number, table, n, kind, s);
+        settle(&mut self.undecided, number, decided);
+        decided.is_some()
     }
 
     /// The time of this fetch's round is up. Whether the fetch is pending.
@@ -213,7 +242,10 @@ impl Pending {
         ensures found { result ≡ has_number number self.old.list }
     {
         matching_law();
-        expire_in(&mut self.slots, number)
+        unchanged_law();
+        let found = expire_in(&mut self.slots, number);
+        settle(&mut self.undecided, number, decided_where(found));
+        found
     }
 
     /// The fetch goes on to its next attempt. False where it isn't pending, or its attempt is 65,535.
@@ -223,6 +255,13 @@ impl Pending {
     {
         advance_in(&mut self.slots, number)
     }
+}
+
+// That the round of a fetch is decided, where there is one.
+fn decided_where(found: bool) -> Option<bool>
+    ensures { result ≡ (if found then Some true else None) }
+{
+    if found { Some(true) } else { None }
 }
 
 fn first_slot(number: u32, key: CacheKey, client: u64, shared: bool, round: Round) -> Slot
@@ -259,3 +298,6 @@ fn lent(slot: &Slot) -> Fetch<'_>
         round: &slot.round,
     }
 }
+
+#[cfg(test)]
+mod tests;

@@ -1,19 +1,40 @@
 //! Slots, and the clients of all slots in one list: what is read off them and what is done to them.
 
-ghost use Rattle.std.specs.Prelude.{◌≡◌, ◌+◌, ◌%◌, ◌^◌, ◌<◌, ◌≤◌, ◌==◌, ◌&&◌, ◌++◌, ◌∷◌, [], ℕ, List, nat_eq, length, map, filter, not, find, position, option_map, slice_get, sum_by, take, drop, Some, OnOk, OnErr, true, vec_capacity, slice_index_or, nat_le, nat_lt, if◌then◌else◌};
+ghost use Rattle.std.specs.Prelude.{◌≡◌, ◌+◌, ◌%◌, ◌^◌, ◌<◌, ◌≤◌, ◌==◌, ◌&&◌, ◌++◌, ◌∷◌, [], ℕ, List, nat_eq, is_some, length, map, filter, not, position, option_map, slice_get, sum_by, take, drop, Some, OnOk, OnErr, IfOk, true, vec_capacity, slice_index_or, nat_le, nat_lt, if◌then◌else◌};
 ghost use Rattle.std.specs.List.{list_any, IsDistinct};
 ghost use Rattle.std.specs.Str.{bytes_eq};
-ghost use Rattle.peer_select.specs.Poll.{replied, ended, matches};
+ghost use Rattle.peer_select.specs.Poll.{decided, replied, ended, matches};
 ghost use Rattle.pending_fetch.specs.declared.slot.Slot.{Slot};
 ghost use Rattle.pending_fetch.specs.Numbers.{is_taken, next_of, nth_after};
-ghost use Rattle.pending_fetch.specs.Fetches.{without_client, numbers, has_number, waiters_of, fetch_of, changed, with_waiter, with_reply, with_end, with_next, left, without};
+ghost use Rattle.pending_fetch.specs.Fetches.{PendingFetch, without_client, numbers, has_number, waiters_of, fetch_of, changed, with_waiter, with_reply, with_end, with_next, left, without};
 ghost use Rattle.pending_fetch.specs.Calls.{may_advance};
-ghost use Rattle.pending_fetch.specs.Slots.{held, waiting_in, as_fetch, has_that_number, slot_shares, slot_is_due, slot_advanced, recounted};
+ghost use Rattle.pending_fetch.specs.Slots.{held, waiting_in, as_fetch, has_that_number, slot_shares, slot_advanced, recounted};
 
 use crate::slot::Slot;
-use neighbours::{Moment, Table};
+use neighbours::Table;
 use peer_select::Kind;
-use std::alloc::AllocError;
+use std::alloc::{AllocError, Global};
+
+/// The same slots, with memory of their own. The keys get one owner more.
+pub fn copies_of(slots: &[Slot], alloc: Global) -> Result<Vec<Slot>, AllocError>
+    ensures { IfOk result (λ copies. copies.items ≡ slots.now) }
+{
+    let mut copies = Vec::with_capacity(alloc, slots.len())?;
+    for slot in slots {
+        copies.push(slot.copy()?)?;
+    }
+    Ok(copies)
+}
+
+/// The same clients, with room for 1,024.
+pub fn copy_of_clients(clients: &[u64], alloc: Global) -> Result<Vec<u64>, AllocError>
+    ensures items { IfOk result (λ copy. copy.items ≡ clients.now) }
+    ensures room { IfOk result (λ copy. 1024 ≤ vec_capacity copy) }
+{
+    let mut copy = Vec::with_capacity(alloc, 1024)?;
+    copy.extend_from_slice(clients)?;
+    Ok(copy)
+}
 
 /// The place of the fetch of this number.
 pub fn place_of(slots: &[Slot], number: u32) -> Option<usize>
@@ -33,22 +54,6 @@ fn is_shared(slot: &Slot, key: &[u8]) -> bool
     ensures { result ≡ slot_shares key.now slot.now }
 {
     slot.owner.is_none() && slot.key.as_slice() == key
-}
-
-/// The number of the first fetch that is due.
-pub fn due_in(slots: &[Slot], now: Moment) -> Option<u32>
-    ensures { result ≡ option_map (λ (slot : Slot). slot.number) (find (slot_is_due now) slots.now) }
-{
-    slots
-        .iter()
-        .find(|slot| is_due(slot, now))
-        .map(|slot| slot.number)
-}
-
-fn is_due(slot: &Slot, now: Moment) -> bool
-    ensures { result ≡ slot_is_due now slot.now }
-{
-    !slot.round.decided() && slot.round.began().millis() + 2000 <= now.millis()
 }
 
 /// How many clients wait for these.
@@ -221,7 +226,8 @@ fn remove_run(clients: &mut Vec<u64>, first: usize, count: usize)
     clients.truncate(first + rest);
 }
 
-/// The peer at place n replies to the round of the fetch of this number. Whether there is one.
+/// The peer at place n replies to the round of the fetch of this number. Whether the round is decided then; None where
+/// there is no such fetch.
 pub fn reply_in(
     slots: &mut Vec<Slot>,
     number: u32,
@@ -229,27 +235,31 @@ pub fn reply_in(
     n: usize,
     kind: Kind,
     s: u32,
-) -> bool
+) -> Option<bool>
     requires place { n < length table.now.neighbours }
     requires table { (i : ℕ) (d : Slot) → position (has_that_number number) slots.old.items ≡ Some i → matches table.now.neighbours (slice_index_or slots.old.items i d).round.peers ≡ true }
     ensures counted { waiting_in slots.new.items ≡ waiting_in slots.old.items }
     ensures list { (clients : List ℕ) → waiting_in slots.old.items ≡ length clients →
         held slots.new.items clients ≡ changed (with_reply (record { s = s; n = n; kind = kind })) number (held slots.old.items clients) }
-    ensures found { result ≡ list_any (has_that_number number) slots.old.items }
+    ensures found { is_some result ≡ list_any (has_that_number number) slots.old.items }
+    ensures decided { (clients : List ℕ) → waiting_in slots.old.items ≡ length clients →
+        result ≡ option_map (λ (fetch : PendingFetch). decided (with_reply (record { s = s; n = n; kind = kind }) fetch).round) (fetch_of number (held slots.old.items clients)) }
 {
     let Some(place) = place_of(slots, number) else {
-        return false;
+        return None;
     };
-    reply_to(&mut slots[place], table, n, kind, s);
-    true
+    let decided = reply_to(&mut slots[place], table, n, kind, s);
+    Some(decided)
 }
 
-fn reply_to(slot: &mut Slot, table: &Table, n: usize, kind: Kind, s: u32)
+fn reply_to(slot: &mut Slot, table: &Table, n: usize, kind: Kind, s: u32) -> bool
     requires place { n < length table.now.neighbours }
     requires table { matches table.now.neighbours slot.old.round.peers ≡ true }
-    ensures { slot.new ≡ record slot.old { round = replied slot.old.round (record { s = s; n = n; kind = kind }) } }
+    ensures slot { slot.new ≡ record slot.old { round = replied slot.old.round (record { s = s; n = n; kind = kind }) } }
+    ensures decided { result ≡ decided slot.new.round }
 {
     slot.round.reply(table, n, kind, s);
+    slot.round.decided()
 }
 
 /// The time of the round of the fetch of this number is up. Whether there is one.

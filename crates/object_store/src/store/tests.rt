@@ -296,3 +296,96 @@ fn stale_entries(rt: HostRuntime) -> Result<(), Fail> {
     );
     Ok(())
 }
+
+// The number of a key, and the octets of its pair.
+type Plain = (u32, u64);
+
+// How many from the front on are within 2,000 pairs and so many octets.
+fn front_of(list: &[Plain], octets: u64) -> usize {
+    let mut room = octets;
+    for (count, pair) in list.iter().enumerate() {
+        if count >= 2000 || pair.1 > room {
+            return count;
+        }
+        room -= pair.1;
+    }
+    list.len()
+}
+
+// The pair goes to the front of the list, and the last ones go out.
+fn put_plain(list: &mut Vec<Plain>, pair: Plain, octets: u64) -> Result<(), Fail> {
+    list.retain(|other| other.0 != pair.0);
+    list.insert(0, pair)?;
+    let count = front_of(list, octets);
+    list.truncate(count);
+    Ok(())
+}
+
+fn numbered(alloc: Global, number: u32) -> Result<CacheKey, Fail> {
+    let name = format!(in alloc; "http://{number:06}/")?;
+    key(alloc, name.as_str())
+}
+
+// A put under the key of the number, in the store and in the list.
+fn put_both(
+    alloc: Global,
+    store: &mut Store,
+    list: &mut Vec<Plain>,
+    pair: Plain,
+    octets: u64,
+) -> Result<(), Fail> {
+    let body = pair.1.saturating_sub(14) as usize;
+    let put = store.put(numbered(alloc, pair.0)?, entry(alloc, body, 60, 1010)?);
+    put.map_err(|_| "not put")?;
+    put_plain(list, pair, octets)
+}
+
+// Whether the store holds the pairs of the list in its order.
+fn is_list(alloc: Global, store: &Store, list: &[Plain]) -> Result<bool, Fail> {
+    let mut pairs = store.pairs.iter();
+    for pair in list {
+        let Some((found, held)) = pairs.next() else {
+            return Ok(false);
+        };
+        let body = held.object.get().body().len() as u64;
+        if *found != numbered(alloc, pair.0)? || body != pair.1.saturating_sub(14) {
+            return Ok(false);
+        }
+    }
+    Ok(pairs.next().is_none())
+}
+
+// 4,000 puts at 3,000 keys into 2,000 entries, with evictions by the entries and by the octets,
+// against a plain list.
+#[test]
+fn thousands(rt: HostRuntime) -> Result<(), Fail> {
+    let alloc = rt.alloc();
+    for (octets, least) in [(1_000_000, 2000), (40_000, 1000)] {
+        let mut store = Store::new(alloc, 2000, octets)?;
+        let mut list = Vec::new(alloc);
+        for step in 0..4000u32 {
+            let number = if step % 4 == 0 { step / 4 } else { step % 3000 };
+            let pair = (number, 14 + u64::from(step % 37));
+            put_both(alloc, &mut store, &mut list, pair, u64::from(octets))?;
+        }
+        assert!(rt; list.len() >= least && is_list(alloc, &store, &list)?);
+    }
+    Ok(())
+}
+
+// A copy holds the same pairs in the same order, and is changed alone.
+#[test]
+fn copied(rt: HostRuntime) -> Result<(), Fail> {
+    let alloc = rt.alloc();
+    let mut twins = Twins::new(alloc, 3, 1000)?;
+    for row in BY_ENTRIES {
+        assert_eq!(rt; twins.call(alloc, row)?, row.5, "{}", row.6);
+        let copy = twins.store.copy(alloc)?;
+        for name in [A, B, C, D] {
+            let _ = twins.store.remove(&key(alloc, name)?);
+        }
+        twins.store = copy;
+        assert_eq!(rt; twins.keys(alloc)?.as_slice(), row.6.as_bytes());
+    }
+    Ok(())
+}

@@ -13,5 +13,5 @@ returns-in_default c =
 pub returns : goal.returns
 returns c =
     ap (λ t. Some t) c.lent.ensures ∙ ap (λ (s : Slot). Some (slot_told s)) c.index.ensures
-    ∙ told_view c.args.number c.self.inside.last c.self.inside.slots.items c.self.inside.clients.items c.args.self.now c.in-Some.place c.index.result.now c.self.view_is c.self.invariant.counted
+    ∙ told_view c.args.number c.self.inside.last c.self.inside.slots.items c.self.inside.clients.items c.args.self.now c.in-Some.place c.index.result.now c.self.view_is c.self.invariant.0.counted
     (shift (has_that_number c.args.number) c.deref.result.now c.self.inside.slots.items c.place_of.result (Some c.in-Some.place) c.place_of.ensures c.deref.ensures.value c.in-Some.is)

@@ -5,11 +5,11 @@ use Rattle.pending_fetch.proofs.Views.{few_clients}
 use Rattle.pending_fetch.proofs.pending.Pending.waiter.Goals as goal
 
 pub waiter_in-requires-clause-counted : goal.waiter_in-requires-clause-counted
-waiter_in-requires-clause-counted c = ap waiting_in c.deref.ensures.value ∙ c.self.invariant.counted ∙ sym (ap length c.deref-2.ensures.value)
+waiter_in-requires-clause-counted c = ap waiting_in c.deref.ensures.value ∙ c.self.invariant.0.counted ∙ sym (ap length c.deref-2.ensures.value)
 
 pub waiter_in-requires-clause-few : goal.waiter_in-requires-clause-few
 waiter_in-requires-clause-few c =
-    let few = few_clients (vec_capacity c.self.inside.clients) c.self.inside.slots.items c.self.inside.clients.items c.self.invariant in
+    let few = few_clients (vec_capacity c.self.inside.clients) c.self.inside.slots.items c.self.inside.clients.items c.self.invariant.0 in
     omega (arith, ap length c.deref-2.ensures.value, few)
 
 pub returns : goal.returns

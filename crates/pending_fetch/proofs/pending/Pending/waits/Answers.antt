@@ -5,4 +5,4 @@ use Rattle.pending_fetch.proofs.pending.Pending.waits.Goals as goal
 pub returns : goal.returns
 returns c =
     c.has_client.ensures
-    ∙ waits_view c.args.client c.self.inside.last c.self.inside.slots.items c.self.inside.clients.items c.deref.result.now c.args.self.now c.self.view_is c.self.invariant.counted c.deref.ensures.value
+    ∙ waits_view c.args.client c.self.inside.last c.self.inside.slots.items c.self.inside.clients.items c.deref.result.now c.args.self.now c.self.view_is c.self.invariant.0.counted c.deref.ensures.value
