@@ -19,8 +19,8 @@ pub struct Verdict {
 
 /// Runs an accepted program on a packet. It ends within as many steps as it has instructions.
 ///
-/// A load of which an octet is outside the packet, and a division by an index register of 0, end
-/// the run with the value 0.
+/// A load of which an octet is outside the packet, and a division or remainder by an index
+/// register of 0, end the run with the value 0.
 pub fn judge(program: &Checked, packet: &Packet<'_>) -> Verdict
     ensures gives { Gives program.now packet.now result.value result.steps }
     ensures within { result.steps ≤ length program.now }

@@ -1,4 +1,5 @@
 use Rattle.std.proofs.Common.{refl, arith, map, ◌≤◌, ◌<◌, length}
+use Rattle.bpf_check.specs.Accepted.{most_insns}
 use Rattle.bpf_asm.specs.Shown.{octets}
 use Rattle.bpf_asm.specs.Drafts.{shown_draft}
 use Rattle.bpf_asm.proofs.Places.{length_shown}
@@ -10,6 +11,6 @@ returns-then-len-ge-MOST_INSNS c =
     let few = length_shown shown_draft c.args.drafts.now.items in
     let some = length_shown (λ x. x.now) c.args.body.now in
     let full = c.if-len-ge-MOST_INSNS.true in
-    let most : 512 ≤ length (map shown_draft c.args.drafts.now.items) = omega (arith, c.len.ensures) in
+    let most : most_insns ≤ length (map shown_draft c.args.drafts.now.items) = omega (arith, c.len.ensures) in
     let any : 0 < length (octets c.args.body.now) = omega (arith, c.in-Some.ensures.cases.1) in
     (refl, most, any, (shown_draft c.in_ok-draft.draft, rw h c.in_ok-draft.ensures.1))
