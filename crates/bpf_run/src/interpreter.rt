@@ -31,18 +31,22 @@ pub fn judge(program: &Checked, packet: &Packet<'_>) -> Verdict
     let insns = program.insns();
     let mut machine = Machine::new();
     let mut place = 0;
-    let mut steps = 0;
+    // The instructions before this place that jumps went over. The others were executed, so that
+    // only jumps have to count.
+    let mut skipped = 0;
     'run: loop {
         match execute(&insns[place], &mut machine, packet) {
             Outcome::Next => place += 1,
-            Outcome::Skip(distance) => place += 1 + distance,
+            Outcome::Skip(distance) => {
+                place += 1 + distance;
+                skipped += distance;
+            }
             Outcome::End(value) => {
                 return Verdict {
                     value,
-                    steps: steps + 1,
+                    steps: (place + 1 - skipped) as u16,
                 };
             }
         }
-        steps += 1;
     }
 }
