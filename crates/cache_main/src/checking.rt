@@ -21,33 +21,29 @@ impl fmt::Display for ProgramFault {
         match self {
             ProgramFault::Listing(fault) => {
                 write!(f, "listing fault {}", fault.number())?;
-                write_line(f, fault.line())
+                write_at(f, "line", fault.line())
             }
             ProgramFault::Assembler(fault) => {
                 write!(f, "assembler fault {}", fault.number())?;
-                write_line(f, fault.line())
+                write_at(f, "line", fault.line())
             }
-            ProgramFault::Check(fault) => write_check(f, *fault),
+            ProgramFault::Check(fault) => {
+                write!(f, "check fault {}", fault.number())?;
+                write_at(f, "place", fault.place())
+            }
         }
     }
 }
 
-fn write_line<W: fmt::Write>(f: &mut fmt::Formatter<W>, line: Option<usize>) -> fmt::Result {
-    match line {
-        Some(line) => write!(f, " line {line}"),
+// Where a fault lies, if it lies on a line or at a place.
+fn write_at<W: fmt::Write>(
+    f: &mut fmt::Formatter<W>,
+    what: &str,
+    at: Option<usize>,
+) -> fmt::Result {
+    match at {
+        Some(number) => write!(f, " {what} {number}"),
         None => Ok(()),
-    }
-}
-
-fn write_check<W: fmt::Write>(f: &mut fmt::Formatter<W>, fault: CheckFault) -> fmt::Result {
-    match fault {
-        CheckFault::Empty => write!(f, "check fault 1"),
-        CheckFault::TooLong => write!(f, "check fault 2"),
-        CheckFault::UnknownCode(place) => write!(f, "check fault 3 place {place}"),
-        CheckFault::ZeroDivisor(place) => write!(f, "check fault 4 place {place}"),
-        CheckFault::BadScratch(place) => write!(f, "check fault 5 place {place}"),
-        CheckFault::BadJump(place) => write!(f, "check fault 6 place {place}"),
-        CheckFault::NoReturn => write!(f, "check fault 7"),
     }
 }
 
