@@ -5,7 +5,7 @@ use Rattle.std.proofs.lemmas.Slice.Eq.{bytes_eq-Decides}
 use Rattle.std.specs.Str.{bytes_eq}
 use Rattle.bpf_check.specs.declared.operation.Width.TheVariants.{Word, Half, Byte}
 use Rattle.bpf_check.specs.declared.operation.Operand.TheVariants.{Constant, Index}
-use Rattle.bpf_check.specs.declared.operation.Arithmetic.TheVariants.{Add, Subtract, Multiply, Divide, Or, And, ShiftLeft, ShiftRight}
+use Rattle.bpf_check.specs.declared.operation.Arithmetic.TheVariants.{Add, Subtract, Multiply, Divide, Or, And, ShiftLeft, ShiftRight, Modulo, ExclusiveOr}
 use Rattle.bpf_check.specs.declared.operation.Comparison.TheVariants.{Equal, AtLeast, Above, SharesBit}
 use Rattle.bpf_check.specs.declared.operation.Operation.{Operation}
 use Rattle.bpf_check.specs.declared.operation.Operation.TheVariants.{LoadAbsolute, LoadIndirect, LoadConstant, LoadScratch, LoadLength, IndexConstant, IndexScratch, IndexLength, IndexHeader, StoreAccumulator, StoreIndex, Compute, Negate, Jump, Branch, ReturnConstant, ReturnAccumulator, ToIndex, ToAccumulator}
@@ -38,6 +38,8 @@ code_of (Compute Or Constant) = 68
 code_of (Compute And Constant) = 84
 code_of (Compute ShiftLeft Constant) = 100
 code_of (Compute ShiftRight Constant) = 116
+code_of (Compute Modulo Constant) = 148
+code_of (Compute ExclusiveOr Constant) = 164
 code_of (Compute Add Index) = 12
 code_of (Compute Subtract Index) = 28
 code_of (Compute Multiply Index) = 44
@@ -46,6 +48,8 @@ code_of (Compute Or Index) = 76
 code_of (Compute And Index) = 92
 code_of (Compute ShiftLeft Index) = 108
 code_of (Compute ShiftRight Index) = 124
+code_of (Compute Modulo Index) = 156
+code_of (Compute ExclusiveOr Index) = 172
 code_of Negate = 132
 code_of Jump = 5
 code_of (Branch Equal Constant) = 21
@@ -72,11 +76,11 @@ Decode [] = Unit {0}
 Decode (row ∷ rows) = (operation_of row.0 ≡ Some row.1) × Decode rows
 
 pub table_codes : AreCodes table
-table_codes = (refl, (refl, (refl, (refl, (refl, (refl, (refl, (refl, (refl, (refl, (refl, (refl, (refl, (refl, (refl, (refl, (refl, (refl, (refl, (refl, (refl, (refl, (refl, (refl, (refl, (refl, (refl, (refl, (refl, (refl, (refl, (refl, (refl, (refl, (refl, (refl, (refl, (refl, (refl, (refl, (refl, (refl, (refl, (refl, (refl, tt)))))))))))))))))))))))))))))))))))))))))))))
+table_codes = (refl, (refl, (refl, (refl, (refl, (refl, (refl, (refl, (refl, (refl, (refl, (refl, (refl, (refl, (refl, (refl, (refl, (refl, (refl, (refl, (refl, (refl, (refl, (refl, (refl, (refl, (refl, (refl, (refl, (refl, (refl, (refl, (refl, (refl, (refl, (refl, (refl, (refl, (refl, (refl, (refl, (refl, (refl, (refl, (refl, (refl, (refl, (refl, (refl, tt)))))))))))))))))))))))))))))))))))))))))))))))))
 
 pub table_decodes : Decode table
 unfolding operation_of
-table_decodes = (refl, (refl, (refl, (refl, (refl, (refl, (refl, (refl, (refl, (refl, (refl, (refl, (refl, (refl, (refl, (refl, (refl, (refl, (refl, (refl, (refl, (refl, (refl, (refl, (refl, (refl, (refl, (refl, (refl, (refl, (refl, (refl, (refl, (refl, (refl, (refl, (refl, (refl, (refl, (refl, (refl, (refl, (refl, (refl, (refl, tt)))))))))))))))))))))))))))))))))))))))))))))
+table_decodes = (refl, (refl, (refl, (refl, (refl, (refl, (refl, (refl, (refl, (refl, (refl, (refl, (refl, (refl, (refl, (refl, (refl, (refl, (refl, (refl, (refl, (refl, (refl, (refl, (refl, (refl, (refl, (refl, (refl, (refl, (refl, (refl, (refl, (refl, (refl, (refl, (refl, (refl, (refl, (refl, (refl, (refl, (refl, (refl, (refl, (refl, (refl, (refl, (refl, tt)))))))))))))))))))))))))))))))))))))))))))))))))
 
 taken : {A : Type 0} (b : Bool) (x y z : A) (o : Option A) → cond b (Some x) o ≡ Some z → ((b ≡ true) × (x ≡ z)) ⊎ (o ≡ Some z)
 taken true x y z o e = inl (refl, cc)

@@ -2,7 +2,7 @@
 use Rattle.std.proofs.Common.{◌≡◌, ℕ, List, [], ◌∷◌, refl, Some}
 use Rattle.bpf_check.specs.declared.operation.Width.TheVariants.{Word, Half, Byte}
 use Rattle.bpf_check.specs.declared.operation.Operand.TheVariants.{Constant, Index}
-use Rattle.bpf_check.specs.declared.operation.Arithmetic.TheVariants.{Add, Subtract, Multiply, Divide, Or, And, ShiftLeft, ShiftRight}
+use Rattle.bpf_check.specs.declared.operation.Arithmetic.TheVariants.{Add, Subtract, Multiply, Divide, Or, And, ShiftLeft, ShiftRight, Modulo, ExclusiveOr}
 use Rattle.bpf_check.specs.declared.operation.Comparison.TheVariants.{Equal, AtLeast, Above, SharesBit}
 use Rattle.bpf_check.specs.declared.operation.Operation.{Operation}
 use Rattle.bpf_check.specs.declared.operation.Operation.TheVariants.{LoadAbsolute, LoadIndirect, LoadConstant, LoadScratch, LoadLength, IndexConstant, IndexScratch, IndexLength, IndexHeader, StoreAccumulator, StoreIndex, Compute, Negate, Jump, Branch, ReturnConstant, ReturnAccumulator, ToIndex, ToAccumulator}
@@ -105,6 +105,14 @@ one_row (Compute ShiftRight Constant) [] h = absurd h
 one_row (Compute ShiftRight Constant) ([] ∷ []) h = refl
 one_row (Compute ShiftRight Constant) ((c ∷ cs) ∷ []) h = rw h.0 refl
 one_row (Compute ShiftRight Constant) (w ∷ v ∷ ws) h = absurd h.1
+one_row (Compute Modulo Constant) [] h = absurd h
+one_row (Compute Modulo Constant) ([] ∷ []) h = refl
+one_row (Compute Modulo Constant) ((c ∷ cs) ∷ []) h = rw h.0 refl
+one_row (Compute Modulo Constant) (w ∷ v ∷ ws) h = absurd h.1
+one_row (Compute ExclusiveOr Constant) [] h = absurd h
+one_row (Compute ExclusiveOr Constant) ([] ∷ []) h = refl
+one_row (Compute ExclusiveOr Constant) ((c ∷ cs) ∷ []) h = rw h.0 refl
+one_row (Compute ExclusiveOr Constant) (w ∷ v ∷ ws) h = absurd h.1
 one_row (Compute Add Index) [] h = refl
 one_row (Compute Add Index) (w ∷ ws) h = absurd h
 one_row (Compute Subtract Index) [] h = refl
@@ -121,6 +129,10 @@ one_row (Compute ShiftLeft Index) [] h = refl
 one_row (Compute ShiftLeft Index) (w ∷ ws) h = absurd h
 one_row (Compute ShiftRight Index) [] h = refl
 one_row (Compute ShiftRight Index) (w ∷ ws) h = absurd h
+one_row (Compute Modulo Index) [] h = refl
+one_row (Compute Modulo Index) (w ∷ ws) h = absurd h
+one_row (Compute ExclusiveOr Index) [] h = refl
+one_row (Compute ExclusiveOr Index) (w ∷ ws) h = absurd h
 one_row Negate [] h = refl
 one_row Negate (w ∷ ws) h = absurd h
 one_row Jump [] h = absurd h

@@ -8,6 +8,7 @@ use Rattle.std.proofs.lemmas.List.{length_push}
 use Rattle.bpf_check.specs.declared.operation.Operand.TheVariants.{Constant, Index}
 use Rattle.bpf_check.specs.declared.operation.Operation.{Operation}
 use Rattle.bpf_check.specs.declared.operation.Operation.TheVariants.{Jump, Branch}
+use Rattle.bpf_check.specs.Accepted.{most_insns}
 use Rattle.bpf_asm.specs.declared.fault.AsmFault.{AsmFault}
 use Rattle.bpf_asm.specs.declared.fault.AsmFault.TheVariants as faults
 use Rattle.bpf_asm.specs.Assembly.{label_of, body_of, has_body, place_of, LabelAt, IsBody, IsMnemonic, FirstWord, WrongNumber, BodyFault, IsDouble, LineFault, JumpFault, FaultAt, IsFirstFault, IsAnswer}
@@ -34,9 +35,9 @@ body_from ls n m line there (faults.DoubleLabel k) here found h = absurd (omega 
 body_from ls n m line there (faults.TooLong k) here found h = absurd (omega (arith, h.1))
 body_from ls n m line there fault here found h = moved (λ k l. BodyFault (body_of l) (k + 1) fault) ls m n there line (omega (arith, h.0)) found here h.1
 
-limit_from : (ls : List (List (List ℕ))) (n m : ℕ) (line there : List (List ℕ)) (other : AsmFault) → slice_get ls n ≡ Some line → slice_get ls m ≡ Some there → LineFault ls (3 * n + 2) m there other → (has_body line ≡ true) × (512 ≤ place_of ls n)
+limit_from : (ls : List (List (List ℕ))) (n m : ℕ) (line there : List (List ℕ)) (other : AsmFault) → slice_get ls n ≡ Some line → slice_get ls m ≡ Some there → LineFault ls (3 * n + 2) m there other → (has_body line ≡ true) × (most_insns ≤ place_of ls n)
 limit_from ls n m line there (faults.DoubleLabel k) here found h = absurd (omega (arith, h.1))
-limit_from ls n m line there (faults.TooLong k) here found h = moved (λ k l. (has_body l ≡ true) × (512 ≤ place_of ls k)) ls m n there line (omega (arith, h.1)) found here (h.2, h.3)
+limit_from ls n m line there (faults.TooLong k) here found h = moved (λ k l. (has_body l ≡ true) × (most_insns ≤ place_of ls k)) ls m n there line (omega (arith, h.1)) found here (h.2, h.3)
 limit_from ls n m line there _ here found h = absurd (omega (arith, h.0))
 
 too_late : (ls : List (List (List ℕ))) (n m time : ℕ) (line there : List (List ℕ)) (other : AsmFault) → slice_get ls n ≡ Some line → time < 3 * n + 3 → JumpFault ls time m there other → ⊥
@@ -54,7 +55,7 @@ body_at ls n line other here h = elim h.3 [
   | inr b ↦ absurd (too_late ls n h.0 (3 * n + 1) line h.1 other here (omega arith) b)
 ]
 
-limit_at : (ls : List (List (List ℕ))) (n : ℕ) (line : List (List ℕ)) (other : AsmFault) → slice_get ls n ≡ Some line → FaultAt ls (3 * n + 2) other → (has_body line ≡ true) × (512 ≤ place_of ls n)
+limit_at : (ls : List (List (List ℕ))) (n : ℕ) (line : List (List ℕ)) (other : AsmFault) → slice_get ls n ≡ Some line → FaultAt ls (3 * n + 2) other → (has_body line ≡ true) × (most_insns ≤ place_of ls n)
 limit_at ls n line other here h = elim h.3 [
   | inl a ↦ limit_from ls n h.0 line h.1 other here h.2 a
   | inr b ↦ absurd (too_late ls n h.0 (3 * n + 2) line h.1 other here (omega arith) b)
@@ -187,7 +188,7 @@ pub after_body : (ls : List (List (List ℕ))) (n : ℕ) (old new : List Draft) 
 after_body ls n old new line here h none =
     raised ls (3 * n + 1) (3 * n + 2) (omega arith) none (λ other f. drafted_fine old new (n + 1) (body_of line) other h (body_at ls n line other here f))
 
-limit_kept : (ls : List (List (List ℕ))) (n : ℕ) (old new : List Draft) (line : List (List ℕ)) (body : List (List ℕ)) → body_of line ≡ body → length old ≡ place_of ls n → Drafted old new (n + 1) body → (has_body line ≡ true) × (512 ≤ place_of ls n) → ⊥
+limit_kept : (ls : List (List (List ℕ))) (n : ℕ) (old new : List Draft) (line : List (List ℕ)) (body : List (List ℕ)) → body_of line ≡ body → length old ≡ place_of ls n → Drafted old new (n + 1) body → (has_body line ≡ true) × (most_insns ≤ place_of ls n) → ⊥
 limit_kept ls n old new line [] e count h f = absurd (let g = body_false line e in let k = f.0 in cc)
 limit_kept ls n old new line (t ∷ ts) e count h f = omega (arith, h.4, f.1)
 

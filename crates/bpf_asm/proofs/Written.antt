@@ -6,7 +6,7 @@ use Rattle.std.specs.List.{list_all}
 use Rattle.bpf_check.specs.declared.insn.Insn.{Insn}
 use Rattle.bpf_check.specs.declared.operation.Width.TheVariants.{Word, Half, Byte}
 use Rattle.bpf_check.specs.declared.operation.Operand.TheVariants.{Constant, Index}
-use Rattle.bpf_check.specs.declared.operation.Arithmetic.TheVariants.{Add, Subtract, Multiply, Divide, Or, And, ShiftLeft, ShiftRight}
+use Rattle.bpf_check.specs.declared.operation.Arithmetic.TheVariants.{Add, Subtract, Multiply, Divide, Or, And, ShiftLeft, ShiftRight, Modulo, ExclusiveOr}
 use Rattle.bpf_check.specs.declared.operation.Comparison.TheVariants.{Equal, AtLeast, Above, SharesBit}
 use Rattle.bpf_check.specs.declared.operation.Operation.{Operation}
 use Rattle.bpf_check.specs.declared.operation.Operation.TheVariants.{LoadAbsolute, LoadIndirect, LoadConstant, LoadScratch, LoadLength, IndexConstant, IndexScratch, IndexLength, IndexHeader, StoreAccumulator, StoreIndex, Compute, Negate, Jump, Branch, ReturnConstant, ReturnAccumulator, ToIndex, ToAccumulator}
@@ -100,7 +100,11 @@ body_tokens place i (Compute And Index) h = refl
 body_tokens place i (Compute ShiftLeft Constant) h = let k = h.k in rw (number_run i.k ([]) (omega arith) tt) refl
 body_tokens place i (Compute ShiftLeft Index) h = refl
 body_tokens place i (Compute ShiftRight Constant) h = let k = h.k in rw (number_run i.k ([]) (omega arith) tt) refl
+body_tokens place i (Compute Modulo Constant) h = let k = h.k in rw (number_run i.k ([]) (omega arith) tt) refl
+body_tokens place i (Compute ExclusiveOr Constant) h = let k = h.k in rw (number_run i.k ([]) (omega arith) tt) refl
 body_tokens place i (Compute ShiftRight Index) h = refl
+body_tokens place i (Compute Modulo Index) h = refl
+body_tokens place i (Compute ExclusiveOr Index) h = refl
 body_tokens place i Negate h = refl
 body_tokens place i Jump h = let k = h.k in let p = h.near in rw (label_run (place + 1 + i.k) [] (omega arith) tt) refl
 body_tokens place i (Branch Equal Constant) h = let k = h.k in let t = h.jt in let f = h.jf in let p = h.near in rw (number_run i.k (codes ", L" ++ (decimal (place + 1 + i.jt) ++ (codes ", L" ++ (decimal (place + 1 + i.jf) ++ [])))) (omega arith) refl) (rw (label_run (place + 1 + i.jt) (codes ", L" ++ (decimal (place + 1 + i.jf) ++ [])) (omega arith) refl, label_run (place + 1 + i.jf) [] (omega arith) tt) refl)
@@ -171,7 +175,11 @@ unnamed place i (Compute And Index) = refl
 unnamed place i (Compute ShiftLeft Constant) = refl
 unnamed place i (Compute ShiftLeft Index) = refl
 unnamed place i (Compute ShiftRight Constant) = refl
+unnamed place i (Compute Modulo Constant) = refl
+unnamed place i (Compute ExclusiveOr Constant) = refl
 unnamed place i (Compute ShiftRight Index) = refl
+unnamed place i (Compute Modulo Index) = refl
+unnamed place i (Compute ExclusiveOr Index) = refl
 unnamed place i Negate = refl
 unnamed place i Jump = refl
 unnamed place i (Branch Equal Constant) = refl
@@ -218,7 +226,11 @@ unnamed_body place i (Compute And Index) = refl
 unnamed_body place i (Compute ShiftLeft Constant) = refl
 unnamed_body place i (Compute ShiftLeft Index) = refl
 unnamed_body place i (Compute ShiftRight Constant) = refl
+unnamed_body place i (Compute Modulo Constant) = refl
+unnamed_body place i (Compute ExclusiveOr Constant) = refl
 unnamed_body place i (Compute ShiftRight Index) = refl
+unnamed_body place i (Compute Modulo Index) = refl
+unnamed_body place i (Compute ExclusiveOr Index) = refl
 unnamed_body place i Negate = refl
 unnamed_body place i Jump = refl
 unnamed_body place i (Branch Equal Constant) = refl

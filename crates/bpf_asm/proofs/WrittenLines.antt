@@ -9,7 +9,7 @@ use Rattle.std.specs.Str.Lines.{lines, lines_of_parts, strip_carriage_return}
 use Rattle.bpf_check.specs.declared.insn.Insn.{Insn}
 use Rattle.bpf_check.specs.declared.operation.Width.TheVariants.{Word, Half, Byte}
 use Rattle.bpf_check.specs.declared.operation.Operand.TheVariants.{Constant, Index}
-use Rattle.bpf_check.specs.declared.operation.Arithmetic.TheVariants.{Add, Subtract, Multiply, Divide, Or, And, ShiftLeft, ShiftRight}
+use Rattle.bpf_check.specs.declared.operation.Arithmetic.TheVariants.{Add, Subtract, Multiply, Divide, Or, And, ShiftLeft, ShiftRight, Modulo, ExclusiveOr}
 use Rattle.bpf_check.specs.declared.operation.Comparison.TheVariants.{Equal, AtLeast, Above, SharesBit}
 use Rattle.bpf_check.specs.declared.operation.Operation.{Operation}
 use Rattle.bpf_check.specs.declared.operation.Operation.TheVariants.{LoadAbsolute, LoadIndirect, LoadConstant, LoadScratch, LoadLength, IndexConstant, IndexScratch, IndexLength, IndexHeader, StoreAccumulator, StoreIndex, Compute, Negate, Jump, Branch, ReturnConstant, ReturnAccumulator, ToIndex, ToAccumulator}
@@ -85,7 +85,11 @@ mnemonic_fine (Compute And Index) = refl
 mnemonic_fine (Compute ShiftLeft Constant) = refl
 mnemonic_fine (Compute ShiftLeft Index) = refl
 mnemonic_fine (Compute ShiftRight Constant) = refl
+mnemonic_fine (Compute Modulo Constant) = refl
+mnemonic_fine (Compute ExclusiveOr Constant) = refl
 mnemonic_fine (Compute ShiftRight Index) = refl
+mnemonic_fine (Compute Modulo Index) = refl
+mnemonic_fine (Compute ExclusiveOr Index) = refl
 mnemonic_fine Negate = refl
 mnemonic_fine Jump = refl
 mnemonic_fine (Branch Equal Constant) = refl

@@ -8,6 +8,7 @@ use Rattle.bpf_check.specs.declared.operation.Operand.TheVariants.{Constant, Ind
 use Rattle.bpf_check.specs.declared.operation.Operation.{Operation}
 use Rattle.bpf_check.specs.declared.operation.Operation.TheVariants.{Jump, Branch}
 use Rattle.bpf_check.specs.Operation.{operation_of}
+use Rattle.bpf_check.specs.Accepted.{most_insns}
 use Rattle.bpf_asm.specs.declared.fault.AsmFault.{AsmFault}
 use Rattle.bpf_asm.specs.declared.fault.AsmFault.TheVariants as faults
 use Rattle.bpf_asm.specs.Form.{mnemonic}
@@ -85,7 +86,7 @@ pub record Assembles (ls : List (List (List ℕ))) (p : List Insn) : Type 0 wher
   pub each : (n : ℕ) (line : List (List ℕ)) → slice_get ls n ≡ Some line → has_body line ≡ true →
       (i : Insn) × (slice_get p (place_of ls n) ≡ Some i) × IsInsn ls (place_of ls n) (body_of line) i
   pub count : length p ≡ place_of ls (length ls)
-  pub short : length p ≤ 512
+  pub short : length p ≤ most_insns
 
 -- ---- faults
 
@@ -146,7 +147,7 @@ pub record IsDouble (ls : List (List (List ℕ))) (n : ℕ) (line : List (List �
 -- the fault comes at this time while the lines are read: of a line first the label, then the body, then the limit of a program
 abbrev pub LineFault : List (List (List ℕ)) → ℕ → ℕ → List (List ℕ) → AsmFault → Type 0
 LineFault ls time n line (faults.DoubleLabel k) = (k ≡ n + 1) × (time ≡ 3 * n) × IsDouble ls n line
-LineFault ls time n line (faults.TooLong k) = (k ≡ n + 1) × (time ≡ 3 * n + 2) × (has_body line ≡ true) × (512 ≤ place_of ls n)
+LineFault ls time n line (faults.TooLong k) = (k ≡ n + 1) × (time ≡ 3 * n + 2) × (has_body line ≡ true) × (most_insns ≤ place_of ls n)
 LineFault ls time n line fault = (time ≡ 3 * n + 1) × BodyFault (body_of line) (n + 1) fault
 
 -- the fault comes at this time, after all lines were read: by the places of the jumps, of each the labels from the left

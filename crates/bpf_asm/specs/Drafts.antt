@@ -5,6 +5,7 @@ use Rattle.bpf_check.specs.declared.insn.Insn.{Insn}
 use Rattle.bpf_check.specs.declared.operation.Operand.TheVariants.{Constant, Index}
 use Rattle.bpf_check.specs.declared.operation.Operation.{Operation}
 use Rattle.bpf_check.specs.declared.operation.Operation.TheVariants.{Jump, Branch}
+use Rattle.bpf_check.specs.Accepted.{most_insns}
 use Rattle.bpf_asm.specs.declared.draft.Draft as code
 use Rattle.bpf_asm.specs.declared.fault.AsmFault.{AsmFault}
 use Rattle.bpf_asm.specs.declared.fault.AsmFault.TheVariants as faults
@@ -58,11 +59,11 @@ LabelRefused old line label fault = ⊥
 -- what the body of a line does to the drafts
 abbrev pub Drafted : List Draft → List Draft → ℕ → List (List ℕ) → Type 0
 Drafted old new line [] = new ≡ old
-Drafted old new line (t ∷ ts) = (d : Draft) × (new ≡ old ++ d ∷ []) × IsDraft (t ∷ ts) d × (d.line ≡ line) × (length old < 512)
+Drafted old new line (t ∷ ts) = (d : Draft) × (new ≡ old ++ d ∷ []) × IsDraft (t ∷ ts) d × (d.line ≡ line) × (length old < most_insns)
 
 -- why the body of a line is refused
 abbrev pub BodyRefused : List Draft → ℕ → List (List ℕ) → AsmFault → Type 0
-BodyRefused old line body (faults.TooLong n) = (n ≡ line) × (512 ≤ length old) × (0 < length body) × ((d : Draft) × IsDraft body d)
+BodyRefused old line body (faults.TooLong n) = (n ≡ line) × (most_insns ≤ length old) × (0 < length body) × ((d : Draft) × IsDraft body d)
 BodyRefused old line body fault = DraftFault body line fault
 
 -- the places of the labels of the lines before n, no two of them the same
@@ -83,7 +84,7 @@ pub record IsDraftAt (ls : List (List (List ℕ))) (place : ℕ) (d : Draft) : T
 -- the drafts of the lines before n
 pub record AreDrafts (ls : List (List (List ℕ))) (n : ℕ) (ds : List Draft) : Type 0 where
   pub count : length ds ≡ place_of ls n
-  pub short : length ds ≤ 512
+  pub short : length ds ≤ most_insns
   pub each : (place : ℕ) (d : Draft) → slice_get ds place ≡ Some d → IsDraftAt ls place d
 
 -- each fault comes at this time or later

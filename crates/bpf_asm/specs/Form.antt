@@ -4,7 +4,7 @@ use Rattle.bpf_check.specs.declared.operation.Width.{Width}
 use Rattle.bpf_check.specs.declared.operation.Width.TheVariants.{Word, Half, Byte}
 use Rattle.bpf_check.specs.declared.operation.Operand.TheVariants.{Constant, Index}
 use Rattle.bpf_check.specs.declared.operation.Arithmetic.{Arithmetic}
-use Rattle.bpf_check.specs.declared.operation.Arithmetic.TheVariants.{Add, Subtract, Multiply, Divide, Or, And, ShiftLeft, ShiftRight}
+use Rattle.bpf_check.specs.declared.operation.Arithmetic.TheVariants.{Add, Subtract, Multiply, Divide, Or, And, ShiftLeft, ShiftRight, Modulo, ExclusiveOr}
 use Rattle.bpf_check.specs.declared.operation.Comparison.{Comparison}
 use Rattle.bpf_check.specs.declared.operation.Comparison.TheVariants.{Equal, AtLeast, Above, SharesBit}
 use Rattle.bpf_check.specs.declared.operation.Operation.{Operation}
@@ -22,6 +22,8 @@ arithmetic_mnemonic Or = codes "or"
 arithmetic_mnemonic And = codes "and"
 arithmetic_mnemonic ShiftLeft = codes "lsh"
 arithmetic_mnemonic ShiftRight = codes "rsh"
+arithmetic_mnemonic Modulo = codes "mod"
+arithmetic_mnemonic ExclusiveOr = codes "xor"
 
 -- of a load into the accumulator, by its width
 abbrev pub load_mnemonic : Width → List ℕ

@@ -129,7 +129,7 @@ fn assemble_lines(alloc: Global, lines: &[&[u8]]) -> Result<Vec<Insn>, AsmFault>
 /// The instructions of an assembler text, or its first fault.
 ///
 /// Of each line come first the faults of its label, then of its mnemonic, the form behind it and its
-/// number, then the limit of 512 instructions. When all lines were read, the labels of jumps come in
+/// number, then the limit of 4,096 instructions. When all lines were read, the labels of jumps come in
 /// their order. A label behind the last instruction names the place past the end.
 pub fn assemble(alloc: Global, text: &[u8]) -> Result<Vec<Insn>, AsmFault>
     ensures program { IfOk result (λ v. Assembles (token_lines text.now) v.items) }

@@ -31,7 +31,7 @@ pub enum AsmFault {
     #[error("line {0}: the conditional jump goes too far")]
     Far(usize),
     /// The instruction is above the limit of a program.
-    #[error("line {0}: more than 512 instructions")]
+    #[error("line {0}: more than 4,096 instructions")]
     TooLong(usize),
     /// No memory was left.
     #[error("no memory was left")]

@@ -49,6 +49,8 @@ fn arithmetic_mnemonic_of(arithmetic: Arithmetic) -> &'static str
         Arithmetic::And => "and",
         Arithmetic::ShiftLeft => "lsh",
         Arithmetic::ShiftRight => "rsh",
+        Arithmetic::Modulo => "mod",
+        Arithmetic::ExclusiveOr => "xor",
     }
 }
 

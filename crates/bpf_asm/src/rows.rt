@@ -111,6 +111,19 @@ fn rows() -> &'static [(u16, Operation)]
         (0x16, Operation::ReturnAccumulator),
         (0x07, Operation::ToIndex),
         (0x87, Operation::ToAccumulator),
+        (
+            0x94,
+            Operation::Compute(Arithmetic::Modulo, Operand::Constant),
+        ),
+        (0x9c, Operation::Compute(Arithmetic::Modulo, Operand::Index)),
+        (
+            0xa4,
+            Operation::Compute(Arithmetic::ExclusiveOr, Operand::Constant),
+        ),
+        (
+            0xac,
+            Operation::Compute(Arithmetic::ExclusiveOr, Operand::Index),
+        ),
     ]
 }
 

@@ -7,11 +7,11 @@ use Rattle.bpf_check.specs.declared.insn.Insn.{Insn}
 use Rattle.bpf_check.specs.declared.checked.CheckFault.{CheckFault}
 use Rattle.bpf_check.specs.declared.checked.CheckFault.TheVariants.{Empty, TooLong, UnknownCode, ZeroDivisor, BadScratch, BadJump, NoReturn}
 use Rattle.bpf_check.specs.declared.operation.Operand.TheVariants.{Constant}
-use Rattle.bpf_check.specs.declared.operation.Arithmetic.TheVariants.{Divide}
+use Rattle.bpf_check.specs.declared.operation.Arithmetic.TheVariants.{Divide, Modulo}
 use Rattle.bpf_check.specs.declared.operation.Operation.{Operation}
 use Rattle.bpf_check.specs.declared.operation.Operation.TheVariants.{LoadScratch, IndexScratch, StoreAccumulator, StoreIndex, Compute, Jump, Branch}
 use Rattle.bpf_check.specs.Operation.{operation_of}
-use Rattle.bpf_check.specs.Accepted.{FieldsFit, IsFine, IsReturn, EndsWithReturn, IsAccepted, UsesScratch, DividesByConstant, JumpsOut, IsFaultAt, HasFault, rank, IsFirstFault}
+use Rattle.bpf_check.specs.Accepted.{most_insns, FieldsFit, IsFine, IsReturn, EndsWithReturn, IsAccepted, UsesScratch, DividesByConstant, JumpsOut, IsFaultAt, HasFault, rank, IsFirstFault}
 
 scratch_unfit : (n q : ℕ) (i : Insn) (o : Option Operation) → IsSomeAnd o UsesScratch → 16 ≤ i.k → IsSomeAnd o (FieldsFit n q i) → ⊥
 scratch_unfit n q i None uses big fits = uses
@@ -30,6 +30,7 @@ jump_unfit n q i (Some _) out fits = out
 divisor_unfit : (n q : ℕ) (i : Insn) (o : Option Operation) → IsSomeAnd o DividesByConstant → i.k ≡ 0 → IsSomeAnd o (FieldsFit n q i) → ⊥
 divisor_unfit n q i None divides zero_k fits = divides
 divisor_unfit n q i (Some (Compute Divide Constant)) divides zero_k fits = omega arith
+divisor_unfit n q i (Some (Compute Modulo Constant)) divides zero_k fits = omega arith
 divisor_unfit n q i (Some _) divides zero_k fits = divides
 
 unknown_unfit : (o : Option Operation) (P : Operation → Type 0) → o ≡ None → IsSomeAnd o P → ⊥
@@ -51,11 +52,13 @@ scratch_no_jump n q i (Some _) uses out = out
 divisor_no_scratch : (o : Option Operation) → IsSomeAnd o DividesByConstant → IsSomeAnd o UsesScratch → ⊥
 divisor_no_scratch None divides uses = divides
 divisor_no_scratch (Some (Compute Divide Constant)) divides uses = uses
+divisor_no_scratch (Some (Compute Modulo Constant)) divides uses = uses
 divisor_no_scratch (Some _) divides uses = divides
 
 divisor_no_jump : (n q : ℕ) (i : Insn) (o : Option Operation) → IsSomeAnd o DividesByConstant → IsSomeAnd o (JumpsOut n q i) → ⊥
 divisor_no_jump n q i None divides out = divides
 divisor_no_jump n q i (Some (Compute Divide Constant)) divides out = out
+divisor_no_jump n q i (Some (Compute Modulo Constant)) divides out = out
 divisor_no_jump n q i (Some _) divides out = divides
 
 -- two faults of one instruction have one rank
@@ -117,7 +120,7 @@ has_at p q i (BadScratch a) here w = (q, (i, here, w))
 has_at p q i (BadJump a) here w = (q, (i, here, w))
 has_at p q i _ here w = absurd w
 
-pub first_at : (p : List Insn) (q : ℕ) (i : Insn) (f : CheckFault) → length p ≤ 512 → slice_get p q ≡ Some i → IsFaultAt (length p) q i f → ((k : ℕ) (j : Insn) → k < q → slice_get p k ≡ Some j → IsFine (length p) k j) → IsFirstFault p f
+pub first_at : (p : List Insn) (q : ℕ) (i : Insn) (f : CheckFault) → length p ≤ most_insns → slice_get p q ≡ Some i → IsFaultAt (length p) q i f → ((k : ℕ) (j : Insn) → k < q → slice_get p k ≡ Some j → IsFine (length p) k j) → IsFirstFault p f
 first_at p q i f short here wrong before = record { has = has_at p q i f here wrong; first = none_earlier }
   where
     inside : q < length p
@@ -133,7 +136,7 @@ first_at p q i f short here wrong before = record { has = has_at p q i f here wr
     none_earlier (BadJump a) h = other_rank p q i f (BadJump a) here wrong before h.0 h.1.0 h.1.1 h.1.2
 
 -- the last fault comes after all others
-pub first_at_end : (p : List Insn) → 0 < length p → length p ≤ 512 → ((k : ℕ) (j : Insn) → slice_get p k ≡ Some j → IsFine (length p) k j) → HasFault p NoReturn → IsFirstFault p NoReturn
+pub first_at_end : (p : List Insn) → 0 < length p → length p ≤ most_insns → ((k : ℕ) (j : Insn) → slice_get p k ≡ Some j → IsFine (length p) k j) → HasFault p NoReturn → IsFirstFault p NoReturn
 first_at_end p some short fine has = record { has = has; first = none_earlier }
   where
     none_earlier : (other : CheckFault) → HasFault p other → rank (length p) NoReturn ≤ rank (length p) other
@@ -148,7 +151,7 @@ first_at_end p some short fine has = record { has = has; first = none_earlier }
 pub first_empty : (p : List Insn) → length p ≡ 0 → IsFirstFault p Empty
 first_empty p none = record { has = none; first = λ g h. omega arith }
 
-pub first_too_long : (p : List Insn) → 512 < length p → IsFirstFault p TooLong
+pub first_too_long : (p : List Insn) → most_insns < length p → IsFirstFault p TooLong
 first_too_long p long = record { has = long; first = none_earlier }
   where
     none_earlier : (other : CheckFault) → HasFault p other → 1 ≤ rank (length p) other

@@ -7,6 +7,7 @@ use Rattle.bpf_check.specs.declared.insn.Insn.{Insn}
 use Rattle.bpf_check.specs.declared.listing.ListingFault.{ListingFault}
 use Rattle.bpf_check.specs.declared.listing.ListingFault.TheVariants.{BadCount, BadLine, OutOfRange, TooLong, Missing, Extra, NoMemory}
 use Rattle.bpf_check.specs.Insn.{InRange}
+use Rattle.bpf_check.specs.Accepted.{most_insns}
 use Rattle.bpf_check.proofs.ListingNumbers.{lt_or_le}
 use Rattle.bpf_check.specs.LineReading.{LineFault, CountFault, NoText, IsFirstText}
 use Rattle.bpf_check.specs.Listing.{words, value, Says, SaysAt, fields, IsListing, IsAnswer, NotFour, FourTooLarge, IsTooLarge, FaultIn, HasFault, NoneBefore}
@@ -29,7 +30,7 @@ one_count ls m n s t = head_same m n (one_said ls 0 (m ∷ []) (n ∷ []) s t)
 pub said_within : (ls : List (List ℕ)) (at : ℕ) (ns : List ℕ) → SaysAt ls at ns → at < length ls
 said_within ls at ns s = slice_get_within ls at s.0 s.1
 
-pub none_counted : (ls : List (List ℕ)) (n : ℕ) → SaysAt ls 0 (n ∷ []) → n ≤ 512 → NoneBefore ls 2
+pub none_counted : (ls : List (List ℕ)) (n : ℕ) → SaysAt ls 0 (n ∷ []) → n ≤ most_insns → NoneBefore ls 2
 none_counted ls n says short BadCount h = absurd (h n says)
 none_counted ls n says short TooLong h = absurd (let e = one_count ls n h.0 says h.1 in omega (arith, h.2))
 none_counted ls n says short Missing h = let w = said_within ls 0 (n ∷ []) says in omega arith
@@ -288,7 +289,7 @@ extra_answer ls rest count more line none counted inside left text e = record { 
     first NoMemory h = absurd h
 
 -- where no line behind the instructions has a word, the text has no fault
-pub memory_answer : (ls rest : List (List ℕ)) (count : ℕ) → NoneBefore ls (count + 2) → SaysAt ls 0 (count ∷ []) → count ≤ 512 → count < length ls → drop (count + 1) ls ≡ rest → NoText rest → IsAnswer ls NoMemory
+pub memory_answer : (ls rest : List (List ℕ)) (count : ℕ) → NoneBefore ls (count + 2) → SaysAt ls 0 (count ∷ []) → count ≤ most_insns → count < length ls → drop (count + 1) ls ≡ rest → NoText rest → IsAnswer ls NoMemory
 memory_answer ls rest count none counted short inside left blank BadCount h = h count counted
 memory_answer ls rest count none counted short inside left blank TooLong h = let c = one_count ls count h.0 counted h.1 in omega (arith, h.2)
 memory_answer ls rest count none counted short inside left blank Missing h = let c = one_count ls count h.0 counted h.1 in omega (arith, h.2)
@@ -300,7 +301,7 @@ memory_answer ls rest count none counted short inside left blank (Extra n) h =
 memory_answer ls rest count none counted short inside left blank NoMemory h = h
 
 -- the instructions of the lines are those of a listing
-pub finished : (ls rest : List (List ℕ)) (count : ℕ) (p : List Insn) → SaysAt ls 0 (count ∷ []) → count ≤ 512 → count ≡ length p
+pub finished : (ls rest : List (List ℕ)) (count : ℕ) (p : List Insn) → SaysAt ls 0 (count ∷ []) → count ≤ most_insns → count ≡ length p
     → ((place : ℕ) (i : Insn) → slice_get p place ≡ Some i → SaysAt ls (place + 1) (fields i) × InRange i) → drop (count + 1) ls ≡ rest → NoText rest → IsListing ls p
 finished ls rest count p counted short long each left blank = record {
   count = subst (λ (n : ℕ). SaysAt ls 0 (n ∷ [])) long counted;

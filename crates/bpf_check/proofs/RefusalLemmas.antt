@@ -7,11 +7,11 @@ use Rattle.bpf_check.specs.declared.insn.Insn.{Insn}
 use Rattle.bpf_check.specs.declared.checked.CheckFault.{CheckFault}
 use Rattle.bpf_check.specs.declared.checked.CheckFault.TheVariants.{Empty, TooLong, UnknownCode, ZeroDivisor, BadScratch, BadJump, NoReturn}
 use Rattle.bpf_check.specs.declared.operation.Operand.TheVariants.{Constant}
-use Rattle.bpf_check.specs.declared.operation.Arithmetic.TheVariants.{Divide}
+use Rattle.bpf_check.specs.declared.operation.Arithmetic.TheVariants.{Divide, Modulo}
 use Rattle.bpf_check.specs.declared.operation.Operation.{Operation}
 use Rattle.bpf_check.specs.declared.operation.Operation.TheVariants.{LoadScratch, IndexScratch, StoreAccumulator, StoreIndex, Compute, Jump, Branch, ReturnConstant, ReturnAccumulator}
 use Rattle.bpf_check.specs.Operation.{operation_of}
-use Rattle.bpf_check.specs.Accepted.{FieldsFit, IsReturn, At, IsAccepted, DividesByConstant, UsesScratch, JumpsOut, IsFaultAt, HasFault, rank, IsFirstFault}
+use Rattle.bpf_check.specs.Accepted.{most_insns, FieldsFit, IsReturn, At, IsAccepted, DividesByConstant, UsesScratch, JumpsOut, IsFaultAt, HasFault, rank, IsFirstFault}
 use Rattle.bpf_check.specs.Refusal.{fault_if, fault_by, fault_at, first_of, fault_from, is_return, fault_of_last, refusal}
 
 -- tests
@@ -49,6 +49,7 @@ either-holds a b c d h = elim (nat_le a b) as (λ t. nat_le a b ≡ t → (t || 
 fit-none : (count place : ℕ) (i : Insn) (op : Option Operation) → IsSomeAnd op (FieldsFit count place i) → fault_by count place i op ≡ None
 fit-none count place i None h = absurd h
 fit-none count place i (Some (Compute Divide Constant)) h = ap (λ t. fault_if t (ZeroDivisor place)) (nonzero i.k h)
+fit-none count place i (Some (Compute Modulo Constant)) h = ap (λ t. fault_if t (ZeroDivisor place)) (nonzero i.k h)
 fit-none count place i (Some LoadScratch) h = ap (λ t. fault_if t (BadScratch place)) (le-false 16 i.k h)
 fit-none count place i (Some IndexScratch) h = ap (λ t. fault_if t (BadScratch place)) (le-false 16 i.k h)
 fit-none count place i (Some StoreAccumulator) h = ap (λ t. fault_if t (BadScratch place)) (le-false 16 i.k h)
@@ -82,6 +83,10 @@ faulty p place i got (Some (Compute Divide Constant)) e =
     let P : Option Operation → Type 0 = λ x. IsSomeAnd x DividesByConstant in
     let h : IsSomeAnd (operation_of i.code) DividesByConstant = subst P (sym e) tt in
     if-faulty (IsFaulty p place) (nat_eq i.k 0) (ZeroDivisor place) (λ t. ((place, (i, got, (refl, h, eq-holds i.k 0 t))), omega arith))
+faulty p place i got (Some (Compute Modulo Constant)) e =
+    let P : Option Operation → Type 0 = λ x. IsSomeAnd x DividesByConstant in
+    let h : IsSomeAnd (operation_of i.code) DividesByConstant = subst P (sym e) tt in
+    if-faulty (IsFaulty p place) (nat_eq i.k 0) (ZeroDivisor place) (λ t. ((place, (i, got, (refl, h, eq-holds i.k 0 t))), omega arith))
 faulty p place i got (Some LoadScratch) e = scratch-faulty p place i got (uses (operation_of i.code) (Some LoadScratch) e tt)
 faulty p place i got (Some IndexScratch) e = scratch-faulty p place i got (uses (operation_of i.code) (Some IndexScratch) e tt)
 faulty p place i got (Some StoreAccumulator) e = scratch-faulty p place i got (uses (operation_of i.code) (Some StoreAccumulator) e tt)
@@ -100,6 +105,7 @@ faulty p place i got (Some _) e = tt
 zero-by : (count place : ℕ) (i : Insn) (op : Option Operation) → IsSomeAnd op DividesByConstant → i.k ≡ 0 → fault_by count place i op ≡ Some (ZeroDivisor place)
 zero-by count place i None h e = absurd h
 zero-by count place i (Some (Compute Divide Constant)) h e = ap (λ k. fault_if (nat_eq k 0) (ZeroDivisor place)) e
+zero-by count place i (Some (Compute Modulo Constant)) h e = ap (λ k. fault_if (nat_eq k 0) (ZeroDivisor place)) e
 zero-by count place i (Some _) h e = absurd h
 
 scratch-by : (count place : ℕ) (i : Insn) (op : Option Operation) → IsSomeAnd op UsesScratch → 16 ≤ i.k → fault_by count place i op ≡ Some (BadScratch place)
@@ -169,10 +175,10 @@ returns-not (Some ReturnAccumulator) h = absurd (h tt)
 returns-not (Some _) h = refl
 
 -- a program of a length that is fine has the faults of its places and of its end
-sized : (p : List Insn) → 0 < length p → length p ≤ 512 → refusal p ≡ first_of (fault_from (length p) 0 p) (fault_of_last (slice_get p (length p - 1)))
+sized : (p : List Insn) → 0 < length p → length p ≤ most_insns → refusal p ≡ first_of (fault_from (length p) 0 p) (fault_of_last (slice_get p (length p - 1)))
 sized p some short =
-    ap (λ t. cond t (Some Empty) (cond (nat_lt 512 (length p)) (Some TooLong) (first_of (fault_from (length p) 0 p) (fault_of_last (slice_get p (length p - 1)))))) (nonzero (length p) some)
-    ∙ ap (λ t. cond t (Some TooLong) (first_of (fault_from (length p) 0 p) (fault_of_last (slice_get p (length p - 1))))) (lt-false 512 (length p) short)
+    ap (λ t. cond t (Some Empty) (cond (nat_lt most_insns (length p)) (Some TooLong) (first_of (fault_from (length p) 0 p) (fault_of_last (slice_get p (length p - 1)))))) (nonzero (length p) some)
+    ∙ ap (λ t. cond t (Some TooLong) (first_of (fault_from (length p) 0 p) (fault_of_last (slice_get p (length p - 1))))) (lt-false most_insns (length p) short)
 
 pub accepted-none : (p : List Insn) → IsAccepted p → refusal p ≡ None
 accepted-none p h =
@@ -201,8 +207,8 @@ not-empty : (p : List Insn) (fault : CheckFault) → IsFirstFault p fault → 0 
 not-empty [] fault h less = absurd (omega (arith, h.first Empty refl))
 not-empty (i ∷ is) fault h less = omega arith
 
-not-long : (p : List Insn) (fault : CheckFault) → IsFirstFault p fault → 1 < rank (length p) fault → length p ≤ 512
-not-long p fault h less = elim (cases_lt 512 (length p)) [
+not-long : (p : List Insn) (fault : CheckFault) → IsFirstFault p fault → 1 < rank (length p) fault → length p ≤ most_insns
+not-long p fault h less = elim (cases_lt most_insns (length p)) [
   | inl long ↦ absurd (omega (arith, h.first TooLong long))
   | inr short ↦ short
 ]
@@ -218,10 +224,10 @@ first-placed p fault at h here late =
 
 -- the first fault of a program is what the function gives
 pub first-some : (p : List Insn) (fault : CheckFault) → IsFirstFault p fault → refusal p ≡ Some fault
-first-some p Empty h = ap (λ t. cond t (Some Empty) (cond (nat_lt 512 (length p)) (Some TooLong) (first_of (fault_from (length p) 0 p) (fault_of_last (slice_get p (length p - 1)))))) (zero-true (length p) h.has)
+first-some p Empty h = ap (λ t. cond t (Some Empty) (cond (nat_lt most_insns (length p)) (Some TooLong) (first_of (fault_from (length p) 0 p) (fault_of_last (slice_get p (length p - 1)))))) (zero-true (length p) h.has)
 first-some p TooLong h =
-    ap (λ t. cond t (Some Empty) (cond (nat_lt 512 (length p)) (Some TooLong) (first_of (fault_from (length p) 0 p) (fault_of_last (slice_get p (length p - 1)))))) (nonzero (length p) (omega (arith, h.has)))
-    ∙ ap (λ t. cond t (Some TooLong) (first_of (fault_from (length p) 0 p) (fault_of_last (slice_get p (length p - 1))))) (lt-true 512 (length p) h.has)
+    ap (λ t. cond t (Some Empty) (cond (nat_lt most_insns (length p)) (Some TooLong) (first_of (fault_from (length p) 0 p) (fault_of_last (slice_get p (length p - 1)))))) (nonzero (length p) (omega (arith, h.has)))
+    ∙ ap (λ t. cond t (Some TooLong) (first_of (fault_from (length p) 0 p) (fault_of_last (slice_get p (length p - 1))))) (lt-true most_insns (length p) h.has)
 first-some p NoReturn h =
     let last = h.has in
     sized p (not-empty p NoReturn h (omega arith)) (not-long p NoReturn h (omega arith))

@@ -1,14 +1,18 @@
 -- The programs that are accepted, and the faults of the others.
 -- Places are counted from 0. A jump at a place goes on at that place, plus 1, plus its distance.
-use Rattle.std.specs.Prelude.{◌≡◌, ℕ, ◌+◌, ◌*◌, ◌-◌, ◌<◌, ◌≤◌, ◌⊎◌, List, length, Some, None, slice_get, IsSomeAnd}
+use Rattle.std.specs.Prelude.{◌≡◌, ℕ, ◌+◌, ◌*◌, ◌-◌, ◌<◌, ◌≤◌, ◌⊎◌, List, length, Option, Some, None, slice_get, IsSomeAnd}
 use Rattle.bpf_check.specs.declared.insn.Insn.{Insn}
 use Rattle.bpf_check.specs.declared.checked.CheckFault.{CheckFault}
 use Rattle.bpf_check.specs.declared.checked.CheckFault.TheVariants.{Empty, TooLong, UnknownCode, ZeroDivisor, BadScratch, BadJump, NoReturn}
 use Rattle.bpf_check.specs.declared.operation.Operand.TheVariants.{Constant}
-use Rattle.bpf_check.specs.declared.operation.Arithmetic.TheVariants.{Divide}
+use Rattle.bpf_check.specs.declared.operation.Arithmetic.TheVariants.{Divide, Modulo}
 use Rattle.bpf_check.specs.declared.operation.Operation.{Operation}
 use Rattle.bpf_check.specs.declared.operation.Operation.TheVariants.{LoadScratch, IndexScratch, StoreAccumulator, StoreIndex, Compute, Jump, Branch, ReturnConstant, ReturnAccumulator}
 use Rattle.bpf_check.specs.Operation.{operation_of}
+
+-- the most instructions of a program
+abbrev pub most_insns : ℕ
+most_insns = 4096
 
 -- what an operation asks of its instruction's fields, at a place of a program of so many instructions
 abbrev pub FieldsFit : ℕ → ℕ → Insn → Operation → Type 0
@@ -17,6 +21,7 @@ FieldsFit count place i IndexScratch = i.k < 16
 FieldsFit count place i StoreAccumulator = i.k < 16
 FieldsFit count place i StoreIndex = i.k < 16
 FieldsFit count place i (Compute Divide Constant) = 0 < i.k
+FieldsFit count place i (Compute Modulo Constant) = 0 < i.k
 FieldsFit count place i Jump = place + 1 + i.k < count
 FieldsFit count place i (Branch test side) = (place + 1 + i.jt < count) × (place + 1 + i.jf < count)
 FieldsFit count place i _ = Unit {0}
@@ -42,7 +47,7 @@ EndsWithReturn p = At p (length p - 1) (λ i. IsSomeAnd (operation_of i.code) Is
 -- the program is accepted
 pub record IsAccepted (p : List Insn) : Type 0 where
   pub some : 0 < length p
-  pub short : length p ≤ 512
+  pub short : length p ≤ most_insns
   pub each : (place : ℕ) (i : Insn) → slice_get p place ≡ Some i → IsFine (length p) place i
   pub ends : EndsWithReturn p
 
@@ -54,9 +59,10 @@ UsesScratch StoreAccumulator = Unit {0}
 UsesScratch StoreIndex = Unit {0}
 UsesScratch _ = ⊥
 
--- the operation divides by its instruction's constant
+-- the operation divides by its instruction's constant, for the quotient or the remainder
 abbrev pub DividesByConstant : Operation → Type 0
 DividesByConstant (Compute Divide Constant) = Unit {0}
+DividesByConstant (Compute Modulo Constant) = Unit {0}
 DividesByConstant _ = ⊥
 
 -- a target of the jump is not inside
@@ -78,7 +84,7 @@ IsFaultAt count place i NoReturn = ⊥
 -- the program has this fault
 abbrev pub HasFault : List Insn → CheckFault → Type 0
 HasFault p Empty = length p ≡ 0
-HasFault p TooLong = 512 < length p
+HasFault p TooLong = most_insns < length p
 HasFault p NoReturn = At p (length p - 1) (λ i. IsSomeAnd (operation_of i.code) IsReturn → ⊥)
 HasFault p fault = (place : ℕ) × At p place (λ i. IsFaultAt (length p) place i fault)
 
@@ -96,3 +102,21 @@ rank count NoReturn = 4 * count + 2
 pub record IsFirstFault (p : List Insn) (fault : CheckFault) : Type 0 where
   pub has : HasFault p fault
   pub first : (other : CheckFault) → HasFault p other → rank (length p) fault ≤ rank (length p) other
+
+-- the number of a fault
+abbrev pub fault_number : CheckFault → ℕ
+fault_number Empty = 1
+fault_number TooLong = 2
+fault_number (UnknownCode place) = 3
+fault_number (ZeroDivisor place) = 4
+fault_number (BadScratch place) = 5
+fault_number (BadJump place) = 6
+fault_number NoReturn = 7
+
+-- the place of a fault
+abbrev pub fault_place : CheckFault → Option ℕ
+fault_place (UnknownCode place) = Some place
+fault_place (ZeroDivisor place) = Some place
+fault_place (BadScratch place) = Some place
+fault_place (BadJump place) = Some place
+fault_place fault = None

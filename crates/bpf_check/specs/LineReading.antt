@@ -2,6 +2,7 @@
 use Rattle.std.specs.Prelude.{◌≡◌, ◌≢◌, ℕ, ◌-◌, ◌<◌, ◌^◌, List, [], ◌∷◌, min, Some, Bool, true, false, not, slice_get, ◌==◌}
 use Rattle.bpf_check.specs.declared.listing.ListingFault.{ListingFault}
 use Rattle.bpf_check.specs.declared.listing.ListingFault.TheVariants.{BadCount, BadLine, OutOfRange, TooLong}
+use Rattle.bpf_check.specs.Accepted.{most_insns}
 use Rattle.bpf_check.specs.Listing.{is_blank, is_numeral, value, words, Says, NotFour, FourTooLarge}
 
 -- ends a line
@@ -59,7 +60,7 @@ LineFault line at _ = ⊥
 -- the fault of the first line by itself
 abbrev pub CountFault : List ℕ → ListingFault → Type 0
 CountFault line BadCount = NotOne line
-CountFault line TooLong = (n : ℕ) × Says line (n ∷ []) × (512 < n)
+CountFault line TooLong = (n : ℕ) × Says line (n ∷ []) × (most_insns < n)
 CountFault line _ = ⊥
 
 -- the line at a place has a word, and none of the lines before it has one

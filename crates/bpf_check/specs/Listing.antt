@@ -5,6 +5,7 @@ use Rattle.std.specs.List.{slice_split, filter, list_all}
 use Rattle.std.specs.Char.{is_ascii_digit}
 use Rattle.bpf_check.specs.declared.insn.Insn.{Insn}
 use Rattle.bpf_check.specs.Insn.{InRange}
+use Rattle.bpf_check.specs.Accepted.{most_insns}
 use Rattle.bpf_check.specs.declared.listing.ListingFault.{ListingFault}
 use Rattle.bpf_check.specs.declared.listing.ListingFault.TheVariants.{BadCount, BadLine, OutOfRange, TooLong, Missing, Extra, NoMemory}
 
@@ -49,7 +50,7 @@ fields i = i.code ∷ i.jt ∷ i.jf ∷ i.k ∷ []
 -- the lines are a listing of the program
 pub record IsListing (ls : List (List ℕ)) (p : List Insn) : Type 0 where
   pub count : SaysAt ls 0 (length p ∷ [])
-  pub short : length p ≤ 512
+  pub short : length p ≤ most_insns
   pub each : (place : ℕ) (i : Insn) → slice_get p place ≡ Some i → SaysAt ls (place + 1) (fields i) × InRange i
   pub rest : (at : ℕ) (l : List ℕ) → length p < at → slice_get ls at ≡ Some l → words l ≡ []
 
@@ -78,7 +79,7 @@ pub record FaultIn (ls : List (List ℕ)) (line : ℕ) (P : List ℕ → Type 0)
 -- the faults of a text, each by itself
 abbrev pub HasFault : List (List ℕ) → ListingFault → Type 0
 HasFault ls BadCount = (n : ℕ) → SaysAt ls 0 (n ∷ []) → ⊥
-HasFault ls TooLong = (n : ℕ) × SaysAt ls 0 (n ∷ []) × (512 < n)
+HasFault ls TooLong = (n : ℕ) × SaysAt ls 0 (n ∷ []) × (most_insns < n)
 HasFault ls Missing = (n : ℕ) × SaysAt ls 0 (n ∷ []) × (length ls ≤ n)
 HasFault ls (BadLine line) = FaultIn ls line NotFour
 HasFault ls (OutOfRange line) = FaultIn ls line FourTooLarge

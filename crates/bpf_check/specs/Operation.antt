@@ -2,7 +2,7 @@
 use Rattle.std.specs.Prelude.{ℕ, List, [], ◌∷◌, Option, Some, None, ◌==◌, if◌then◌else◌}
 use Rattle.bpf_check.specs.declared.operation.Width.TheVariants.{Word, Half, Byte}
 use Rattle.bpf_check.specs.declared.operation.Operand.TheVariants.{Constant, Index}
-use Rattle.bpf_check.specs.declared.operation.Arithmetic.TheVariants.{Add, Subtract, Multiply, Divide, Or, And, ShiftLeft, ShiftRight}
+use Rattle.bpf_check.specs.declared.operation.Arithmetic.TheVariants.{Add, Subtract, Multiply, Divide, Or, And, ShiftLeft, ShiftRight, Modulo, ExclusiveOr}
 use Rattle.bpf_check.specs.declared.operation.Comparison.TheVariants.{Equal, AtLeast, Above, SharesBit}
 use Rattle.bpf_check.specs.declared.operation.Operation.{Operation}
 use Rattle.bpf_check.specs.declared.operation.Operation.TheVariants.{LoadAbsolute, LoadIndirect, LoadConstant, LoadScratch, LoadLength, IndexConstant, IndexScratch, IndexLength, IndexHeader, StoreAccumulator, StoreIndex, Compute, Negate, Jump, Branch, ReturnConstant, ReturnAccumulator, ToIndex, ToAccumulator}
@@ -29,7 +29,9 @@ table =
     ∷ (0x1d, Branch Equal Index) ∷ (0x3d, Branch AtLeast Index)
     ∷ (0x2d, Branch Above Index) ∷ (0x4d, Branch SharesBit Index)
     ∷ (0x06, ReturnConstant) ∷ (0x16, ReturnAccumulator)
-    ∷ (0x07, ToIndex) ∷ (0x87, ToAccumulator) ∷ []
+    ∷ (0x07, ToIndex) ∷ (0x87, ToAccumulator)
+    ∷ (0x94, Compute Modulo Constant) ∷ (0x9c, Compute Modulo Index)
+    ∷ (0xa4, Compute ExclusiveOr Constant) ∷ (0xac, Compute ExclusiveOr Index) ∷ []
 
 -- the operation in the first row that has the code
 abbrev pub in_rows : List (ℕ × Operation) → ℕ → Option Operation

@@ -5,10 +5,11 @@ use Rattle.bpf_check.specs.declared.insn.Insn.{Insn}
 use Rattle.bpf_check.specs.declared.checked.CheckFault.{CheckFault}
 use Rattle.bpf_check.specs.declared.checked.CheckFault.TheVariants.{Empty, TooLong, UnknownCode, ZeroDivisor, BadScratch, BadJump, NoReturn}
 use Rattle.bpf_check.specs.declared.operation.Operand.TheVariants.{Constant}
-use Rattle.bpf_check.specs.declared.operation.Arithmetic.TheVariants.{Divide}
+use Rattle.bpf_check.specs.declared.operation.Arithmetic.TheVariants.{Divide, Modulo}
 use Rattle.bpf_check.specs.declared.operation.Operation.{Operation}
 use Rattle.bpf_check.specs.declared.operation.Operation.TheVariants.{LoadScratch, IndexScratch, StoreAccumulator, StoreIndex, Compute, Jump, Branch, ReturnConstant, ReturnAccumulator}
 use Rattle.bpf_check.specs.Operation.{operation_of}
+use Rattle.bpf_check.specs.Accepted.{most_insns}
 
 -- a fault, where the test holds
 abbrev pub fault_if : Bool → CheckFault → Option CheckFault
@@ -18,6 +19,7 @@ fault_if test fault = if test then Some fault else None
 abbrev pub fault_by : ℕ → ℕ → Insn → Option Operation → Option CheckFault
 fault_by count place i None = Some (UnknownCode place)
 fault_by count place i (Some (Compute Divide Constant)) = fault_if (i.k == 0) (ZeroDivisor place)
+fault_by count place i (Some (Compute Modulo Constant)) = fault_if (i.k == 0) (ZeroDivisor place)
 fault_by count place i (Some LoadScratch) = fault_if (nat_le 16 i.k) (BadScratch place)
 fault_by count place i (Some IndexScratch) = fault_if (nat_le 16 i.k) (BadScratch place)
 fault_by count place i (Some StoreAccumulator) = fault_if (nat_le 16 i.k) (BadScratch place)
@@ -55,5 +57,5 @@ fault_of_last (Some i) = if is_return (operation_of i.code) then None else Some 
 abbrev pub refusal : List Insn → Option CheckFault
 refusal p =
     if length p == 0 then Some Empty
-    else if nat_lt 512 (length p) then Some TooLong
+    else if nat_lt most_insns (length p) then Some TooLong
     else first_of (fault_from (length p) 0 p) (fault_of_last (slice_get p (length p - 1)))

@@ -1,7 +1,7 @@
 //! The checker, and the programs that it accepts.
 
 ghost use Rattle.std.specs.Prelude.{◌≡◌, ◌==◌, ◌<◌, ◌≤◌, ◌↔◌, length, IsOk, IfOk, IfErr, IfSome, IfNone, IsTrue, IsSomeAnd, MatchResult, Some, None, false};
-ghost use Rattle.bpf_check.specs.Accepted.{IsFine, IsAccepted, IsFaultAt, IsFirstFault, IsReturn};
+ghost use Rattle.bpf_check.specs.Accepted.{most_insns, IsFine, IsAccepted, IsFaultAt, IsFirstFault, IsReturn, fault_number, fault_place};
 ghost use Rattle.bpf_check.specs.Insn.{InRange, AreInRange};
 ghost use Rattle.bpf_check.specs.Operation.{operation_of};
 ghost use Rattle.bpf_check.specs.Refusal.{refusal};
@@ -12,7 +12,7 @@ use std::marker::Model;
 use thiserror::Error;
 
 /// The most instructions of a program.
-pub const MOST_INSNS: usize = 512;
+pub const MOST_INSNS: usize = 4_096;
 
 /// The words of scratch memory.
 pub const SCRATCH_WORDS: u32 = 16;
@@ -23,13 +23,13 @@ pub enum CheckFault {
     /// There is no instruction.
     #[error("the program is empty")]
     Empty,
-    /// There are more than 512 instructions.
-    #[error("the program has more than 512 instructions")]
+    /// There are more than 4,096 instructions.
+    #[error("the program has more than 4,096 instructions")]
     TooLong,
     /// No operation has this code.
     #[error("place {0}: the code is unknown")]
     UnknownCode(usize),
-    /// A division by the constant 0.
+    /// A division by the constant 0, for the quotient or the remainder.
     #[error("place {0}: division by 0")]
     ZeroDivisor(usize),
     /// A scratch word of 16 or more.
@@ -41,6 +41,36 @@ pub enum CheckFault {
     /// The last instruction is not a return.
     #[error("the last instruction is not a return")]
     NoReturn,
+}
+
+impl CheckFault {
+    /// The number that the fault has in the program's answers.
+    pub fn number(&self) -> u8
+        ensures { result ≡ fault_number self.now }
+    {
+        match self {
+            CheckFault::Empty => 1,
+            CheckFault::TooLong => 2,
+            CheckFault::UnknownCode(_) => 3,
+            CheckFault::ZeroDivisor(_) => 4,
+            CheckFault::BadScratch(_) => 5,
+            CheckFault::BadJump(_) => 6,
+            CheckFault::NoReturn => 7,
+        }
+    }
+
+    /// The place of the fault, from 0, where it lies at one.
+    pub fn place(&self) -> Option<usize>
+        ensures { result ≡ fault_place self.now }
+    {
+        match self {
+            CheckFault::UnknownCode(place)
+            | CheckFault::ZeroDivisor(place)
+            | CheckFault::BadScratch(place)
+            | CheckFault::BadJump(place) => Some(*place),
+            _ => None,
+        }
+    }
 }
 
 /// A program that the checker accepted. Contracts see the list of its instructions.
@@ -91,7 +121,7 @@ impl Eq for Checked {
 
 /// Accepts a program, or says its first fault and hands it back.
 ///
-/// Accepted are 1 to 512 instructions of known codes, none of which divides by the constant 0 or
+/// Accepted are 1 to 4,096 instructions of known codes, none of which divides by the constant 0 or
 /// names a scratch word above 15, whose jumps stay inside, and of which the last is a return.
 /// The faults come in the order `Empty`, `TooLong`, then by place and at one place in the order of
 /// the variants, then `NoReturn`.
@@ -120,10 +150,10 @@ impl Checked {
         &self.insns
     }
 
-    /// How many instructions there are, 1 to 512.
+    /// How many instructions there are, 1 to 4,096.
     pub fn len(&self) -> usize
         ensures value { result ≡ length self.now }
-        ensures within { (0 < result) × (result ≤ 512) }
+        ensures within { (0 < result) × (result ≤ most_insns) }
     {
         self.insns.len()
     }
@@ -174,7 +204,7 @@ fn is_return(code: u16) -> bool
 // The fault of one instruction, if it has one.
 fn fault_in(insn: &Insn, place: usize, count: usize) -> Option<CheckFault>
     requires inside { place < count }
-    requires short { count ≤ MOST_INSNS }
+    requires short { count ≤ most_insns }
     ensures none { IfNone result (IsFine count place insn.now) }
     ensures range { InRange insn.now }
     ensures some { IfSome result (λ fault. IsFaultAt count place insn.now fault) }
@@ -186,9 +216,8 @@ fn fault_in(insn: &Insn, place: usize, count: usize) -> Option<CheckFault>
     let after = place as u64 + 1;
     let count = count as u64;
     match operation {
-        Operation::Compute(Arithmetic::Divide, Operand::Constant) if insn.k == 0 => {
-            Some(CheckFault::ZeroDivisor(place))
-        }
+        Operation::Compute(Arithmetic::Divide | Arithmetic::Modulo, Operand::Constant)
+            if insn.k == 0 => { Some(CheckFault::ZeroDivisor(place)) }
         Operation::LoadScratch
         | Operation::IndexScratch
         | Operation::StoreAccumulator

@@ -6,6 +6,7 @@ ghost use Rattle.std.specs.Prelude.{◌≡◌, ℕ, ◌+◌, ◌<◌, ◌≤◌,
 ghost use Rattle.std.specs.List.{position};
 ghost use Rattle.std.specs.Str.Lines.{lines, strip_carriage_return};
 ghost use Rattle.bpf_check.specs.declared.insn.Insn.{Insn};
+ghost use Rattle.bpf_check.specs.Accepted.{most_insns};
 ghost use Rattle.bpf_check.specs.Insn.{InRange};
 ghost use Rattle.bpf_check.specs.LineReading.{is_line_feed, is_text, capped, NoNumber, Begins, NotOne, IsOne, AreFour, LineFault, CountFault, NoText, IsFirstText};
 ghost use Rattle.bpf_check.specs.Listing.{is_blank, words, is_numeral, Says, fields, NotFour, IsListing, IsAnswer, IsTooLarge, fault_number, fault_line};
@@ -28,7 +29,7 @@ pub enum ListingFault {
     #[error("line {0}: a number is above its field")]
     OutOfRange(usize),
     /// The count is above the limit of a program.
-    #[error("more than 512 instructions")]
+    #[error("more than 4,096 instructions")]
     TooLong,
     /// There are fewer lines than the count says.
     #[error("there are fewer instructions than the first line says")]
@@ -202,7 +203,7 @@ fn four_numbers(line: &[u8]) -> Option<(u64, u64, u64, u64)>
 
 // How many instructions the first line says.
 fn count_of(line: &[u8]) -> Result<usize, ListingFault>
-    ensures { MatchResult result (λ n. Says line.now (n ∷ []) × (n ≤ 512)) (λ fault. CountFault line.now fault) }
+    ensures { MatchResult result (λ n. Says line.now (n ∷ []) × (n ≤ most_insns)) (λ fault. CountFault line.now fault) }
 {
     let Some(count) = only_number(line) else {
         return Err(ListingFault::BadCount);

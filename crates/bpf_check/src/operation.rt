@@ -34,6 +34,9 @@ pub enum Arithmetic {
     And,
     ShiftLeft,
     ShiftRight,
+    /// The remainder of a division.
+    Modulo,
+    ExclusiveOr,
 }
 
 /// The test of a conditional jump.
@@ -141,6 +144,10 @@ pub fn decode(code: u16) -> Option<Operation>
         0x16 => Some(Operation::ReturnAccumulator),
         0x07 => Some(Operation::ToIndex),
         0x87 => Some(Operation::ToAccumulator),
+        0x94 => Some(Operation::Compute(Arithmetic::Modulo, Operand::Constant)),
+        0x9c => Some(Operation::Compute(Arithmetic::Modulo, Operand::Index)),
+        0xa4 => Some(Operation::Compute(Arithmetic::ExclusiveOr, Operand::Constant)),
+        0xac => Some(Operation::Compute(Arithmetic::ExclusiveOr, Operand::Index)),
         _ => None,
     }
 }

@@ -2,3 +2,4 @@ pub mod Chains
 pub mod Accepts
 pub mod EachEnds
 pub mod Given
+pub mod Kept

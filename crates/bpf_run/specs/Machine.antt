@@ -1,13 +1,13 @@
 -- One instruction: what it leads to, from a state of the machine and a packet.
 -- All words have 32 bits, and comparisons are unsigned.
-use Rattle.std.specs.Prelude.{ℕ, ◌+◌, ◌-◌, ◌*◌, ◌/◌, ◌%◌, ◌^◌, Bool, not, List, length, Option, Some, None, ◌==◌, nat_lt, nat_le, if◌then◌else◌, slice_get, slice_index, slice_set, bit_and, bit_or}
+use Rattle.std.specs.Prelude.{ℕ, ◌+◌, ◌-◌, ◌*◌, ◌/◌, ◌%◌, ◌^◌, Bool, not, List, length, Option, Some, None, ◌==◌, nat_lt, nat_le, if◌then◌else◌, slice_get, slice_index, slice_set, bit_and, bit_or, bit_xor}
 use Rattle.bpf_check.specs.declared.insn.Insn.{Insn}
 use Rattle.bpf_check.specs.declared.operation.Width.{Width}
 use Rattle.bpf_check.specs.declared.operation.Width.TheVariants.{Word, Half, Byte}
 use Rattle.bpf_check.specs.declared.operation.Operand.{Operand}
 use Rattle.bpf_check.specs.declared.operation.Operand.TheVariants.{Constant, Index}
 use Rattle.bpf_check.specs.declared.operation.Arithmetic.{Arithmetic}
-use Rattle.bpf_check.specs.declared.operation.Arithmetic.TheVariants.{Add, Subtract, Multiply, Divide, Or, And, ShiftLeft, ShiftRight}
+use Rattle.bpf_check.specs.declared.operation.Arithmetic.TheVariants.{Add, Subtract, Multiply, Divide, Or, And, ShiftLeft, ShiftRight, Modulo, ExclusiveOr}
 use Rattle.bpf_check.specs.declared.operation.Comparison.{Comparison}
 use Rattle.bpf_check.specs.declared.operation.Comparison.TheVariants.{Equal, AtLeast, Above, SharesBit}
 use Rattle.bpf_check.specs.declared.operation.Operation.{Operation}
@@ -33,8 +33,10 @@ computed Add a b = (a + b) % 2 ^ 32
 computed Subtract a b = (a + (2 ^ 32 - b)) % 2 ^ 32
 computed Multiply a b = (a * b) % 2 ^ 32
 computed Divide a b = a / b
+computed Modulo a b = a % b
 computed Or a b = bit_or a b
 computed And a b = bit_and a b
+computed ExclusiveOr a b = bit_xor a b
 computed ShiftLeft a b = if nat_lt b 32 then (a * 2 ^ b) % 2 ^ 32 else 0
 computed ShiftRight a b = if nat_lt b 32 then a / 2 ^ b else 0
 
@@ -84,6 +86,8 @@ row StoreAccumulator i packet m = in_scratch i.k (Next (record m { scratch = sli
 row StoreIndex i packet m = in_scratch i.k (Next (record m { scratch = slice_set m.scratch i.k m.x }))
 row (Compute Divide Constant) i packet m = if i.k == 0 then None else Some (Next (record m { a = m.a / i.k }))
 row (Compute Divide Index) i packet m = Some (if m.x == 0 then End 0 else Next (record m { a = m.a / m.x }))
+row (Compute Modulo Constant) i packet m = if i.k == 0 then None else Some (Next (record m { a = m.a % i.k }))
+row (Compute Modulo Index) i packet m = Some (if m.x == 0 then End 0 else Next (record m { a = m.a % m.x }))
 row (Compute arithmetic side) i packet m = Some (Next (record m { a = computed arithmetic m.a (right_side side i m) }))
 row Negate i packet m = Some (Next (record m { a = (2 ^ 32 - m.a) % 2 ^ 32 }))
 row Jump i packet m = Some (Skip i.k)

@@ -19,8 +19,8 @@ pub struct Verdict {
 
 /// Runs an accepted program on a packet. It ends within as many steps as it has instructions.
 ///
-/// A load of which an octet is outside the packet, and a division by an index register of 0, end
-/// the run with the value 0.
+/// A load of which an octet is outside the packet, and a division or remainder by an index
+/// register of 0, end the run with the value 0.
 pub fn judge(program: &Checked, packet: &Packet<'_>) -> Verdict
     ensures gives { Gives program.now packet.now result.value result.steps }
     ensures within { result.steps ≤ length program.now }
@@ -31,18 +31,22 @@ pub fn judge(program: &Checked, packet: &Packet<'_>) -> Verdict
     let insns = program.insns();
     let mut machine = Machine::new();
     let mut place = 0;
-    let mut steps = 0;
+    // The instructions before this place that jumps went over. The others were executed, so that
+    // only jumps have to count.
+    let mut skipped = 0;
     'run: loop {
         match execute(&insns[place], &mut machine, packet) {
             Outcome::Next => place += 1,
-            Outcome::Skip(distance) => place += 1 + distance,
+            Outcome::Skip(distance) => {
+                place += 1 + distance;
+                skipped += distance;
+            }
             Outcome::End(value) => {
                 return Verdict {
                     value,
-                    steps: steps + 1,
+                    steps: (place + 1 - skipped) as u16,
                 };
             }
         }
-        steps += 1;
     }
 }

@@ -105,7 +105,8 @@ fn perform(operation: Operation, insn: &Insn, machine: &mut Machine, packet: &Pa
         Operation::Compute(arithmetic, Operand::Constant) => {
             machine.a = compute(arithmetic, machine.a, insn.k);
         }
-        Operation::Compute(Arithmetic::Divide, Operand::Index) if machine.x == 0 => {
+        Operation::Compute(Arithmetic::Divide | Arithmetic::Modulo, Operand::Index)
+            if machine.x == 0 => {
             return Outcome::End(0);
         }
         Operation::Compute(arithmetic, Operand::Index) => {
@@ -155,7 +156,8 @@ fn load(packet: &Packet<'_>, place: u64, width: Width) -> Option<u32>
 // The two words computed.
 #[inline(always)]
 fn compute(arithmetic: Arithmetic, a: u32, b: u32) -> u32
-    requires { arithmetic ≡ Arithmetic.Divide → 0 < b }
+    requires divide { arithmetic ≡ Arithmetic.Divide → 0 < b }
+    requires modulo { arithmetic ≡ Arithmetic.Modulo → 0 < b }
     ensures { result ≡ computed arithmetic a b }
 {
     match arithmetic {
@@ -163,8 +165,10 @@ fn compute(arithmetic: Arithmetic, a: u32, b: u32) -> u32
         Arithmetic::Subtract => a.wrapping_sub(b),
         Arithmetic::Multiply => a.wrapping_mul(b),
         Arithmetic::Divide => a / b,
+        Arithmetic::Modulo => a % b,
         Arithmetic::Or => a | b,
         Arithmetic::And => a & b,
+        Arithmetic::ExclusiveOr => a ^ b,
         Arithmetic::ShiftLeft => a.checked_shl(b).unwrap_or(0),
         Arithmetic::ShiftRight => a.checked_shr(b).unwrap_or(0),
     }

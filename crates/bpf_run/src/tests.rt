@@ -64,12 +64,37 @@ fn verdicts(rt: HostRuntime) -> Result<(), Fail> {
     assert_eq!(rt; verdict(&rt, &queries, &QUERY)?, (65_535, 3));
     assert_eq!(rt; verdict(&rt, &queries, &MISS)?, (0, 3));
     // each program with its verdict on the query
-    let programs: [(&[Insn], (u32, u16)); 9] = [
+    let programs: [(&[Insn], (u32, u16)); 12] = [
         // ldb [61], the last octet; ldh [61] has one octet outside
         (&[insn(0x30, 0, 0, 61), RETURN_A], (0, 2)),
         (&[insn(0x28, 0, 0, 61), RETURN_A], (0, 1)),
         // ldx #0; div x
         (&[insn(1, 0, 0, 0), insn(0x3c, 0, 0, 0), RETURN_A], (0, 2)),
+        // ld #17; mod #5; xor #7
+        (
+            &[
+                insn(0, 0, 0, 17),
+                insn(148, 0, 0, 5),
+                insn(164, 0, 0, 7),
+                RETURN_A,
+            ],
+            (5, 4),
+        ),
+        // ldx #0; mod x
+        (
+            &[insn(1, 0, 0, 0), insn(156, 0, 0, 0), insn(6, 0, 0, 1)],
+            (0, 2),
+        ),
+        // ld #12; ldx #10; xor x
+        (
+            &[
+                insn(0, 0, 0, 12),
+                insn(1, 0, 0, 10),
+                insn(172, 0, 0, 0),
+                RETURN_A,
+            ],
+            (6, 4),
+        ),
         // ldx #0xffffffff; ldb [x+1]
         (
             &[
@@ -102,9 +127,9 @@ fn verdicts(rt: HostRuntime) -> Result<(), Fail> {
 fn refusals(rt: HostRuntime) -> Result<(), Fail> {
     let programs: [(&[Insn], CheckFault); 6] = [
         (&[], CheckFault::Empty),
-        (&[insn(6, 0, 0, 1); 513], CheckFault::TooLong),
-        // div #0
+        // div #0, mod #0
         (&[insn(0x34, 0, 0, 0), RETURN_A], CheckFault::ZeroDivisor(0)),
+        (&[insn(0x94, 0, 0, 0), RETURN_A], CheckFault::ZeroDivisor(0)),
         // ja with a distance that would wrap
         (
             &[insn(5, 0, 0, 0xffff_ffff), insn(6, 0, 0, 0)],
@@ -121,6 +146,30 @@ fn refusals(rt: HostRuntime) -> Result<(), Fail> {
     for (insns, want) in programs {
         assert_eq!(rt; fault(&rt, insns)?, Some(want));
     }
-    assert_eq!(rt; fault(&rt, &[insn(6, 0, 0, 1); 512])?, None);
+    Ok(())
+}
+
+// So many loads of a constant less one, and a return of 1.
+fn of_length(rt: &HostRuntime, count: usize) -> Result<Vec<Insn>, Fail> {
+    let mut insns = Vec::new(rt.alloc());
+    for _ in 1..count {
+        insns.push(insn(0, 0, 0, 0))?;
+    }
+    insns.push(insn(6, 0, 0, 1))?;
+    Ok(insns)
+}
+
+#[test]
+fn lengths(rt: HostRuntime) -> Result<(), Fail> {
+    for (count, want) in [
+        (1, None),
+        (513, None),
+        (4096, None),
+        (4097, Some(CheckFault::TooLong)),
+    ] {
+        assert_eq!(rt; fault(&rt, of_length(&rt, count)?.as_slice())?, want);
+    }
+    let longest = of_length(&rt, 4096)?;
+    assert_eq!(rt; verdict(&rt, longest.as_slice(), &QUERY)?, (1, 4096));
     Ok(())
 }

@@ -38,7 +38,13 @@ impl fmt::Display for ProgramFault {
                 write!(f, "assembler fault {}", fault.number())?;
                 write_line(f, fault.line())
             }
-            ProgramFault::Check(fault) => write_check(f, *fault),
+            ProgramFault::Check(fault) => {
+                write!(f, "check fault {}", fault.number())?;
+                match fault.place() {
+                    Some(place) => write!(f, " place {place}"),
+                    None => Ok(()),
+                }
+            }
         }
     }
 }
@@ -47,17 +53,5 @@ fn write_line<W: fmt::Write>(f: &mut fmt::Formatter<W>, line: Option<usize>) -> 
     match line {
         Some(line) => write!(f, " line {line}"),
         None => Ok(()),
-    }
-}
-
-fn write_check<W: fmt::Write>(f: &mut fmt::Formatter<W>, fault: CheckFault) -> fmt::Result {
-    match fault {
-        CheckFault::Empty => write!(f, "check fault 1"),
-        CheckFault::TooLong => write!(f, "check fault 2"),
-        CheckFault::UnknownCode(place) => write!(f, "check fault 3 place {place}"),
-        CheckFault::ZeroDivisor(place) => write!(f, "check fault 4 place {place}"),
-        CheckFault::BadScratch(place) => write!(f, "check fault 5 place {place}"),
-        CheckFault::BadJump(place) => write!(f, "check fault 6 place {place}"),
-        CheckFault::NoReturn => write!(f, "check fault 7"),
     }
 }

@@ -1,6 +1,6 @@
 -- Signatures (RFC 2756, with this project's choice of what they cover): when one is good, and the one that is made.
 -- Ends are 12 octets: address and port of the sender, then of the receiver. Times are seconds since 1970 UTC.
-use Rattle.std.specs.Prelude.{◌≡◌, ℕ, ◌+◌, ◌<◌, ◌≤◌, min, Bool, ◌&&◌, nat_le, nat_lt, if◌then◌else◌, List, ◌∷◌, ◌++◌}
+use Rattle.std.specs.Prelude.{◌≡◌, ℕ, ◌+◌, ◌<◌, ◌≤◌, ◌^◌, min, Bool, ◌&&◌, nat_le, nat_lt, if◌then◌else◌, List, ◌∷◌, ◌++◌, length}
 use Rattle.std.specs.Str.{bytes_eq}
 use Rattle.byteorder.specs.Endian.{big_bytes}
 use Rattle.hmac_md5.specs.Hmac.{hmac}
@@ -8,7 +8,8 @@ use Rattle.htcp_packet.specs.declared.verifying.Sign.{Sign}
 use Rattle.htcp_packet.specs.declared.verifying.Sign.TheVariants.{Absent, Good, Bad}
 use Rattle.htcp_packet.specs.Message.{Auth, unsigned, signed, Seal, Message, countstr}
 use Rattle.htcp_packet.specs.Reading.{Received}
-use Rattle.htcp_packet.specs.Writing.{data_text}
+use Rattle.htcp_packet.specs.Writing.{data_text, message_text, IsWritable}
+use Rattle.wire_octets.specs.Octets.{IsOctets}
 
 -- what a signature covers: the ends, MAJOR 0, MINOR, SIG-TIME, SIG-EXPIRE, DATA as transmitted, and KEY-NAME with its length
 abbrev pub covered : List ℕ → ℕ → ℕ → ℕ → List ℕ → List ℕ → List ℕ
@@ -61,3 +62,15 @@ seal_for m ends name secret seconds = record {
 -- the message with that seal, whatever its AUTH was
 abbrev pub sealed : Message → List ℕ → List ℕ → List ℕ → ℕ → Message
 sealed m ends name secret seconds = record m { auth = signed (seal_for m ends name secret seconds) }
+
+-- what a reader of that message receives
+abbrev pub sealed_received : Message → List ℕ → List ℕ → List ℕ → ℕ → Received
+sealed_received m ends name secret seconds = record { message = sealed m ends name secret seconds; raw = data_text m }
+
+-- the message can be signed with a key of this name and secret: its numbers fit, and what is written are octets, as many as a datagram can have
+pub record IsSignable (m : Message) (ends name secret : List ℕ) (seconds : ℕ) : Type 0 where
+  pub writable : IsWritable m
+  pub trans : m.trans < 2 ^ 32
+  pub seconds_fit : seconds < 2 ^ 32
+  pub octets : IsOctets (message_text (sealed m ends name secret seconds))
+  pub short : length (message_text (sealed m ends name secret seconds)) ≤ 65507

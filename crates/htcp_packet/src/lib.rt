@@ -5,6 +5,7 @@
 //! read, and are left out or zero in what is written.
 #![tactic(auto)]
 
+pub mod codes;
 mod fault;
 mod laws;
 mod message;

@@ -9,6 +9,8 @@ ghost use Rattle.htcp_packet.specs.Equality.{same_message};
 ghost use Rattle.htcp_packet.specs.Equals.{messages_equiv};
 ghost use Rattle.htcp_packet.specs.Writing.{FitsForm, IsWritable};
 
+use crate::codes::{CLR, FOUND, NOP, NOT_FOUND, TST};
+
 /// The form of an operation's data, OP-DATA.
 #[derive(Clone, Copy, Debug, PartialEq, Eq)]
 pub enum Form {
@@ -30,16 +32,16 @@ impl Form {
                 return Form::Opaque;
             }
             match (opcode, response) {
-                (0 | 4, _) => Form::Empty,
-                (1, 0) => Form::Detail,
-                (1, 1) => Form::CacheHeaders,
+                (NOP | CLR, _) => Form::Empty,
+                (TST, FOUND) => Form::Detail,
+                (TST, NOT_FOUND) => Form::CacheHeaders,
                 _ => Form::Opaque,
             }
         } else {
             match opcode {
-                0 => Form::Empty,
-                1 => Form::Specifier,
-                4 => Form::Clear,
+                NOP => Form::Empty,
+                TST => Form::Specifier,
+                CLR => Form::Clear,
                 _ => Form::Opaque,
             }
         }

@@ -57,6 +57,44 @@ fn messages_are_read_and_written_again(rt: HostRuntime) -> Result<(), Fail> {
     Ok(())
 }
 
+// Each opcode with its octet, and with what may stand behind the header.
+const EACH_OPCODE: [(u8, Opcode, &[u8]); 11] = [
+    (1, Opcode::Query, b"\x0a\0\0\x07http://a/\0"),
+    (2, Opcode::Hit, b"http://a/\0"),
+    (3, Opcode::Miss, b"http://a/\0"),
+    (4, Opcode::Error, b"\0"),
+    (10, Opcode::Secho, b"http://a/\0"),
+    (11, Opcode::Decho, b"http://a/\0"),
+    (21, Opcode::MissNoFetch, b"http://a/\0"),
+    (22, Opcode::Denied, b"http://a/\0"),
+    (23, Opcode::HitObject, b"http://a/\0\0\0"),
+    (23, Opcode::HitObject, b"http://a/\0\0\x05hello"),
+    (23, Opcode::HitObject, b"\0\0\x03a\0b"),
+];
+
+#[test]
+fn each_opcode_is_read_and_written(rt: HostRuntime) -> Result<(), Fail> {
+    for (code, op, payload) in EACH_OPCODE {
+        let mut octets = Vec::new(rt.alloc());
+        octets.extend_from_slice(&[code, 2, 0, 20 + payload.len() as u8])?;
+        // number, options, option data, sender
+        octets.extend_from_slice(&[0, 0, 1, 2, 0x80, 0, 0, 3, 0, 4, 0, 5, 10, 0, 0, 9])?;
+        octets.extend_from_slice(payload)?;
+        let view = decode(&octets).ok().ok_or("a message")?;
+        assert_eq!(rt;
+            (view.op, view.number, view.options),
+            (op, 258, 0x8000_0003)
+        );
+        assert_eq!(rt;
+            (view.option_data, view.sender),
+            (0x0004_0005, [10, 0, 0, 9])
+        );
+        let again = encode(rt.alloc(), &view).ok().ok_or("octets")?;
+        assert_eq!(rt; again.as_slice(), octets.as_slice());
+    }
+    Ok(())
+}
+
 #[test]
 fn faults(rt: HostRuntime) {
     let rows = [
