@@ -1,0 +1,9 @@
+use Rattle.std.proofs.Common.{◌≡◌, ◌≤◌, drop, min}
+use Rattle.http_rules.specs.Text.{value_after}
+use Rattle.http_rules.proofs.seconds.capped_value.Given as goal
+
+abbrev pub invariant-loop-c : goal.invariant-loop-c
+invariant-loop-c l = record {
+  same : min (value_after l.n (drop l.c-index l.digits)) 2147483648 ≡ min (value_after 0 l.digits) 2147483648;
+  small : l.n ≤ 2147483648;
+}

@@ -1,0 +1,32 @@
+-- Which fields speak of one connection alone and are not passed on (RFC 9110, section 7.6.1): Connection,
+-- the fields that it names, and those that have always been of that kind.
+-- 44 is a comma.
+use Rattle.std.specs.Prelude.{ℕ, List, [], ◌∷◌, codes, bytes_eq, filter, not, ◌==◌, ◌||◌, Bool}
+use Rattle.std.specs.List.{list_any, slice_split}
+use Rattle.http_header.specs.Token.{lowercase}
+use Rattle.http_rules.specs.Fields.{Field, values_of}
+use Rattle.http_rules.specs.Text.{trimmed}
+
+-- the names of the fields that are never passed on
+abbrev pub always_removed : List (List ℕ)
+always_removed =
+    codes "connection" ∷ codes "keep-alive" ∷ codes "proxy-connection" ∷ codes "te" ∷ codes "trailer"
+    ∷ codes "transfer-encoding" ∷ codes "upgrade" ∷ []
+
+-- whether a part of a value of Connection is the name of a field, in any case
+abbrev pub is_part : List ℕ → List ℕ → Bool
+is_part name part = bytes_eq (lowercase (trimmed part)) name
+
+-- whether a value of Connection names a field
+abbrev pub names : List ℕ → List ℕ → Bool
+names name value = list_any (is_part name) (slice_split (λ c. c == 44) value)
+
+-- whether the fields of a name are not passed on
+abbrev pub is_hop_by_hop : List Field → List ℕ → Bool
+is_hop_by_hop fields name =
+    list_any (bytes_eq name) always_removed
+    || list_any (names name) (values_of (codes "connection") fields)
+
+-- the fields that are passed on
+abbrev pub end_to_end : List Field → List Field
+end_to_end fields = filter (λ f. not (is_hop_by_hop fields f.0)) fields

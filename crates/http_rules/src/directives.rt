@@ -1,0 +1,178 @@
+//! The directives of Cache-Control fields.
+ghost use Rattle.std.specs.Prelude.{◌≡◌, ◌≤◌, ◌∷◌, [], length, codes, IfSome};
+ghost use Rattle.std.specs.Option.{option_copied};
+ghost use Rattle.std.specs.List.{position_or_len};
+ghost use Rattle.http_header.specs.Token.{lowercase};
+ghost use Rattle.http_rules.specs.Fields.{fields_of, values_of};
+ghost use Rattle.http_rules.specs.Directives.{place_after, is_separator, ends_name, directive_of, directives_in, first_argument, argument, asks, argument_seconds};
+ghost use Rattle.http_rules.specs.Elements.{element_len, directives_left, octets_left, argument_among};
+
+use crate::fields;
+use crate::seconds::{seconds, unquoted};
+use crate::text::{is_name, trimmed};
+use http_header::HeaderMap;
+
+/// Where an octet of a field's value stands.
+#[derive(Clone, Copy, Debug, PartialEq, Eq)]
+pub(crate) enum Place {
+    /// Outside of double quotes.
+    Plain,
+    /// Within them.
+    Quoted,
+    /// Within them, after a backslash.
+    Escaped,
+}
+
+impl Place {
+    /// Where the octet after this one stands.
+    fn after(self, octet: u8) -> Place
+        ensures { result ≡ place_after self octet }
+    {
+        match self {
+            Place::Plain => {
+                if octet == b'"' {
+                    Place::Quoted
+                } else {
+                    Place::Plain
+                }
+            }
+            Place::Quoted => match octet {
+                b'"' => Place::Plain,
+                b'\\' => Place::Escaped,
+                _ => Place::Quoted,
+            },
+            Place::Escaped => Place::Quoted,
+        }
+    }
+
+    /// Whether an octet that stands there ends an element.
+    fn is_separator(self, octet: u8) -> bool
+        ensures { result ≡ is_separator self octet }
+    {
+        match self {
+            Place::Plain => octet == b',',
+            Place::Quoted | Place::Escaped => false,
+        }
+    }
+}
+
+// How many octets the first element of a text has.
+fn element_len(text: &[u8]) -> usize
+    ensures value { result ≡ element_len Place.Plain text.now }
+    ensures bound { result ≤ length text.now }
+{
+    let mut place = Place::Plain;
+    for i in 0..text.len() {
+        if place.is_separator(text[i]) {
+            return i;
+        }
+        place = place.after(text[i]);
+    }
+    text.len()
+}
+
+// The first element of a text, and the text after its comma, if it has one.
+fn split_element(text: &[u8]) -> (&[u8], Option<&[u8]>)
+    ensures value { directives_in text.now ≡ directive_of result.0.now ∷ directives_left (option_copied result.1) }
+    ensures less { octets_left (option_copied result.1) ≤ length text.now }
+{
+    let end = element_len(text);
+    if end < text.len() {
+        let (_, others) = text.split_at(end + 1);
+        (&text[..end], Some(others))
+    } else {
+        (text, None)
+    }
+}
+
+// Whether an octet ends the name of a directive.
+fn ends_name(octet: u8) -> bool
+    ensures { result ≡ ends_name octet }
+{
+    octet == b'=' || (octet == b' ' || octet == b'\t')
+}
+
+// How many octets the name of a directive has.
+fn name_len(text: &[u8]) -> usize
+    ensures value { result ≡ position_or_len ends_name text.now }
+    ensures bound { result ≤ length text.now }
+{
+    for i in 0..text.len() {
+        if ends_name(text[i]) {
+            return i;
+        }
+    }
+    text.len()
+}
+
+// The argument of an element, if its name is this one.
+fn argument_of<'a>(element: &'a [u8], name: &str) -> Option<&'a [u8]>
+    requires { lowercase name.now ≡ name.now }
+    ensures { option_copied result ≡ first_argument name.now (directive_of element.now ∷ []) }
+{
+    let text = trimmed(element);
+    let end = name_len(text);
+    if is_name(&text[..end], name.as_bytes()) {
+        Some(&text[end..])
+    } else {
+        None
+    }
+}
+
+// The argument of the first directive of a name in one value.
+fn argument_in<'a>(value: &'a [u8], name: &str) -> Option<&'a [u8]>
+    requires { lowercase name.now ≡ name.now }
+    ensures { option_copied result ≡ first_argument name.now (directives_in value.now) }
+{
+    let mut rest = Some(value);
+    while let Some(text) = rest {
+        let (element, others) = split_element(text);
+        if let Some(found) = argument_of(element, name) {
+            return Some(found);
+        }
+        rest = others;
+    }
+    None
+}
+
+// The argument of the first directive of a name, value by value.
+fn search_values<'a>(head: &'a HeaderMap, name: &str) -> Option<&'a [u8]>
+    requires { lowercase name.now ≡ name.now }
+    ensures { option_copied result ≡ argument_among name.now (values_of (codes "cache-control") (fields_of head.now)) }
+{
+    for value in fields::values_of(head, "cache-control") {
+        if let Some(found) = argument_in(value.as_bytes(), name) {
+            return Some(found);
+        }
+    }
+    None
+}
+
+/// The argument of a head's first Cache-Control directive of a name, which is in lower case: all that
+/// follows the name.
+pub(crate) fn argument<'a>(head: &'a HeaderMap, name: &str) -> Option<&'a [u8]>
+    requires { lowercase name.now ≡ name.now }
+    ensures { option_copied result ≡ argument name.now (fields_of head.now) }
+{
+    search_values(head, name)
+}
+
+/// Whether a head has a Cache-Control directive of a name, which is in lower case.
+pub(crate) fn asks(head: &HeaderMap, name: &str) -> bool
+    requires { lowercase name.now ≡ name.now }
+    ensures { result ≡ asks name.now (fields_of head.now) }
+{
+    argument(head, name).is_some()
+}
+
+/// The seconds of a directive's argument: an equals sign, and a numeral that may stand in double
+/// quotes.
+pub(crate) fn argument_seconds(argument: &[u8]) -> Option<u32>
+    ensures value { result ≡ argument_seconds argument.now }
+    ensures bound { IfSome result (λ n. n ≤ 2147483648) }
+{
+    match argument {
+        [b'=', text @ ..] => seconds(unquoted(text)),
+        _ => None,
+    }
+}

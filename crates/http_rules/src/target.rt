@@ -1,0 +1,107 @@
+//! The key of a request's target.
+ghost use Rattle.std.specs.Prelude.{◌≡◌, ◌≤◌, length, IfOk, IfErr, IsErrOf, Some, None, true};
+ghost use Rattle.std.specs.List.{list_all};
+ghost use Rattle.url.specs.Parts.{has_credentials};
+ghost use Rattle.http_rules.specs.Targets.{text_of, is_visible, is_plain, url_key, target_key, IsFaultOf};
+
+use object_store::{CacheKey, KeyFault, MOST_KEY_OCTETS};
+use std::alloc::{AllocError, Global};
+use thiserror::Error;
+use url::{ParseError, Position, Url};
+
+/// Why a request's target gives no key.
+#[derive(Clone, Copy, Debug, PartialEq, Eq, Error)]
+pub enum TargetFault {
+    /// It is no `http` URL with a host and without a user or password.
+    #[error("not an http URL of a host")]
+    NotHttp,
+    /// Its key would have over 8,192 octets, or it is too long for a URL.
+    #[error("too long")]
+    TooLong,
+    /// There was no memory.
+    #[error("no memory")]
+    NoMemory,
+}
+
+impl From<AllocError> for TargetFault {
+    ghost use Rattle.std.specs.Prelude.{◌≡◌};
+    ghost use Rattle.http_rules.specs.declared.target.TargetFault.TheVariants as fault;
+
+    ghost from_gives = { λ _ e. e ≡ fault.NoMemory };
+
+    fn from(_: AllocError) -> TargetFault {
+        TargetFault::NoMemory
+    }
+}
+
+/// The key of a target in absolute form: the URL as the URL Standard writes it, without its fragment.
+pub fn key_of(alloc: Global, target: &str) -> Result<CacheKey, TargetFault>
+    ensures key { IfOk result (λ key. target_key target.now ≡ Some key) }
+    ensures not_http { IsErrOf result TargetFault.NotHttp → target_key target.now ≡ None }
+{
+    match Url::parse(alloc, target) {
+        Ok(url) => key_of_url(alloc, &url),
+        Err(ParseError::OutOfMemory) => Err(TargetFault::NoMemory),
+        Err(ParseError::Overflow) => Err(TargetFault::TooLong),
+        Err(_) => Err(TargetFault::NotHttp),
+    }
+}
+
+/// The key of a URL.
+pub fn key_of_url(alloc: Global, url: &Url) -> Result<CacheKey, TargetFault>
+    ensures key { IfOk result (λ key. url_key url.now ≡ Some key) }
+    ensures fault { IfErr result (λ fault. IsFaultOf url.now fault) }
+{
+    if !is_plain(url) {
+        return Err(TargetFault::NotHttp);
+    }
+    if text_of(url).len() > MOST_KEY_OCTETS {
+        return Err(TargetFault::TooLong);
+    }
+    key_of_plain(alloc, url)
+}
+
+// The key of a URL that can be one and is short enough.
+fn key_of_plain(alloc: Global, url: &Url) -> Result<CacheKey, TargetFault>
+    requires plain { is_plain url.now ≡ true }
+    requires short { length (text_of url.now) ≤ 8192 }
+    ensures value { IfOk result (λ key. key ≡ text_of url.now) }
+    ensures memory { IfErr result (λ fault. fault ≡ TargetFault.NoMemory) }
+{
+    let octets = Vec::from_slice(alloc, text_of(url))?;
+    match CacheKey::new(alloc, octets) {
+        Ok(key) => Ok(key),
+        Err((KeyFault::NoMemory, _)) => Err(TargetFault::NoMemory),
+        Err((KeyFault::NotKey, _)) => Err(TargetFault::NotHttp),
+    }
+}
+
+// The text of a URL without its fragment.
+fn text_of(url: &Url) -> &[u8]
+    ensures { result.now ≡ text_of url.now }
+{
+    url.slice(Position::BeforeScheme, Position::AfterQuery)
+        .as_bytes()
+}
+
+// Whether a URL can be a key.
+fn is_plain(url: &Url) -> bool
+    ensures { result ≡ is_plain url.now }
+{
+    url.scheme() == "http"
+        && (url.has_host() && (!has_credentials(url) && is_visible(text_of(url))))
+}
+
+// Whether a URL has a user or a password.
+fn has_credentials(url: &Url) -> bool
+    ensures { result ≡ has_credentials url.now }
+{
+    !url.username().is_empty() || url.password().is_some()
+}
+
+// Whether each octet is visible ASCII.
+fn is_visible(text: &[u8]) -> bool
+    ensures { result ≡ list_all is_visible text.now }
+{
+    text.iter().all(|&octet| 0x21 <= octet && octet <= 0x7e)
+}
