@@ -1,19 +1,18 @@
 //! One exchange with a server, over a connection of its own.
-ghost use Rattle.std.specs.Prelude.{IfSome, IsSome};
+ghost use Rattle.std.specs.Prelude.{IfSome};
 
+use crate::content::{AtMost, Read};
 use crate::fetching::Page;
-use crate::heads::{add_fields, fields_of};
-use bytes::{Buf, Bytes};
+use crate::heads::add_fields;
+use bytes::Bytes;
 use futures::task::{Context, Poll};
 use futures::{Future, ready};
-use http_body::Body;
-use http_body_util::combinators::Collect;
-use http_body_util::{BodyExt, Collected, Empty, Limited};
+use http_body_util::{Collected, Empty};
 use hyper::body::Incoming;
 use hyper::client::conn::http1;
 use hyper::client::conn::http1::{Connection, ResponseFuture};
 use hyper::{HeaderMap, Request, header};
-use std::alloc::{AllocError, Global};
+use std::alloc::Global;
 use tokio::net::{ConnectFuture, TcpStream};
 use tokio::time::Timeout;
 
@@ -92,7 +91,7 @@ impl Get {
 }
 
 impl Talk for Get {
-    type Talking = Beside<Reply<AtMost>, Connection<TcpStream, Empty<Bytes>>>;
+    type Talking = Beside<Reply<AtMost<TcpStream>>, Connection<TcpStream, Empty<Bytes>>>;
 
     fn talk(&mut self, socket: TcpStream) -> Option<Self::Talking> {
         let _ = socket.set_nodelay(true);
@@ -100,10 +99,7 @@ impl Talk for Get {
         let Ok((mut sender, conn)) = self.http.handshake(socket) else {
             return None;
         };
-        let at_most = AtMost {
-            alloc: self.alloc,
-            limit: self.limit,
-        };
+        let at_most = AtMost::new(self.alloc, self.limit);
         let reply = Reply::new(self.alloc, sender.send_request(request), at_most);
         Some(Beside::new(reply, conn))
     }
@@ -144,56 +140,11 @@ impl<A: Future, T: Drop, B: Future<Output = T>> Future for Beside<A, B> {
     }
 }
 
-/// Starts to read a body.
-pub trait Read: Drop {
-    type Reading: Future<Output = Option<Collected>>;
-
-    fn read(&self, body: Incoming<TcpStream>) -> Self::Reading
-        ensures { Self.Reading.can_poll result };
-}
-
-/// Reads at most so many octets.
-#[derive(Drop)]
-pub struct AtMost {
-    alloc: Global,
-    limit: usize,
-}
-
-impl Read for AtMost {
-    type Reading = Gathered<Limited<Incoming<TcpStream>>>;
-
-    fn read(&self, body: Incoming<TcpStream>) -> Gathered<Limited<Incoming<TcpStream>>> {
-        Gathered {
-            inner: Limited::new(body, self.limit).collect(self.alloc),
-        }
-    }
-}
-
-/// What `collect` gives, with no word of its error.
-#[derive(Drop)]
-pub struct Gathered<B: Body> {
-    inner: Collect<B>,
-}
-
-impl<D: Buf + Into<Bytes> + Drop, E: From<AllocError> + Drop, B: Body<Data = D, Error = E>> Future
-    for Gathered<B> {
-    type Output = Option<Collected>;
-
-    ghost can_poll = { λ g. B.can_poll g.inner.body × IsSome g.inner.collected };
-
-    fn poll(&mut self, cx: &mut Context<'_>) -> Poll<Option<Collected>> {
-        match ready!(self.inner.poll(cx)) {
-            Ok(collected) => Poll::Ready(Some(collected)),
-            Err(_) => Poll::Ready(None),
-        }
-    }
-}
-
 // The head of an answer.
 #[derive(Drop)]
 struct Head {
     status: u16,
-    fields: Vec<(Vec<u8>, Vec<u8>)>,
+    fields: HeaderMap,
 }
 
 /// The head of an answer, and then its body.
@@ -206,7 +157,7 @@ pub struct Reply<B: Read> {
     read: B,
 }
 
-impl<B: Read> Reply<B> {
+impl<B: Read<Body = Incoming<TcpStream>>> Reply<B> {
     fn new(alloc: Global, answer: ResponseFuture<TcpStream>, read: B) -> Reply<B>
         ensures { IfSome result.body B.Reading.can_poll }
     {
@@ -221,17 +172,16 @@ impl<B: Read> Reply<B> {
 
     // The page, once its body is there.
     fn finish(&mut self, collected: Collected) -> Option<Page> {
-        let Head { status, fields } = self.head.take()?;
-        let body = collected.to_bytes().ok()?.to_vec(self.alloc).ok()?;
-        Some(Page {
+        let Head {
             status,
-            fields,
-            body,
-        })
+            fields: head,
+        } = self.head.take()?;
+        let body = collected.to_bytes().ok()?.to_vec(self.alloc).ok()?;
+        Some(Page { status, head, body })
     }
 }
 
-impl<B: Read> Future for Reply<B> {
+impl<B: Read<Body = Incoming<TcpStream>>> Future for Reply<B> {
     type Output = Option<Page>;
 
     ghost can_poll = { λ e. IfSome e.body B.Reading.can_poll };
@@ -242,10 +192,13 @@ impl<B: Read> Future for Reply<B> {
                 return Poll::Ready(None);
             };
             let (parts, body) = response.into_parts();
-            self.head = head_of(self.alloc, parts.status.as_u16(), &parts.headers);
-            if self.head.is_none() {
+            if has_foreign_coding(&parts.headers) {
                 return Poll::Ready(None);
             }
+            self.head = Some(Head {
+                status: parts.status.as_u16(),
+                fields: parts.headers,
+            });
             self.body = Some(self.read.read(body));
         }
         let Some(reading) = &mut self.body else {
@@ -258,15 +211,13 @@ impl<B: Read> Future for Reply<B> {
     }
 }
 
-// A head whose body can be read. `None`: its body is in a coding other than chunked, or there is no
-// memory.
-fn head_of(alloc: Global, status: u16, headers: &HeaderMap) -> Option<Head> {
+// Whether the body is in a coding other than chunked.
+fn has_foreign_coding(headers: &HeaderMap) -> bool {
     let mut codings = headers.get_all(header::TRANSFER_ENCODING).iter();
-    if let Some(first) = codings.next()
-        && (!first.as_bytes().eq_ignore_ascii_case(b"chunked") || codings.next().is_some())
-    {
-        return None;
+    match codings.next() {
+        Some(first) => {
+            !first.as_bytes().eq_ignore_ascii_case(b"chunked") || codings.next().is_some()
+        }
+        None => false,
     }
-    let fields = fields_of(alloc, headers).ok()?;
-    Some(Head { status, fields })
 }

@@ -8,6 +8,7 @@ use futures::channel::mpsc::UnboundedReceiver;
 use futures::channel::oneshot;
 use futures::task::{Context, Poll};
 use futures::{Future, ready};
+use http_header::HeaderMap;
 use hyper::client::conn::http1;
 use std::alloc::{AllocGlobal, Global};
 use std::hash::RandomState;
@@ -46,11 +47,11 @@ pub struct Job {
     pub order: Order,
 }
 
-/// A whole answer as it was received: the names of its fields are in lower case.
+/// A whole answer as it was received.
 #[derive(Debug, Drop)]
 pub struct Page {
     pub status: u16,
-    pub fields: Vec<(Vec<u8>, Vec<u8>)>,
+    pub head: HeaderMap,
     pub body: Vec<u8>,
 }
 
@@ -75,6 +76,24 @@ pub struct FetchLimits {
     pub connecting: Duration,
     /// The most fetches at the same time.
     pub at_once: usize,
+}
+
+impl FetchLimits {
+    /// Bodies of at most so many octets, 5 s for a connection, and 64 fetches at the same time.
+    pub fn for_bodies(octets: usize) -> FetchLimits
+        ensures { 0 < result.at_once }
+    {
+        FetchLimits {
+            octets,
+            connecting: Duration::from_secs(5),
+            at_once: 64,
+        }
+    }
+}
+
+/// How long a fetch may take in all, from the moment that its order was made: 30 s.
+pub fn patience() -> Duration {
+    Duration::from_secs(30)
 }
 
 // Begins fetches.

@@ -1,22 +1,7 @@
-//! Heads of messages as lists of names and values.
+//! Fields of heads.
 use hyper::HeaderMap;
 use hyper::header::{HeaderName, HeaderValue};
-use std::alloc::{AllocError, Global};
-
-/// The names, in lower case, and the values of a head. The values of one name keep their order.
-pub(crate) fn fields_of(
-    alloc: Global,
-    headers: &HeaderMap,
-) -> Result<Vec<(Vec<u8>, Vec<u8>)>, AllocError> {
-    let mut fields = Vec::new(alloc);
-    for (name, value) in headers.iter() {
-        fields.push((
-            name.as_bytes().to_vec(alloc)?,
-            value.as_bytes().to_vec(alloc)?,
-        ))?;
-    }
-    Ok(fields)
-}
+use std::alloc::Global;
 
 /// Adds a field. `None`: it is no field of HTTP, there are too many, or there is no memory.
 pub(crate) fn add_field(
@@ -39,6 +24,25 @@ pub(crate) fn add_fields(
 ) -> Option<()> {
     for (name, value) in fields {
         add_field(alloc, headers, name.as_slice(), value.as_slice())?;
+    }
+    Some(())
+}
+
+/// Adds the fields of an object that hold for any copy of it: not those that the framing of this
+/// message decides, and no Age where that is given apart.
+pub(crate) fn add_object_fields(
+    alloc: Global,
+    headers: &mut HeaderMap,
+    fields: &[(Vec<u8>, Vec<u8>)],
+    is_age_apart: bool,
+) -> Option<()> {
+    for (name, value) in fields {
+        let name = name.as_slice();
+        let is_framing = name == b"content-length".as_slice()
+            || name == b"transfer-encoding".as_slice();
+        if !is_framing && !(is_age_apart && name == b"age".as_slice()) {
+            add_field(alloc, headers, name, value.as_slice())?;
+        }
     }
     Some(())
 }
