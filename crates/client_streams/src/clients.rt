@@ -1,0 +1,183 @@
+//! The clients of a listener.
+ghost use Rattle.std.specs.Prelude.{IfSome, IsSome};
+
+use futures::channel::oneshot;
+use futures::task::{Context, Poll};
+use futures::{Future, Stream, ready};
+use std::alloc::{AllocError, Global};
+use std::net::SocketAddr;
+use std::sync::Arc;
+use std::time::{Clock, Duration};
+use tokio::net::{TcpListener, TcpStream};
+use tokio::sync::{AcquireOwned, OwnedSemaphorePermit, Semaphore};
+use tokio::time::{Handle, Sleep};
+
+/// Makes futures that serve clients.
+pub trait Accept: Drop {
+    /// Serves one client to its end.
+    type Serving: Future<Output = ()>;
+
+    /// Serves the client that came from `address`. `None` drops the client.
+    fn accept(&self, socket: TcpStream, address: SocketAddr) -> Option<Self::Serving>
+        ensures { IfSome result Self.Serving.can_poll };
+}
+
+/// A future whose output is of no interest.
+#[derive(Drop)]
+pub struct Quiet<F> {
+    /// What is polled.
+    pub inner: F,
+}
+
+impl<T: Drop, F: Future<Output = T>> Future for Quiet<F> {
+    type Output = ();
+
+    ghost can_poll = { λ q. F.can_poll q.inner };
+
+    ghost needs = { λ q. F.needs q.inner };
+
+    fn poll(&mut self, cx: &mut Context<'_>) -> Poll<()> {
+        match self.inner.poll(cx) {
+            Poll::Ready(_) => Poll::Ready(()),
+            Poll::Pending => Poll::Pending,
+        }
+    }
+}
+
+/// A client that is served, and its seat, which is free again once this is dropped.
+#[derive(Drop)]
+pub struct Seated<F> {
+    serving: F,
+    seat: OwnedSemaphorePermit,
+}
+
+impl<F: Future<Output = ()>> Future for Seated<F> {
+    type Output = ();
+
+    ghost can_poll = { λ s. F.can_poll s.serving };
+
+    ghost needs = { λ s. F.needs s.serving };
+
+    fn poll(&mut self, cx: &mut Context<'_>) -> Poll<()> {
+        self.serving.poll(cx)
+    }
+}
+
+// A place in the queue for a seat.
+#[derive(Drop)]
+struct Asking {
+    queued: AcquireOwned,
+    ghost may_ask: { IsSome queued.semaphore },
+}
+
+/// The clients of a listener, each as a future, until `stop` is ready or its sender is gone. Each
+/// future holds a seat; while every seat is taken none is accepted, and further clients lie in the
+/// listener's queue. After a refused accept the next one waits for `rest`.
+#[derive(Drop)]
+pub struct Clients<A, R> {
+    rt: R,
+    timers: Handle,
+    listener: TcpListener,
+    stop: Option<oneshot::Receiver<()>>,
+    accept: A,
+    seats: Arc<Semaphore>,
+    asking: Option<Asking>,
+    seat: Option<OwnedSemaphorePermit>,
+    rest: Duration,
+    resting: Option<Sleep>,
+}
+
+impl<A: Accept, R: Clock + Drop> Clients<A, R> {
+    /// The clients of `listener`, at most `most` at a time.
+    pub fn new(
+        rt: R,
+        alloc: Global,
+        timers: Handle,
+        listener: TcpListener,
+        stop: oneshot::Receiver<()>,
+        accept: A,
+        most: usize,
+        rest: Duration,
+    ) -> Result<Clients<A, R>, AllocError> {
+        let seats = Arc::new(
+            alloc,
+            Semaphore::new(alloc, most.min(Semaphore::MAX_PERMITS))?,
+        )?;
+        Ok(Clients {
+            rt,
+            timers,
+            listener,
+            stop: Some(stop),
+            accept,
+            seats,
+            asking: None,
+            seat: None,
+            rest,
+            resting: None,
+        })
+    }
+
+    // The next accept waits.
+    fn rest(&mut self) {
+        self.resting = self.timers.sleep(&self.rt, self.rest).ok();
+    }
+}
+
+impl<A: Accept, R: Clock + Drop> Stream for Clients<A, R> {
+    type Item = Seated<A::Serving>;
+
+    ghost yields = { λ _ _ last. IfSome last (λ s. A.Serving.can_poll s.serving) };
+
+    fn poll_next(&mut self, cx: &mut Context<'_>) -> Poll<Option<Seated<A::Serving>>> {
+        let Some(stop) = &mut self.stop else {
+            return Poll::Ready(None);
+        };
+        if let Poll::Ready(_) = stop.poll(cx) {
+            self.stop = None;
+            return Poll::Ready(None);
+        }
+        if let Some(resting) = &mut self.resting {
+            let _ = ready!(resting.poll(cx));
+            self.resting = None;
+        }
+        if self.seat.is_none() {
+            let Asking { mut queued } = match self.asking.take() {
+                Some(asking) => asking,
+                None => match Arc::try_clone(&self.seats) {
+                    Ok(seats) => Asking {
+                        queued: Semaphore::acquire_owned(seats),
+                    },
+                    Err(_) => {
+                        self.rest();
+                        return cx.yield_now();
+                    }
+                },
+            };
+            match queued.poll(cx) {
+                Poll::Ready(Ok(seat)) => self.seat = Some(seat),
+                Poll::Ready(Err(_)) => {
+                    self.rest();
+                    return cx.yield_now();
+                }
+                Poll::Pending => {
+                    self.asking = Some(Asking { queued });
+                    return Poll::Pending;
+                }
+            }
+        }
+        match ready!(self.listener.poll_accept(cx)) {
+            Ok((socket, address)) => {
+                if let Some(serving) = self.accept.accept(socket, address)
+                    && let Some(seat) = self.seat.take()
+                {
+                    return Poll::Ready(Some(Seated { serving, seat }));
+                }
+                cx.yield_now()
+            }
+            Err(_) => {
+                self.rest();
+                cx.yield_now()
+            }
+        }
+    }
+}

@@ -1,0 +1,258 @@
+//! A socket whose peer has to keep moving.
+ghost use Rattle.std.specs.Prelude.{◌≡◌, ⊤};
+ghost use Rattle.futures.specs.Task.{Keeps};
+ghost use Rattle.tokio.specs.Net.{stream_readable, stream_writable};
+
+use futures::Future;
+use futures::task::{Context, Poll};
+use std::alloc::{AllocError, Global};
+use std::cell::Cell;
+use std::io;
+use std::io::ErrorKind;
+use std::rc::Rc;
+use std::time::{Clock, Duration, Instant};
+use tokio::io::{AsyncRead, AsyncWrite};
+use tokio::net::TcpStream;
+use tokio::time::{Handle, Sleep};
+
+/// How long a peer may be still before its socket fails.
+#[derive(Clone, Copy)]
+pub struct Limits {
+    /// Between two exchanges.
+    pub idle: Duration,
+    /// From the first octet of a head to its end.
+    pub head: Duration,
+    /// Between two pieces of a request's content.
+    pub content: Duration,
+    /// While some of its answer waits to be taken.
+    pub taking: Duration,
+}
+
+/// What is waited for of the peer.
+#[derive(Clone, Copy, PartialEq, Eq)]
+pub enum Stage {
+    /// The first octet of a request.
+    Idle,
+    /// The rest of a request's head.
+    Head,
+    /// The rest of a request's content.
+    Content,
+    /// Nothing: the peer waits for its answer.
+    Asked,
+}
+
+/// The stage of a connection, which the service of its requests sets and its socket reads. It has
+/// several owners in one thread.
+#[derive(Drop)]
+pub struct SharedStage(Rc<Cell<Stage>>);
+
+impl SharedStage {
+    /// The stage `Idle`, with one owner.
+    pub fn new(alloc: Global) -> Result<SharedStage, AllocError> {
+        Ok(SharedStage(Rc::new(alloc, Cell::new(Stage::Idle))?))
+    }
+
+    /// One more owner of the same stage. It is refused only where there are too many.
+    pub fn share(&self) -> Result<SharedStage, AllocError> {
+        Ok(SharedStage(self.0.clone()?))
+    }
+
+    /// The stage now.
+    pub fn get(&self) -> Stage {
+        self.0.get()
+    }
+
+    /// From now on this is the stage.
+    pub fn set(&self, stage: Stage) {
+        self.0.set(stage);
+    }
+}
+
+// A deadline that begins with the first wait after some progress.
+#[derive(Drop)]
+struct Patience<R> {
+    rt: R,
+    timers: Handle,
+    deadline: Option<Instant>,
+    // It is moved only when it fires, or when it is too late.
+    sleep: Option<Sleep>,
+}
+
+impl<R: Clock + Drop> Patience<R> {
+    fn new(rt: R, timers: Handle) -> Patience<R> {
+        Patience {
+            rt,
+            timers,
+            deadline: None,
+            sleep: None,
+        }
+    }
+
+    fn begin_anew(&mut self) {
+        self.deadline = None;
+    }
+
+    fn is_waiting(&self) -> bool {
+        self.deadline.is_some()
+    }
+
+    // Whether the wait is over. No clock or no memory ends it, too.
+    fn is_over(&mut self, limit: Duration, cx: &mut Context<'_>) -> bool
+        ensures { Keeps cx.old cx.new }
+    {
+        if self.deadline.is_none() {
+            self.deadline = match Instant::now(&self.rt) {
+                Ok(now) => now.checked_add(limit),
+                Err(_) => None,
+            };
+        }
+        let Some(deadline) = self.deadline else {
+            return true;
+        };
+        if self.sleep.is_none() {
+            self.sleep = self.timers.sleep_until(deadline).ok();
+        }
+        let Some(sleep) = &mut self.sleep else {
+            return true;
+        };
+        if deadline < sleep.deadline() {
+            sleep.reset(deadline);
+        }
+        if let Poll::Pending = sleep.poll(cx) {
+            return false;
+        }
+        if deadline <= sleep.deadline() {
+            return true;
+        }
+        sleep.reset(deadline);
+        matches!(sleep.poll(cx), Poll::Ready(_))
+    }
+}
+
+/// A socket that fails with `TimedOut` where its peer is still for longer than its limits allow: a
+/// read by the limit of the stage, unless a write waits too, and a write by the limit `taking`. The
+/// time of `head` begins with the first octet of a head, that of the others with the last octet that
+/// came or was taken.
+#[derive(Drop)]
+pub struct Patient<R> {
+    socket: TcpStream,
+    limits: Limits,
+    stage: SharedStage,
+    coming: Patience<R>,
+    going: Patience<R>,
+}
+
+impl<R: Clock + Copy> Patient<R> {
+    /// The socket under these limits, at the stage that `stage` tells.
+    pub fn new(
+        rt: R,
+        timers: &Handle,
+        socket: TcpStream,
+        limits: Limits,
+        stage: SharedStage,
+    ) -> Result<Patient<R>, AllocError> {
+        Ok(Patient {
+            socket,
+            limits,
+            stage,
+            coming: Patience::new(rt, timers.clone()?),
+            going: Patience::new(rt, timers.clone()?),
+        })
+    }
+}
+
+impl<R: Clock + Drop> Patient<R> {
+    // Some octets came.
+    fn note_read(&mut self)
+        ensures { self.new.socket ≡ self.old.socket }
+    {
+        match self.stage.get() {
+            Stage::Head => {}
+            Stage::Idle => {
+                self.stage.set(Stage::Head);
+                self.coming.begin_anew();
+            }
+            Stage::Content | Stage::Asked => self.coming.begin_anew(),
+        }
+    }
+
+    fn has_kept_silent(&mut self, cx: &mut Context<'_>) -> bool
+        ensures socket { self.new.socket ≡ self.old.socket }
+        ensures kept { Keeps cx.old cx.new }
+    {
+        if self.going.is_waiting() {
+            return false;
+        }
+        let limit = match self.stage.get() {
+            Stage::Idle => self.limits.idle,
+            Stage::Head => self.limits.head,
+            Stage::Content => self.limits.content,
+            Stage::Asked => {
+                self.coming.begin_anew();
+                return false;
+            }
+        };
+        self.coming.is_over(limit, cx)
+    }
+}
+
+impl<R: Clock + Drop> AsyncRead for Patient<R> {
+    ghost needs = { λ p source. source ≡ stream_readable p.socket };
+
+    ghost reads = { λ _ _ _. ⊤ };
+
+    ghost is_at_end = { λ _. ⊤ };
+
+    ghost reads_nothing = { λ _. tt };
+
+    ghost reads_in_order = { λ _ _ _ _ _ _ _. tt };
+
+    fn poll_read(&mut self, cx: &mut Context<'_>, buf: &mut [u8]) -> Poll<io::Result<usize>> {
+        match AsyncRead::poll_read(&mut self.socket, cx, buf) {
+            Poll::Ready(got) => {
+                self.note_read();
+                Poll::Ready(got)
+            }
+            Poll::Pending => {
+                if self.has_kept_silent(cx) {
+                    return Poll::Ready(Err(io::Error::from(ErrorKind::TimedOut)));
+                }
+                Poll::Pending
+            }
+        }
+    }
+}
+
+impl<R: Clock + Drop> AsyncWrite for Patient<R> {
+    ghost needs = { λ p source. source ≡ stream_writable p.socket };
+
+    ghost writes = { λ _ _ _. ⊤ };
+
+    ghost writes_nothing = { λ _. tt };
+
+    ghost writes_in_order = { λ _ _ _ _ _ _ _. tt };
+
+    fn poll_write(&mut self, cx: &mut Context<'_>, buf: &[u8]) -> Poll<io::Result<usize>> {
+        match AsyncWrite::poll_write(&mut self.socket, cx, buf) {
+            Poll::Ready(put) => {
+                self.going.begin_anew();
+                self.coming.begin_anew();
+                Poll::Ready(put)
+            }
+            Poll::Pending => {
+                if self.going.is_over(self.limits.taking, cx) {
+                    return Poll::Ready(Err(io::Error::from(ErrorKind::TimedOut)));
+                }
+                Poll::Pending
+            }
+        }
+    }
+
+    fn poll_flush(&mut self, cx: &mut Context<'_>) -> Poll<io::Result<()>> {
+        self.socket.poll_flush(cx)
+    }
+
+    fn poll_shutdown(&mut self, cx: &mut Context<'_>) -> Poll<io::Result<()>> {
+        self.socket.poll_shutdown(cx)
+    }
+}

@@ -1,0 +1,57 @@
+//! A text to a client that is not served.
+use crate::patient::Patient;
+use futures::task::{Context, Poll};
+use futures::{Future, ready};
+use std::time::Clock;
+use tokio::io::{AsyncRead, AsyncWrite};
+
+// How often octets that the client still sends are taken, so that the text is not lost with them.
+const MOST_READS: u32 = 64;
+
+/// Sends a client one text, ends its own side, and takes what the client still sends, at most 64
+/// KiB, until the client ends too or is still for too long.
+#[derive(Drop)]
+pub struct Refusal<R> {
+    socket: Patient<R>,
+    text: Vec<u8>,
+    is_sent: bool,
+    is_shut: bool,
+    reads: u32,
+}
+
+impl<R: Clock + Drop> Refusal<R> {
+    /// Sends `text`, which has to be short: what a first write does not take is not sent.
+    pub fn new(socket: Patient<R>, text: Vec<u8>) -> Refusal<R> {
+        Refusal {
+            socket,
+            text,
+            is_sent: false,
+            is_shut: false,
+            reads: 0,
+        }
+    }
+}
+
+impl<R: Clock + Drop> Future for Refusal<R> {
+    type Output = ();
+
+    fn poll(&mut self, cx: &mut Context<'_>) -> Poll<()> {
+        if !self.is_sent {
+            let text = self.text.as_slice();
+            let _ = ready!(AsyncWrite::poll_write(&mut self.socket, cx, text));
+            self.is_sent = true;
+        }
+        if !self.is_shut {
+            let _ = ready!(self.socket.poll_shutdown(cx));
+            self.is_shut = true;
+        }
+        let mut piece = [0; 1024];
+        match ready!(AsyncRead::poll_read(&mut self.socket, cx, &mut piece)) {
+            Ok(count) if 0 < count && self.reads < MOST_READS => {
+                self.reads = self.reads.saturating_add(1);
+                cx.yield_now()
+            }
+            _ => Poll::Ready(()),
+        }
+    }
+}

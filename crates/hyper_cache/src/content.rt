@@ -1,0 +1,71 @@
+//! The content of a message, whole and within a limit.
+ghost use Rattle.std.specs.Prelude.{IsSome};
+
+use bytes::{Buf, Bytes};
+use futures::task::{Context, Poll};
+use futures::{Future, ready};
+use http_body::Body;
+use http_body_util::combinators::Collect;
+use http_body_util::{BodyExt, Collected, Limited};
+use hyper::body::Incoming;
+use std::alloc::{AllocError, Global};
+
+/// Starts to read a body.
+pub trait Read: Drop {
+    type Body: Drop;
+
+    type Reading: Future<Output = Option<Collected>>;
+
+    fn read(&self, body: Self::Body) -> Self::Reading
+        ensures { Self.Reading.can_poll result };
+}
+
+/// Reads at most so many octets.
+#[derive(Drop)]
+pub struct AtMost<I> {
+    alloc: Global,
+    limit: usize,
+    body: std::marker::PhantomData<I>,
+}
+
+impl<I: Drop> AtMost<I> {
+    pub fn new(alloc: Global, limit: usize) -> AtMost<I> {
+        AtMost {
+            alloc,
+            limit,
+            body: std::marker::PhantomData,
+        }
+    }
+}
+
+impl<I: Drop> Read for AtMost<I> {
+    type Body = Incoming<I>;
+
+    type Reading = Gathered<Limited<Incoming<I>>>;
+
+    fn read(&self, body: Incoming<I>) -> Gathered<Limited<Incoming<I>>> {
+        Gathered {
+            inner: Limited::new(body, self.limit).collect(self.alloc),
+        }
+    }
+}
+
+/// What `collect` gives, with no word of its error.
+#[derive(Drop)]
+pub struct Gathered<B: Body> {
+    inner: Collect<B>,
+}
+
+impl<D: Buf + Into<Bytes> + Drop, E: From<AllocError> + Drop, B: Body<Data = D, Error = E>> Future
+    for Gathered<B> {
+    type Output = Option<Collected>;
+
+    ghost can_poll = { λ g. B.can_poll g.inner.body × IsSome g.inner.collected };
+
+    fn poll(&mut self, cx: &mut Context<'_>) -> Poll<Option<Collected>> {
+        match ready!(self.inner.poll(cx)) {
+            Ok(collected) => Poll::Ready(Some(collected)),
+            Err(_) => Poll::Ready(None),
+        }
+    }
+}

@@ -1,0 +1,222 @@
+//! What stands between hyper's server and those who answer.
+ghost use Rattle.std.specs.Prelude.{IfSome, IfOk};
+
+use crate::content::{AtMost, Read};
+use crate::heads::{add_field, add_object_fields};
+use crate::requests::{Answers, Asked, Given};
+use crate::texts::text_of;
+use client_streams::{SharedStage, Stage};
+use futures::task::{Context, Poll};
+use futures::{Future, ready};
+use http_body::Body;
+use http_body_util::Collected;
+use hyper::body::Incoming;
+use hyper::service::Service;
+use hyper::{Request, Response, StatusCode, header};
+use object_body::Portions;
+use std::alloc::Global;
+use std::convert::Infallible;
+
+/// Answers the requests of one connection.
+#[derive(Drop)]
+pub(crate) struct Door<H> {
+    pub(crate) alloc: Global,
+    pub(crate) answers: H,
+    pub(crate) stage: SharedStage,
+    /// The most octets of a request's content.
+    pub(crate) limit: usize,
+}
+
+impl<H: Answers> Door<H> {
+    // What of a request goes to those who answer, but for the content.
+    fn keep(&self, parts: http::request::Parts) -> Option<Asked> {
+        Some(Asked {
+            method: String::from_str(self.alloc, parts.method.as_str()).ok()?,
+            target: parts.uri.to_string(self.alloc).ok()?,
+            head: parts.headers,
+            content: Vec::new(self.alloc),
+        })
+    }
+}
+
+impl<I: Drop, H: Answers> Service<Request<Incoming<I>>> for Door<H> {
+    type Response = Response<Portions>;
+
+    type Error = Infallible;
+
+    type Future = Serving<H, AtMost<I>>;
+
+    fn call(&self, req: Request<Incoming<I>>) -> Self::Future {
+        let (parts, body) = req.into_parts();
+        let is_too_long = (self.limit as u64) < body.size_hint().lower();
+        let refusal = match self.answers.refuses(parts.method.as_str()) {
+            Some(status) => Some(status),
+            None if is_too_long => Some(413),
+            None => None,
+        };
+        let content = match refusal {
+            None => Some(AtMost::new(self.alloc, self.limit).read(body)),
+            Some(_) => None,
+        };
+        let is_coded = parts.headers.contains_key(header::TRANSFER_ENCODING);
+        self.stage.set(Stage::Content);
+        Serving {
+            alloc: self.alloc,
+            stage: self.stage.share().ok(),
+            is_last: refusal.is_some() || is_coded,
+            answers: self.answers.share().ok(),
+            asked: self.keep(parts),
+            refusal: refusal.unwrap_or(503),
+            content,
+            answering: None,
+        }
+    }
+}
+
+/// The future of one answer: the content comes, then the answer.
+#[derive(Drop)]
+pub(crate) struct Serving<H: Answers, T: Read> {
+    alloc: Global,
+    stage: Option<SharedStage>,
+    is_last: bool,
+    answers: Option<H>,
+    asked: Option<Asked>,
+    // The status where nobody is asked.
+    refusal: u16,
+    content: Option<T::Reading>,
+    answering: Option<H::Answering>,
+}
+
+impl<H: Answers, T: Read> Serving<H, T> {
+    // The answer as hyper's.
+    fn respond(&mut self, given: Given) -> Response<Portions> {
+        if let Some(stage) = &self.stage {
+            stage.set(Stage::Idle);
+        }
+        if let Some(answers) = &self.answers {
+            answers.note_answer();
+        }
+        let mut response = match response_of(self.alloc, given) {
+            Some(response) => response,
+            None => bare(self.alloc, 503),
+        };
+        if self.is_last {
+            let close = header::HeaderValue::from_static("close");
+            let _ = response.headers_mut().insert(header::CONNECTION, close);
+        }
+        response
+    }
+
+    // The answer where nobody is asked.
+    fn refuse(&mut self) -> Response<Portions> {
+        let target = match &self.asked {
+            Some(asked) => asked.target.as_bytes(),
+            None => b"",
+        };
+        let text = text_of(self.alloc, self.refusal, target).unwrap_or(Vec::new(self.alloc));
+        let status = self.refusal;
+        self.respond(Given::Text {
+            status,
+            text,
+            is_json: false,
+        })
+    }
+}
+
+impl<H: Answers, T: Read> Future for Serving<H, T> {
+    type Output = Result<Response<Portions>, Infallible>;
+
+    ghost can_poll = { λ w. IfSome w.content T.Reading.can_poll × IfSome w.answering H.Answering.can_poll };
+
+    fn poll(&mut self, cx: &mut Context<'_>) -> Poll<Result<Response<Portions>, Infallible>> {
+        if let Some(mut content) = self.content.take() {
+            let Poll::Ready(collected) = content.poll(cx) else {
+                self.content = Some(content);
+                return Poll::Pending;
+            };
+            if let Some(stage) = &self.stage {
+                stage.set(Stage::Asked);
+            }
+            match collected {
+                Some(collected) => {
+                    let asked = self.asked.take();
+                    self.answering = begin(self.alloc, &self.answers, asked, collected);
+                }
+                None => {
+                    self.is_last = true;
+                    self.refusal = 400;
+                }
+            }
+        }
+        let Some(answering) = &mut self.answering else {
+            return Poll::Ready(Ok(self.refuse()));
+        };
+        let given = ready!(answering.poll(cx));
+        Poll::Ready(Ok(self.respond(given)))
+    }
+}
+
+// Hands a whole request over. `None`: there is no memory.
+fn begin<H: Answers>(
+    alloc: Global,
+    answers: &Option<H>,
+    asked: Option<Asked>,
+    collected: Collected,
+) -> Option<H::Answering>
+    ensures { IfSome result H.Answering.can_poll }
+{
+    let mut asked = asked?;
+    asked.content = collected.to_bytes().ok()?.to_vec(alloc).ok()?;
+    match answers {
+        Some(answers) => Some(answers.begin(asked)),
+        None => None,
+    }
+}
+
+// An answer with a status and nothing else.
+fn bare(alloc: Global, status: u16) -> Response<Portions> {
+    let mut response = Response::new(alloc, Portions::of_text(alloc, Vec::new(alloc)));
+    *response.status_mut() = status_of(status);
+    response
+}
+
+fn status_of(status: u16) -> StatusCode {
+    StatusCode::from_u16(status).unwrap_or(StatusCode::BAD_GATEWAY)
+}
+
+// The answer as hyper's. `None`: there is no memory, or there are too many fields.
+fn response_of(alloc: Global, given: Given) -> Option<Response<Portions>> {
+    match given {
+        Given::Object { object, age, told } => {
+            let share = object.share().ok()?;
+            let mut response = Response::new(alloc, Portions::of_object(alloc, share));
+            *response.status_mut() = status_of(object.get().status());
+            let headers = response.headers_mut();
+            add_object_fields(alloc, headers, object.get().head(), age.is_some())?;
+            if let Some(age) = age {
+                let age = age.to_string(alloc).ok()?;
+                add_field(alloc, headers, b"age", age.as_bytes())?;
+            }
+            add_field(alloc, headers, b"cache-status", told.as_slice())?;
+            Some(response)
+        }
+        Given::Text {
+            status,
+            text,
+            is_json,
+        } => {
+            let is_empty = text.is_empty();
+            let mut response = Response::new(alloc, Portions::of_text(alloc, text));
+            *response.status_mut() = status_of(status);
+            let kind: &[u8] = if is_json {
+                b"application/json"
+            } else {
+                b"text/plain"
+            };
+            if !is_empty {
+                add_field(alloc, response.headers_mut(), b"content-type", kind)?;
+            }
+            Some(response)
+        }
+    }
+}

@@ -1,0 +1,223 @@
+//! One exchange with a server, over a connection of its own.
+ghost use Rattle.std.specs.Prelude.{IfSome};
+
+use crate::content::{AtMost, Read};
+use crate::fetching::Page;
+use crate::heads::add_fields;
+use bytes::Bytes;
+use futures::task::{Context, Poll};
+use futures::{Future, ready};
+use http_body_util::{Collected, Empty};
+use hyper::body::Incoming;
+use hyper::client::conn::http1;
+use hyper::client::conn::http1::{Connection, ResponseFuture};
+use hyper::{HeaderMap, Request, header};
+use std::alloc::Global;
+use tokio::net::{ConnectFuture, TcpStream};
+use tokio::time::Timeout;
+
+/// Begins to talk over a new connection.
+pub trait Talk: Drop {
+    type Talking: Future<Output = Option<Page>>;
+
+    fn talk(&mut self, socket: TcpStream) -> Option<Self::Talking>
+        ensures { IfSome result Self.Talking.can_poll };
+}
+
+/// A connection, and then what is said over it. With no connection there is no page.
+#[derive(Drop)]
+pub struct Call<T: Talk> {
+    connecting: Option<Timeout<ConnectFuture>>,
+    talk: T,
+    talking: Option<T::Talking>,
+}
+
+impl<T: Talk> Call<T> {
+    pub fn new(connecting: Option<Timeout<ConnectFuture>>, talk: T) -> Call<T>
+        ensures { IfSome result.talking T.Talking.can_poll }
+    {
+        Call {
+            connecting,
+            talk,
+            talking: None,
+        }
+    }
+}
+
+impl<T: Talk> Future for Call<T> {
+    type Output = Option<Page>;
+
+    ghost can_poll = { λ c. IfSome c.talking T.Talking.can_poll };
+
+    fn poll(&mut self, cx: &mut Context<'_>) -> Poll<Option<Page>> {
+        if self.talking.is_none() {
+            let Some(connecting) = &mut self.connecting else {
+                return Poll::Ready(None);
+            };
+            let Ok(Ok(socket)) = ready!(connecting.poll(cx)) else {
+                return Poll::Ready(None);
+            };
+            self.talking = self.talk.talk(socket);
+        }
+        match &mut self.talking {
+            Some(talking) => talking.poll(cx),
+            None => Poll::Ready(None),
+        }
+    }
+}
+
+/// Asks for one page.
+#[derive(Drop)]
+pub struct Get {
+    pub alloc: Global,
+    pub http: http1::Builder,
+    pub host: String,
+    pub target: String,
+    pub fields: Vec<(Vec<u8>, Vec<u8>)>,
+    /// The most octets of a body.
+    pub limit: usize,
+}
+
+impl Get {
+    // What is sent.
+    fn request(&self) -> Option<Request<Empty<Bytes>>> {
+        let mut request = Request::get(self.alloc, self.target.as_str())
+            .header(header::HOST, self.host.as_str())
+            .body(Empty::<Bytes>::new())
+            .ok()?;
+        add_fields(self.alloc, request.headers_mut(), self.fields.as_slice())?;
+        Some(request)
+    }
+}
+
+impl Talk for Get {
+    type Talking = Beside<Reply<AtMost<TcpStream>>, Connection<TcpStream, Empty<Bytes>>>;
+
+    fn talk(&mut self, socket: TcpStream) -> Option<Self::Talking> {
+        let _ = socket.set_nodelay(true);
+        let request = self.request()?;
+        let Ok((mut sender, conn)) = self.http.handshake(socket) else {
+            return None;
+        };
+        let at_most = AtMost::new(self.alloc, self.limit);
+        let reply = Reply::new(self.alloc, sender.send_request(request), at_most);
+        Some(Beside::new(reply, conn))
+    }
+}
+
+/// Gives what `first` gives, and polls `other` beside it, which is dropped at the end.
+#[derive(Drop)]
+pub struct Beside<A, B> {
+    first: A,
+    other: Option<B>,
+}
+
+impl<A: Future, B: Future> Beside<A, B> {
+    fn new(first: A, other: B) -> Beside<A, B>
+        requires first { A.can_poll first }
+        requires other { B.can_poll other }
+        ensures { A.can_poll result.first × IfSome result.other B.can_poll }
+    {
+        Beside {
+            first,
+            other: Some(other),
+        }
+    }
+}
+
+impl<A: Future, T: Drop, B: Future<Output = T>> Future for Beside<A, B> {
+    type Output = A::Output;
+
+    ghost can_poll = { λ b. A.can_poll b.first × IfSome b.other B.can_poll };
+
+    fn poll(&mut self, cx: &mut Context<'_>) -> Poll<A::Output> {
+        if let Some(other) = &mut self.other
+            && let Poll::Ready(_) = other.poll(cx)
+        {
+            self.other = None;
+        }
+        self.first.poll(cx)
+    }
+}
+
+// The head of an answer.
+#[derive(Drop)]
+struct Head {
+    status: u16,
+    fields: HeaderMap,
+}
+
+/// The head of an answer, and then its body.
+#[derive(Drop)]
+pub struct Reply<B: Read> {
+    alloc: Global,
+    answer: ResponseFuture<TcpStream>,
+    head: Option<Head>,
+    body: Option<B::Reading>,
+    read: B,
+}
+
+impl<B: Read<Body = Incoming<TcpStream>>> Reply<B> {
+    fn new(alloc: Global, answer: ResponseFuture<TcpStream>, read: B) -> Reply<B>
+        ensures { IfSome result.body B.Reading.can_poll }
+    {
+        Reply {
+            alloc,
+            answer,
+            head: None,
+            body: None,
+            read,
+        }
+    }
+
+    // The page, once its body is there.
+    fn finish(&mut self, collected: Collected) -> Option<Page> {
+        let Head {
+            status,
+            fields: head,
+        } = self.head.take()?;
+        let body = collected.to_bytes().ok()?.to_vec(self.alloc).ok()?;
+        Some(Page { status, head, body })
+    }
+}
+
+impl<B: Read<Body = Incoming<TcpStream>>> Future for Reply<B> {
+    type Output = Option<Page>;
+
+    ghost can_poll = { λ e. IfSome e.body B.Reading.can_poll };
+
+    fn poll(&mut self, cx: &mut Context<'_>) -> Poll<Option<Page>> {
+        if self.body.is_none() {
+            let Ok(response) = ready!(self.answer.poll(cx)) else {
+                return Poll::Ready(None);
+            };
+            let (parts, body) = response.into_parts();
+            if has_foreign_coding(&parts.headers) {
+                return Poll::Ready(None);
+            }
+            self.head = Some(Head {
+                status: parts.status.as_u16(),
+                fields: parts.headers,
+            });
+            self.body = Some(self.read.read(body));
+        }
+        let Some(reading) = &mut self.body else {
+            return Poll::Ready(None);
+        };
+        match ready!(reading.poll(cx)) {
+            Some(collected) => Poll::Ready(self.finish(collected)),
+            None => Poll::Ready(None),
+        }
+    }
+}
+
+// Whether the body is in a coding other than chunked.
+fn has_foreign_coding(headers: &HeaderMap) -> bool {
+    let mut codings = headers.get_all(header::TRANSFER_ENCODING).iter();
+    match codings.next() {
+        Some(first) => {
+            !first.as_bytes().eq_ignore_ascii_case(b"chunked") || codings.next().is_some()
+        }
+        None => false,
+    }
+}

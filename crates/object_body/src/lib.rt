@@ -1,0 +1,88 @@
+//! A body that hands out an object, which many answers share, a piece at a time.
+#![tactic(auto)]
+
+use bytes::Bytes;
+use futures::task::{Context, Poll};
+use http_body::{Body, Frame, SizeHint};
+use object_store::SharedObject;
+use std::alloc::{AllocError, Global};
+
+// The most that one frame copies.
+const PIECE: usize = 64 * 1024;
+
+// What is handed out.
+#[derive(Drop)]
+enum Source {
+    Object(SharedObject),
+    Text(Vec<u8>),
+}
+
+impl Source {
+    fn as_slice(&self) -> &[u8] {
+        match self {
+            Source::Object(object) => object.get().body(),
+            Source::Text(text) => text.as_slice(),
+        }
+    }
+}
+
+/// The body of an object, or a text of its own, at most 64 KiB a frame.
+#[derive(Drop)]
+pub struct Portions {
+    alloc: Global,
+    source: Source,
+    next: usize,
+}
+
+impl Portions {
+    /// The body of `object`.
+    pub fn of_object(alloc: Global, object: SharedObject) -> Portions {
+        Portions {
+            alloc,
+            source: Source::Object(object),
+            next: 0,
+        }
+    }
+
+    /// This text.
+    pub fn of_text(alloc: Global, text: Vec<u8>) -> Portions {
+        Portions {
+            alloc,
+            source: Source::Text(text),
+            next: 0,
+        }
+    }
+
+    // How many octets are still to come.
+    fn left(&self) -> usize {
+        self.source.as_slice().len().saturating_sub(self.next)
+    }
+}
+
+impl Body for Portions {
+    type Data = Bytes;
+
+    type Error = AllocError;
+
+    fn poll_frame(
+        &mut self,
+        _cx: &mut Context<'_>,
+    ) -> Poll<Option<Result<Frame<Bytes>, AllocError>>> {
+        let content = self.source.as_slice();
+        if content.len() <= self.next {
+            return Poll::Ready(None);
+        }
+        let end = content.len().min(self.next.saturating_add(PIECE));
+        match Bytes::copy_from_slice(self.alloc, &content[self.next..end]) {
+            Ok(piece) => {
+                self.next = end;
+                Poll::Ready(Some(Ok(Frame::data(piece))))
+            }
+            Err(e) => Poll::Ready(Some(Err(e))),
+        }
+    }
+
+    fn size_hint(&self) -> SizeHint {
+        SizeHint::with_exact(self.left() as u64)
+    }
+}
