@@ -1,5 +1,7 @@
 # On a machine that has the Rattle toolchain (`rt`), python3 and make:
 #   make feed    runs the example script: by the proved program where it is built, otherwise unproved, and says which
+#   make serve   runs the proxy on examples/serve.json, proved or unproved likewise
+#   make group   runs three proxies that ask one another (it needs the built program)
 #   make build   proves every crate and builds the program
 #   make test    proves every crate from nothing, tries the must-fail edits, runs all tests, script cases and documents
 #   make edits   tries every must-fail edit there is, also those of more-edits/
@@ -8,10 +10,18 @@
 PROGRAM = crates/cache_main/out/cache_main
 SCRIPT ?= examples/first_path.script
 
-.PHONY: feed build test cases documents edits bench
+CONFIG ?= examples/serve.json
+
+.PHONY: serve group feed build test cases documents loopback edits bench
 
 feed:
 	@tools/feed $(SCRIPT)
+
+serve:
+	@tools/serve $(CONFIG)
+
+group: build
+	@tools/group $(PROGRAM)
 
 build:
 	@tools/build
@@ -25,6 +35,10 @@ cases:
 
 documents:
 	@tools/documents $(PROGRAM)
+
+# The proxy over loopback.
+loopback:
+	@tests/serve $(PROGRAM)
 
 edits:
 	@tools/edits

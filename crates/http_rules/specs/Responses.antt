@@ -1,8 +1,8 @@
 -- For how long a response may be stored, by the mode of its request, its status and its fields as they
 -- were received.
 use Rattle.std.specs.Prelude.{ℕ, ◌-◌, List, codes, nat_lt, ◌==◌, not, ◌&&◌, ◌||◌, Bool, Option, Some, None, unwrap_or, option_and_then, if◌then◌else◌}
-use Rattle.node_core.specs.declared.event.Mode.{Mode}
-use Rattle.node_core.specs.declared.event.Mode.TheVariants.{Shared, Cached, Private}
+use Rattle.plain_node.specs.declared.event.Mode.{Mode}
+use Rattle.plain_node.specs.declared.event.Mode.TheVariants.{Shared, Cached, Private}
 use Rattle.http_rules.specs.Fields.{Field, first_value, has_field}
 use Rattle.http_rules.specs.Directives.{argument, argument_seconds, asks}
 use Rattle.http_rules.specs.Text.{seconds}
