@@ -74,10 +74,10 @@ fn run_check(rt: &HostRuntime, file: &str) -> ExitCode {
 }
 
 #[cfg(test)]
+mod book_tests;
+#[cfg(test)]
 mod event_tests;
-
 #[cfg(test)]
 mod node_tests;
-
 #[cfg(test)]
 mod tally_tests;
