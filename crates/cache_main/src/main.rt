@@ -90,9 +90,10 @@ fn run_feed(rt: &HostRuntime) -> ExitCode {
 }
 
 #[cfg(test)]
+mod book_tests;
+#[cfg(test)]
 mod event_tests;
 #[cfg(test)]
 mod node_tests;
-
 #[cfg(test)]
 mod tally_tests;

@@ -1,0 +1,5 @@
+pub mod Legal
+pub mod Least
+pub mod Once
+pub mod Rising
+pub mod Settled

@@ -1,0 +1,10 @@
+pub mod Book
+pub mod Claims
+pub mod Entries
+pub mod Good
+pub mod Kept
+pub mod Seats
+pub mod Settled
+pub mod Shown
+pub mod Sitting
+pub mod Told

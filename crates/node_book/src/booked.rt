@@ -1,0 +1,272 @@
+//! A node with the book of its events.
+ghost use Rattle.std.specs.Prelude.{◌≡◌, ◌<◌, ◌≤◌, [], ◌∷◌, length, IfOk, OnOk, OnErr, IsErrOf, IsTrue, ◌≢◌, ◌↔◌, map};
+ghost use Rattle.std.specs.Option.{option_map};
+ghost use Rattle.pending_fetch.specs.Fetches.{PendingFetch, fetch_of};
+ghost use Rattle.std.specs.Bool.{OnFalse};
+ghost use Rattle.std.specs.Arc.{arc_value};
+ghost use Rattle.node_core.specs.Happening.{happening};
+ghost use Rattle.node_core.specs.State.{HasTaken};
+ghost use Rattle.plain_node.specs.Tally.{tally_of};
+ghost use Rattle.node_book.specs.Claims.{claim_of, said_of};
+ghost use Rattle.node_book.specs.Entries.{entry_of};
+ghost use Rattle.node_book.specs.Good.{Stands};
+ghost use Rattle.node_book.specs.Book.{IsLegal, begun, count_of, turned, written};
+
+use crate::NoMemory;
+use crate::image::Image;
+use crate::stand_in::{same_event, same_tally};
+use node_core::{Event, Node, Out, Tally, append_law};
+use object_store::CacheKey;
+use std::alloc::Global;
+use std::marker::Model;
+use std::mem;
+use std::sync::Arc;
+use thiserror::Error;
+
+/// The most events that a volume may keep.
+pub const MOST_VOLUME: usize = 1_048_576;
+
+/// Why no book was begun.
+#[derive(Clone, Copy, Debug, PartialEq, Eq, Error)]
+pub enum BookFault {
+    /// The volume is not 1 to 1,048,576.
+    #[error("the volume is not 1 to 1048576")]
+    Limits,
+    /// There was no memory.
+    #[error("no memory")]
+    NoMemory,
+}
+
+/// Why an event was not taken.
+#[derive(Clone, Copy, Debug, PartialEq, Eq, Error)]
+pub enum TakeFault {
+    /// 18,446,744,073,709,551,615 events were taken: there is no number for another.
+    #[error("no event has a number any more")]
+    Ended,
+    /// The volume is full.
+    #[error("the volume is full")]
+    VolumeFull,
+    /// There was no memory, or the event or a program has too many owners.
+    #[error("no memory")]
+    NoMemory,
+}
+
+/// What is handed out for an event that was taken: its number, from 0 on, the event, and the tally of its actions.
+#[derive(Drop)]
+pub struct Receipt {
+    /// How many events were taken before it.
+    pub number: u64,
+    /// The event.
+    pub event: Arc<Event>,
+    /// The tally of its actions.
+    pub tally: Tally,
+}
+
+/// An event of the book, and the tally of its actions.
+#[derive(Drop)]
+pub struct Entry {
+    /// The event.
+    pub event: Arc<Event>,
+    /// The tally of its actions.
+    pub tally: Tally,
+}
+
+/// The events of a volume that has ended. To drop them may take long: let it be where no lock is held.
+#[derive(Drop)]
+pub struct Volume {
+    _kept: Vec<Entry>,
+}
+
+/// A node and the book of its events. Contracts see the book, which is always legal.
+#[derive(Drop)]
+pub struct Booked {
+    first: Image,
+    opening: Image,
+    present: Node,
+    kept: Vec<Entry>,
+    base: u64,
+    volume: usize,
+}
+
+impl Model for Booked {
+    ghost use Rattle.std.specs.Prelude.{◌≤◌, vec_capacity};
+    ghost use Rattle.node_book.specs.Book.{Book, IsLegal};
+
+    ghost Value = { Book };
+
+    ghost use Rattle.node_book.specs.Kept.{book_of};
+
+    ghost view = { book_of };
+
+    ghost invariant = { λ b. IsLegal (book_of b) × (b.volume ≤ vec_capacity b.kept) };
+}
+
+impl Booked {
+    /// Begins the book of a node. A volume of it keeps so many events, for which the room is taken at once.
+    pub fn new(alloc: Global, node: Node, volume: usize) -> Result<Booked, BookFault>
+        ensures begins { IfOk result (λ b. b ≡ begun node volume) }
+        ensures limits { IsErrOf result BookFault.Limits ↔ ((0 < volume) × (volume ≤ 1048576) → ⊥) }
+    {
+        if volume == 0 || volume > MOST_VOLUME {
+            return Err(BookFault::Limits);
+        }
+        let Ok(kept) = Vec::with_capacity(alloc, volume) else {
+            return Err(BookFault::NoMemory);
+        };
+        Ok(Booked {
+            first: Image::of(&node),
+            opening: Image::of(&node),
+            present: node,
+            kept,
+            base: 0,
+            volume,
+        })
+    }
+
+    /// The node as it is now.
+    pub fn node(&self) -> &Node
+        ensures { result.now ≡ self.now.present }
+    {
+        &self.present
+    }
+
+    /// The key of a pending fetch of the node, with one more owner. An error says that there are too many owners.
+    pub fn key_of(&self, fetch: u32) -> Result<Option<CacheKey>, NoMemory>
+        ensures { IfOk result (λ key. key ≡ option_map (λ (f : PendingFetch). f.key) (fetch_of fetch self.now.present.plain.fetches.list)) }
+    {
+        match self.present.key_of(fetch) {
+            None => Ok(None),
+            Some(key) => Ok(Some(key.share()?)),
+        }
+    }
+
+    /// The events of the present volume, in order.
+    pub fn entries(&self) -> &[Entry]
+        ensures { map entry_of result.now ≡ self.now.entries }
+    {
+        self.kept.as_slice()
+    }
+
+    /// How many events were taken.
+    pub fn count(&self) -> u64
+        ensures { result ≡ count_of self.now }
+    {
+        self.base + self.kept.len() as u64
+    }
+
+    /// How many events were taken before those of the present volume.
+    pub fn base(&self) -> u64
+        ensures { result ≡ self.now.base }
+    {
+        self.base
+    }
+
+    /// Whether the present volume keeps as many events as it may.
+    pub fn is_full(&self) -> bool
+        ensures full { IsTrue result ↔ (length self.now.entries ≡ self.now.volume) }
+        ensures room { OnFalse result (length self.now.entries < self.now.volume) }
+    {
+        self.kept.len() == self.volume
+    }
+
+    /// The book is one that a single thread could have made.
+    pub fn is_legal(&self)
+        ensures { IsLegal self.now }
+    {
+        let _base = &self.base;
+    }
+
+    /// The node takes one event, whose actions are written to an empty `out`, and the event stands in the book with their
+    /// tally. After an error book and node are as before, and `out` is empty.
+    pub fn take(
+        &mut self,
+        alloc: Global,
+        event: Arc<Event>,
+        out: &mut Out,
+    ) -> Result<Receipt, TakeFault>
+        requires { out.old ≡ [] }
+        ensures taken { OnOk result (HasTaken self.old.present self.new.present (happening (arc_value event) ∷ []) (out.new ∷ [])) }
+        ensures book { OnOk result (self.new ≡ written self.old (happening (arc_value event)) (tally_of out.new) self.new.present) }
+        ensures receipt { IfOk result (λ r. (r.number ≡ count_of self.old) × (arc_value r.event ≡ arc_value event) × (r.tally ≡ tally_of out.new)) }
+        ensures ended { IsErrOf result TakeFault.Ended ↔ (count_of self.old ≡ 18446744073709551615) }
+        ensures full { IsErrOf result TakeFault.VolumeFull ↔ ((count_of self.old ≢ 18446744073709551615) × (length self.old.entries ≡ self.old.volume)) }
+        ensures refused { OnErr result ((self.new ≡ self.old) × (out.new ≡ [])) }
+    {
+        let number = self.count();
+        if number == u64::MAX {
+            return Err(TakeFault::Ended);
+        }
+        if self.is_full() {
+            return Err(TakeFault::VolumeFull);
+        }
+        let Ok(tally) = self.enter(alloc, &event, out) else {
+            return Err(TakeFault::NoMemory);
+        };
+        Ok(Receipt {
+            number,
+            event,
+            tally,
+        })
+    }
+
+    /// Takes an event where there is room for it.
+    fn enter(&mut self, alloc: Global, event: &Arc<Event>, out: &mut Out) -> Result<Tally, NoMemory>
+        requires out { out.old ≡ [] }
+        requires room { (length self.old.entries < self.old.volume) × (count_of self.old < 18446744073709551615) }
+        ensures taken { OnOk result (HasTaken self.old.present self.new.present (happening (arc_value event.now) ∷ []) (out.new ∷ [])) }
+        ensures book { OnOk result (self.new ≡ written self.old (happening (arc_value event.now)) (tally_of out.new) self.new.present) }
+        ensures tally { IfOk result (λ tally. tally ≡ tally_of out.new) }
+        ensures refused { OnErr result ((self.new ≡ self.old) × (out.new ≡ [])) }
+    {
+        append_law();
+        let shared = Arc::try_clone(event)?;
+        self.present.step(alloc, &**event, out)?;
+        let tally = out.tally();
+        self.kept.push_reserved(Entry {
+            event: shared,
+            tally,
+        });
+        Ok(tally)
+    }
+
+    /// Whether the event of a receipt stands in the book at the receipt's number, with the receipt's tally.
+    pub fn has(&self, receipt: &Receipt) -> bool
+        ensures { IsTrue result ↔ Stands self.now (claim_of receipt.now) }
+    {
+        if receipt.number < self.base {
+            return false;
+        }
+        let place = receipt.number - self.base;
+        if place >= self.kept.len() as u64 {
+            return false;
+        }
+        is_same(&self.kept[place as usize], receipt)
+    }
+
+    /// Begins a new volume at the present state, and hands out the events of the old one. The node is not copied. Where the
+    /// room of a new volume is refused, the old events are let go here and their room is used again.
+    pub fn turn(&mut self, alloc: Global) -> Volume
+        ensures { self.new ≡ turned self.old }
+    {
+        self.opening = Image::of(&self.present);
+        self.base += self.kept.len() as u64;
+        match Vec::with_capacity(alloc, self.volume) {
+            Ok(fresh) => Volume {
+                _kept: mem::replace(&mut self.kept, fresh),
+            },
+            Err(_) => {
+                self.kept.clear();
+                Volume {
+                    _kept: Vec::new(alloc),
+                }
+            }
+        }
+    }
+}
+
+/// Whether a receipt has the event and the tally of an entry.
+fn is_same(entry: &Entry, receipt: &Receipt) -> bool
+    ensures { IsTrue result ↔ (entry_of entry.now ≡ said_of receipt.now) }
+{
+    same_event(&*entry.event, &*receipt.event) && same_tally(&entry.tally, &receipt.tally)
+}

@@ -1,0 +1,136 @@
+//! A node and its book behind a lock, for many threads.
+ghost use Rattle.std.specs.Prelude.{◌≡◌, ◌<◌, ◌≤◌, ◌+◌, ◌++◌, [], ◌∷◌, IfOk, OnOk, OnErr, IsErrOf, ◌↔◌, sum_by};
+ghost use Rattle.std.specs.Arc.{arc_value};
+ghost use Rattle.node_core.specs.Happening.{happening};
+ghost use Rattle.plain_node.specs.Tally.{tally_of};
+ghost use Rattle.node_book.specs.Book.{IsLegal, count_of};
+ghost use Rattle.node_book.specs.Seats.{latest, claim, opened};
+ghost use Rattle.node_book.specs.Settled.{Settles};
+
+use crate::NoMemory;
+use crate::booked::Booked;
+use crate::ledgered::{Ledgered, Spent, SubmitFault};
+use crate::seat::{Seat, seats_of};
+use crate::settle::{Report, SettleFault};
+use node_core::{Event, Out, Stats};
+use object_store::CacheKey;
+use std::alloc::Global;
+use std::marker::Model;
+use std::sync::ledger::{Blank, Ledger};
+use std::sync::{Arc, Mutex, Wait};
+use thiserror::Error;
+
+/// Why no desk was opened.
+#[derive(Clone, Copy, Debug, PartialEq, Eq, Error)]
+pub enum OpenFault {
+    /// The seats are not 1 to 64.
+    #[error("the seats are not 1 to 64")]
+    Seats,
+    /// There was no memory.
+    #[error("no memory")]
+    NoMemory,
+}
+
+/// A book behind a lock. Whenever the lock is free the book is legal, and its count is the total of all seats' shares. Contracts
+/// see how many seats were opened.
+#[derive(Drop)]
+pub struct Desk<L: Ledger> {
+    ledgered: Mutex<Ledgered<L>>,
+    seats: u64,
+}
+
+impl<L: Ledger> Model for Desk<L> {
+    ghost use Rattle.std.specs.Prelude.{◌≡◌, ◌<◌, ◌≤◌, ℕ};
+
+    ghost Value = { ℕ };
+
+    ghost view = { λ d. d.seats };
+
+    ghost invariant = { λ d. (d.seats ≡ L.parts) × (0 < d.seats) × (d.seats ≤ 64) };
+}
+
+impl<L: Ledger> Desk<L> {
+    /// Puts a new book behind a lock, with this many seats, each of one part of the new ledger.
+    pub fn open(
+        alloc: Global,
+        blank: Blank,
+        booked: Booked,
+        seats: u64,
+    ) -> Result<(Desk<L>, Vec<Seat<L>>), OpenFault>
+        requires new { count_of booked ≡ 0 }
+        requires name { blank.name ≡ L.name }
+        requires parts { blank.parts ≡ L.parts }
+        requires one_each { (0 < seats) × (seats ≤ 64) → blank.parts ≡ seats }
+        ensures refused { IsErrOf result OpenFault.Seats ↔ ((0 < seats) × (seats ≤ 64) → ⊥) }
+        ensures desk { IfOk result (λ r. r.0 ≡ seats) }
+        ensures seats { IfOk result (λ r. r.1.items ≡ opened seats) }
+    {
+        if seats == 0 || seats > 64 {
+            return Err(OpenFault::Seats);
+        }
+        let (total, mut spare) = blank.open::<L>();
+        let Ok(all) = seats_of(alloc, &mut spare, seats) else {
+            return Err(OpenFault::NoMemory);
+        };
+        let desk = Desk {
+            ledgered: Mutex::new(Ledgered::new(booked, total, spare, seats)),
+            seats,
+        };
+        Ok((desk, all))
+    }
+
+    /// The node takes one event for the holder of a seat, and its actions are written to an empty `out`. The answer is the event's
+    /// number: how many events were taken before it. It waits for the lock. After an error the seat is as before and `out` is
+    /// empty.
+    pub fn submit<R: Wait>(
+        &self,
+        rt: &R,
+        alloc: Global,
+        seat: &mut Seat<L>,
+        event: Arc<Event>,
+        out: &mut Out,
+    ) -> Result<u64, SubmitFault>
+        requires { out.old ≡ [] }
+        ensures share { OnOk result (seat.new.share ≡ seat.old.share + 1) }
+        ensures number { IfOk result (λ n. seat.old.share ≤ n) }
+        ensures receipt { IfOk result (λ n. seat.new.receipts ≡ latest (seat.old.receipts ++ claim n (happening (arc_value event)) (tally_of out.new) ∷ [])) }
+        ensures place { seat.new.place ≡ seat.old.place }
+        ensures refused { OnErr result ((seat.new ≡ seat.old) × (out.new ≡ [])) }
+    {
+        let mut spent = Spent::new();
+        self.ledgered
+            .lock(rt)
+            .submit(alloc, seat, event, out, &mut spent)
+    }
+
+    /// What the node has counted. It waits for the lock.
+    pub fn stats<R: Wait>(&self, rt: &R) -> Stats {
+        self.ledgered.lock(rt).booked().node().stats()
+    }
+
+    /// The key of a pending fetch, with one more owner. It waits for the lock.
+    pub fn key_of<R: Wait>(&self, rt: &R, fetch: u32) -> Result<Option<CacheKey>, NoMemory> {
+        self.ledgered.lock(rt).booked().key_of(fetch)
+    }
+
+    /// Ends the desk, and hands out what lay behind the lock.
+    pub fn close(self) -> Ledgered<L>
+        ensures legal { IsLegal result.book }
+        ensures counted { count_of result.book ≡ result.total }
+        ensures seats { result.seats ≡ self }
+    {
+        let Desk { ledgered, seats: _ } = self;
+        let ledgered = ledgered.into_inner();
+        ledgered.agrees();
+        ledgered
+    }
+
+    /// Closes the desk, compares the receipts of the seats with the book, and joins their shares. Errors: not exactly the seats that
+    /// were opened, else the least number from the base on of a kept receipt that is not good.
+    pub fn settle(self, seats: Vec<Seat<L>>) -> Result<Report, SettleFault>
+        ensures shares { IfOk result (λ r. r.count ≡ sum_by (λ s. s.share) seats.items) }
+        ensures book { (b : _) × IsLegal b × Settles self seats.items b result }
+    {
+        self.close().settle(seats)
+    }
+}

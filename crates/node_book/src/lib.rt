@@ -1,0 +1,25 @@
+//! A node behind a lock, with the book of its events, and the seats and receipts of those who submit them.
+#![tactic(auto)]
+
+mod booked;
+mod clerk;
+mod desk;
+mod image;
+mod laws;
+mod ledgered;
+mod lone;
+mod seat;
+mod seated;
+mod settle;
+mod stand_in;
+
+pub use booked::{BookFault, Booked, Entry, MOST_VOLUME, Receipt, TakeFault, Volume};
+pub use clerk::{Clerk, Gate};
+pub use desk::{Desk, OpenFault};
+pub use laws::settled_law;
+pub use ledgered::{Ledgered, Spent, SubmitFault};
+pub use lone::Lone;
+pub use seat::{MOST_RECEIPTS, Seat};
+pub use seated::Seated;
+pub use settle::{Report, SettleFault};
+pub use std::alloc::AllocError as NoMemory;

@@ -1,0 +1,90 @@
+//! A node by itself.
+ghost use Rattle.std.specs.Prelude.{◌≡◌, []};
+
+use crate::NoMemory;
+use crate::clerk::{Clerk, copy_action};
+use crate::ledgered::SubmitFault;
+use node_core::{Action, Event, Node, Out};
+use object_store::CacheKey;
+use std::alloc::Global;
+use std::marker::Model;
+use std::sync::Arc;
+
+/// A node by itself, with the number of its next event and all that was passed on. Contracts see a record of these.
+#[derive(Drop)]
+pub struct Lone {
+    node: Node,
+    next: u64,
+    passed: Vec<Action>,
+}
+
+impl Model for Lone {
+    ghost use Rattle.node_book.specs.Told.{Told};
+
+    ghost Value = { Told };
+
+    ghost view = { λ l. record { state = l.node; passed = l.passed.items; next = l.next } };
+}
+
+impl Lone {
+    /// A clerk over a node, whose next event has number 0.
+    pub fn new(alloc: Global, node: Node) -> Lone
+        ensures { result ≡ record { state = node; passed = []; next = 0 } }
+    {
+        Lone {
+            node,
+            next: 0,
+            passed: Vec::new(alloc),
+        }
+    }
+
+    /// The node.
+    pub fn node(&self) -> &Node
+        ensures { result.now ≡ self.now.state }
+    {
+        &self.node
+    }
+
+    /// What was passed on, in order.
+    pub fn passed(&self) -> &[Action]
+        ensures { result.now ≡ self.now.passed }
+    {
+        self.passed.as_slice()
+    }
+}
+
+impl Clerk for Lone {
+    ghost use Rattle.std.specs.Prelude.{Some};
+
+    ghost told = { λ l. Some l };
+
+    ghost taken = { λ l. l.next };
+
+    fn submit(
+        &mut self,
+        alloc: Global,
+        event: Arc<Event>,
+        out: &mut Out,
+    ) -> Result<u64, SubmitFault> {
+        let number = self.next;
+        if number == u64::MAX {
+            return Err(SubmitFault::Ended);
+        }
+        self.node.step(alloc, &event, out)?;
+        self.next = number + 1;
+        Ok(number)
+    }
+
+    fn pass(&mut self, alloc: Global, action: &Action) -> Result<(), NoMemory> {
+        let action = copy_action(alloc, action)?;
+        self.passed.push(action)?;
+        Ok(())
+    }
+
+    fn key_of(&mut self, _alloc: Global, fetch: u32) -> Result<Option<CacheKey>, NoMemory> {
+        match self.node.key_of(fetch) {
+            Some(key) => Ok(Some(key.share()?)),
+            None => Ok(None),
+        }
+    }
+}

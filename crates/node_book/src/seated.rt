@@ -1,0 +1,96 @@
+//! A clerk at a seat of a desk.
+ghost use Rattle.std.specs.Prelude.{◌≡◌, ◌≤◌, ◌+◌, ◌++◌, ◌∷◌, [], IfOk, OnOk, OnErr};
+ghost use Rattle.std.specs.Arc.{arc_value};
+ghost use Rattle.node_core.specs.Happening.{happening};
+ghost use Rattle.plain_node.specs.Tally.{tally_of};
+ghost use Rattle.node_book.specs.Seats.{claim, credited};
+
+use crate::NoMemory;
+use crate::clerk::{Clerk, copy_action};
+use crate::desk::Desk;
+use crate::ledgered::SubmitFault;
+use crate::seat::Seat;
+use node_core::{Action, Event, Out};
+use object_store::CacheKey;
+use std::alloc::Global;
+use std::marker::Model;
+use std::sync::ledger::Ledger;
+use std::sync::{Arc, Wait};
+
+/// A clerk at a seat of a desk: its calls, but `pass`, wait for the desk's lock. Contracts see the seat, and what was passed on.
+#[derive(Drop)]
+pub struct Seated<'a, L: Ledger, R: Wait> {
+    rt: &'a R,
+    desk: &'a Desk<L>,
+    seat: Seat<L>,
+    passed: Vec<Action>,
+}
+
+impl<'a, L: Ledger, R: Wait> Model for Seated<'a, L, R> {
+    ghost use Rattle.node_book.specs.Sitting.{Sitting};
+
+    ghost Value = { Sitting };
+
+    ghost view = { λ s. record { seat = s.seat; passed = s.passed.items } };
+}
+
+impl<'a, L: Ledger, R: Wait> Seated<'a, L, R> {
+    /// A clerk at a seat.
+    pub fn new(alloc: Global, rt: &'a R, desk: &'a Desk<L>, seat: Seat<L>) -> Seated<'a, L, R>
+        ensures { result ≡ record { seat = seat; passed = [] } }
+    {
+        Seated {
+            rt,
+            desk,
+            seat,
+            passed: Vec::new(alloc),
+        }
+    }
+
+    /// What was passed on, in order.
+    pub fn passed(&self) -> &[Action]
+        ensures { result.now ≡ self.now.passed }
+    {
+        self.passed.as_slice()
+    }
+
+    /// The seat, for the desk to be settled.
+    pub fn into_seat(self) -> Seat<L>
+        ensures { result ≡ self.entry.seat }
+    {
+        let Seated {
+            rt: _,
+            desk: _,
+            seat,
+            passed: _,
+        } = self;
+        seat
+    }
+}
+
+impl<'a, L: Ledger, R: Wait> Clerk for Seated<'a, L, R> {
+    ghost use Rattle.std.specs.Prelude.{None};
+
+    ghost told = { λ s. None };
+
+    ghost taken = { λ s. s.seat.share };
+
+    fn submit(
+        &mut self,
+        alloc: Global,
+        event: Arc<Event>,
+        out: &mut Out,
+    ) -> Result<u64, SubmitFault> {
+        self.desk.submit(self.rt, alloc, &mut self.seat, event, out)
+    }
+
+    fn pass(&mut self, alloc: Global, action: &Action) -> Result<(), NoMemory> {
+        let action = copy_action(alloc, action)?;
+        self.passed.push(action)?;
+        Ok(())
+    }
+
+    fn key_of(&mut self, _alloc: Global, fetch: u32) -> Result<Option<CacheKey>, NoMemory> {
+        self.desk.key_of(self.rt, fetch)
+    }
+}

@@ -1,0 +1,172 @@
+//! Stands for what is not there yet: events and tallies compared by value.
+ghost use Rattle.std.specs.Prelude.{◌≡◌, ◌↔◌, IsTrue};
+ghost use Rattle.std.specs.Arc.{arc_value};
+ghost use Rattle.std.specs.Option.{option_map};
+ghost use Rattle.object_store.specs.Object.{head_of};
+ghost use Rattle.node_core.specs.Happening.{arrives, asks, ends, happening, leaves, swaps, ticks};
+
+use bpf_check::Checked;
+use filter_slots::{Datagram, Moment, Socket};
+use node_core::{Event, Mode, Outcome, Tally};
+use object_store::{CacheKey, Object};
+use std::sync::Arc;
+
+/// Whether two objects are equal: in status, head, body, age and life.
+pub fn same_object(a: &Object, b: &Object) -> bool
+    ensures { IsTrue result ↔ (a.now ≡ b.now) }
+{
+    a.digest() == b.digest()
+        && a.status() == b.status()
+        && a.age() == b.age()
+        && a.life() == b.life()
+        && a.body() == b.body()
+        && same_head(a.head(), b.head())
+}
+
+// Whether two heads have the same fields in the same order.
+fn same_head(a: &[(Vec<u8>, Vec<u8>)], b: &[(Vec<u8>, Vec<u8>)]) -> bool
+    ensures { IsTrue result ↔ (head_of a.now ≡ head_of b.now) }
+{
+    a == b
+}
+
+/// Whether two datagrams came in by one socket, have the same ends and the same payload.
+pub fn same_datagram(a: &Datagram, b: &Datagram) -> bool
+    ensures { IsTrue result ↔ (a.now ≡ b.now) }
+{
+    a.socket() == b.socket()
+        && a.from() == b.from()
+        && a.to() == b.to()
+        && a.payload() == b.payload()
+}
+
+/// Whether two tallies are equal.
+pub fn same_tally(a: &Tally, b: &Tally) -> bool
+    ensures { IsTrue result ↔ (a.now ≡ b.now) }
+{
+    a == b
+}
+
+/// Whether two attempts ended alike: with equal objects, or both without one.
+pub fn same_outcome(a: &Outcome, b: &Outcome) -> bool
+    ensures { IsTrue result ↔ (a.now ≡ b.now) }
+{
+    match (a, b) {
+        (Outcome::Object(x), Outcome::Object(y)) => same_object(x.get(), y.get()),
+        (Outcome::Failed, Outcome::Failed) => true,
+        _ => false,
+    }
+}
+
+/// Whether two events say the same, wherever they lie in memory.
+pub fn same_event(a: &Event, b: &Event) -> bool
+    ensures { IsTrue result ↔ (happening a.now ≡ happening b.now) }
+{
+    match a {
+        Event::Datagram { datagram, now } => is_arrival(b, datagram, *now),
+        Event::Request {
+            client,
+            key,
+            mode,
+            now,
+        } => is_request(b, *client, key, *mode, *now),
+        Event::Timer { now } => is_timer(b, *now),
+        Event::Fetched {
+            fetch,
+            attempt,
+            result,
+            now,
+        } => is_end(b, *fetch, *attempt, result, *now),
+        Event::Gone { client } => is_parting(b, *client),
+        Event::Swap { socket, program } => is_swap(b, *socket, program),
+    }
+}
+
+// Whether an event is that this datagram arrives now.
+fn is_arrival(event: &Event, datagram: &Datagram, now: Moment) -> bool
+    ensures { IsTrue result ↔ (arrives datagram.now now ≡ happening event.now) }
+{
+    match event {
+        Event::Datagram {
+            datagram: other,
+            now: moment,
+        } => now == *moment && same_datagram(datagram, other),
+        _ => false,
+    }
+}
+
+// Whether an event is that this client asks now for this key.
+fn is_request(event: &Event, client: u64, key: &CacheKey, mode: Mode, now: Moment) -> bool
+    ensures { IsTrue result ↔ (asks client key.now mode now ≡ happening event.now) }
+{
+    match event {
+        Event::Request {
+            client: asker,
+            key: other,
+            mode: manner,
+            now: moment,
+        } => client == *asker && mode == *manner && now == *moment && key == other,
+        _ => false,
+    }
+}
+
+// Whether an event is that time went by until now.
+fn is_timer(event: &Event, now: Moment) -> bool
+    ensures { IsTrue result ↔ (ticks now ≡ happening event.now) }
+{
+    match event {
+        Event::Timer { now: moment } => now == *moment,
+        _ => false,
+    }
+}
+
+// Whether an event is that this attempt ended so now.
+fn is_end(event: &Event, fetch: u32, attempt: u16, outcome: &Outcome, now: Moment) -> bool
+    ensures { IsTrue result ↔ (ends fetch attempt outcome.now now ≡ happening event.now) }
+{
+    match event {
+        Event::Fetched {
+            fetch: number,
+            attempt: place,
+            result: other,
+            now: moment,
+        } => {
+            fetch == *number && attempt == *place && now == *moment && same_outcome(outcome, other)
+        }
+        _ => false,
+    }
+}
+
+// Whether an event is that this client went away.
+fn is_parting(event: &Event, client: u64) -> bool
+    ensures { IsTrue result ↔ (leaves client ≡ happening event.now) }
+{
+    match event {
+        Event::Gone { client: other } => client == *other,
+        _ => false,
+    }
+}
+
+// Whether an event gives this socket this program, or takes its program out.
+fn is_swap(event: &Event, socket: Socket, program: &Option<Arc<Checked>>) -> bool
+    ensures { IsTrue result ↔ (swaps socket (option_map (λ arc. arc_value arc) program.now) ≡ happening event.now) }
+{
+    match event {
+        Event::Swap {
+            socket: place,
+            program: other,
+        } => socket == *place && same_program(program, other),
+        _ => false,
+    }
+}
+
+// Whether two programs are equal, or there is neither.
+fn same_program(a: &Option<Arc<Checked>>, b: &Option<Arc<Checked>>) -> bool
+    ensures { IsTrue result ↔ (option_map (λ arc. arc_value arc) a.now ≡ option_map (λ arc. arc_value arc) b.now) }
+{
+    match (a, b) {
+        (Some(x), Some(y)) => **x == **y,
+        (None, None) => true,
+        _ => false,
+    }
+}
