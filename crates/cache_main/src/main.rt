@@ -75,9 +75,11 @@ fn run_check(rt: &HostRuntime, file: &str) -> ExitCode {
 
 #[cfg(test)]
 mod event_tests;
-
+#[cfg(test)]
+mod feed_memory;
+#[cfg(test)]
+mod feed_tests;
 #[cfg(test)]
 mod node_tests;
-
 #[cfg(test)]
 mod tally_tests;
