@@ -1,9 +1,9 @@
 //! Tallies of actions, against counts and digests that were worked out apart from this program.
 
 use filter_slots::{End, Socket};
+use node_core::{Action, Answer, Payload, Tally};
 use object_store::{Object, SharedObject};
 use peer_select::Source;
-use node_core::{Action, Answer, Payload, Tally};
 use std::test::Fail;
 
 /// What the actions come to: how many there are of each kind, and their digest.

@@ -18,8 +18,3 @@ mod stream;
 
 pub use fault::FeedFault;
 pub use stream::feed;
-
-#[cfg(test)]
-mod memory;
-#[cfg(test)]
-mod tests;

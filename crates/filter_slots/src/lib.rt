@@ -2,6 +2,7 @@
 //! payload.
 #![tactic(auto)]
 
+pub mod comparing;
 pub mod cutting;
 pub mod datagram;
 pub mod laws;
@@ -9,6 +10,7 @@ pub mod slots;
 
 pub use bpf_check::Checked;
 pub use bpf_run::{End, Moment, Socket, Verdict};
+pub use comparing::same_datagram;
 pub use cutting::cut;
 pub use datagram::{Datagram, both_ends};
 pub use slots::Slots;

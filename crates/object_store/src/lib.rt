@@ -1,6 +1,7 @@
 //! The store of a cache: objects by their keys, within a number of entries and of octets.
 #![tactic(auto)]
 
+mod comparing;
 mod digest;
 mod entry;
 mod faults;
@@ -12,6 +13,7 @@ mod pairs;
 mod plain;
 mod store;
 
+pub use comparing::same_object;
 pub use entry::Entry;
 pub use faults::{PutFault, StoreFault};
 pub use key::{CacheKey, KeyFault, MOST_KEY_OCTETS};

@@ -1,7 +1,10 @@
-use super::fault::FeedFault;
-use super::memory::{Sink, Source};
-use super::stream::feed;
+//! Scripts and their answers, by readers and writers in memory.
+
+use super::feed_memory::{Asked, Comments, Counted, Due, Sink, Source};
+use feed_script::{FeedFault, feed};
 use std::alloc::{AllocError, Global};
+use std::cell::Cell;
+use std::io::ErrorKind;
 use std::test::Fail;
 
 // In scripts and texts of this page, `Z` stands for sixteen zero octets, `U` for the URL http://a/ with its zero octet, `Q` for
@@ -48,18 +51,21 @@ fn run(
     script: &[u8],
     fail_read: u64,
     fail_write: u64,
+    fault: ErrorKind,
 ) -> (Result<(), FeedFault>, Vec<u8>, u64, u64) {
     let mut input = Source {
         rest: script,
         step: 5,
         calls: 0,
         fail_at: fail_read,
+        fault,
     };
     let mut output = Sink {
         held: Vec::new(alloc),
         step: 3,
         calls: 0,
         fail_at: fail_write,
+        fault,
     };
     let outcome = feed(alloc, &mut input, &mut output);
     let Source {
@@ -67,12 +73,14 @@ fn run(
         step: _,
         calls: reads,
         fail_at: _,
+        fault: _,
     } = input;
     let Sink {
         held,
         step: _,
         calls: writes,
         fail_at: _,
+        fault: _,
     } = output;
     (outcome, held, reads, writes)
 }
@@ -197,7 +205,7 @@ fn scripts(rt: HostRuntime) -> Result<(), Fail> {
     for (i, (script, want, text)) in CASES.iter().enumerate() {
         let script = expanded(alloc, *script)?;
         let text = expanded(alloc, *text)?;
-        let (outcome, held, _, _) = run(alloc, script.as_slice(), 0, 0);
+        let (outcome, held, _, _) = run(alloc, script.as_slice(), 0, 0, ErrorKind::Other);
         assert!(rt; outcome == *want, "script {i}");
         assert!(rt; held == text, "script {i}");
     }
@@ -210,20 +218,159 @@ fn failures(rt: HostRuntime) -> Result<(), Fail> {
     let alloc = rt.alloc();
     let script = expanded(alloc, FILTERED)?;
     let text = expanded(alloc, FILTERED_TEXT)?;
-    let (_, _, reads, writes) = run(alloc, script.as_slice(), 0, 0);
+    let (_, _, reads, writes) = run(alloc, script.as_slice(), 0, 0, ErrorKind::Other);
     assert!(rt;
         reads > 20 && reads < 100 && writes > 20 && writes < 100,
         "{reads} {writes}"
     );
     for k in 1..=reads {
-        let (outcome, held, _, _) = run(alloc, script.as_slice(), k, 0);
+        let (outcome, held, _, _) = run(alloc, script.as_slice(), k, 0, ErrorKind::Other);
         assert!(rt; outcome == Err(FeedFault::Read), "read {k}");
         assert!(rt; text.starts_with(held.as_slice()), "read {k}");
     }
     for k in 1..=writes {
-        let (outcome, held, _, _) = run(alloc, script.as_slice(), 0, k);
+        let (outcome, held, _, _) = run(alloc, script.as_slice(), 0, k, ErrorKind::Other);
         assert!(rt; outcome == Err(FeedFault::Write), "write {k}");
         assert!(rt; text.starts_with(held.as_slice()), "write {k}");
     }
+    Ok(())
+}
+
+// Each read is interrupted in turn, and each write: nothing is lost.
+#[test]
+fn interruptions(rt: HostRuntime) -> Result<(), Fail> {
+    let alloc = rt.alloc();
+    let script = expanded(alloc, FILTERED)?;
+    let text = expanded(alloc, FILTERED_TEXT)?;
+    for k in 1..=30 {
+        for (read, write) in [(k, 0), (0, k), (k, k)] {
+            let fault = ErrorKind::Interrupted;
+            let (outcome, held, _, _) = run(alloc, script.as_slice(), read, write, fault);
+            assert!(rt; outcome == Ok(()), "call {k}");
+            assert!(rt; held == text, "call {k}");
+        }
+    }
+    Ok(())
+}
+
+// What a script is fed to that needs no writer.
+fn outcome_of(alloc: Global, script: &[u8]) -> (Result<(), FeedFault>, Vec<u8>) {
+    let (outcome, held, _, _) = run(alloc, script, 0, 0, ErrorKind::Other);
+    (outcome, held)
+}
+
+// A line of so many octets, with a break or without.
+fn long_line(alloc: Global, octets: usize, is_broken: bool) -> Result<Vec<u8>, AllocError> {
+    let mut line = vec![in alloc; b'#'; octets]?;
+    if is_broken {
+        line.push(b'\n')?;
+    }
+    Ok(line)
+}
+
+#[test]
+fn lines_of_the_longest_length(rt: HostRuntime) -> Result<(), Fail> {
+    let alloc = rt.alloc();
+    for is_broken in [true, false] {
+        for (octets, want) in [(262_144, Ok(())), (262_145, Err(FeedFault::Line(1)))] {
+            let line = long_line(alloc, octets, is_broken)?;
+            let (outcome, held) = outcome_of(alloc, line.as_slice());
+            assert!(rt; outcome == want, "{octets} octets");
+            assert!(rt; held.is_empty(), "{octets} octets");
+        }
+    }
+    Ok(())
+}
+
+// A datagram of so many zero octets, and then the counters.
+fn datagram_script(alloc: Global, octets: usize) -> Result<Vec<u8>, AllocError> {
+    let mut script = b"go\nd icp 10.0.0.9:3130 ".to_vec(alloc)?;
+    for _ in 0..octets {
+        script.extend_from_slice(b"00")?;
+    }
+    script.extend_from_slice(b" 5\n?\n")?;
+    Ok(script)
+}
+
+#[test]
+fn datagrams_of_the_longest_length(rt: HostRuntime) -> Result<(), Fail> {
+    let alloc = rt.alloc();
+    let text: &[u8] = b".\nstats icp 1 0 0 1\nstats htcp 0 0 0 0\n";
+    let table: [(usize, Result<(), FeedFault>, &[u8]); 2] = [
+        (65_507, Ok(()), text),
+        (65_508, Err(FeedFault::Line(2)), b""),
+    ];
+    for (octets, want, answers) in table {
+        let script = datagram_script(alloc, octets)?;
+        let (outcome, held) = outcome_of(alloc, script.as_slice());
+        assert!(rt; outcome == want, "{octets} octets");
+        assert!(rt; held.as_slice() == answers, "{octets} octets");
+    }
+    Ok(())
+}
+
+// The outcome of a script of so many octets, all of them comments, and how many octets were written.
+fn commented(alloc: Global, octets: u64) -> (Result<(), FeedFault>, u64) {
+    let mut input = Comments {
+        left: octets,
+        place: 0,
+    };
+    let written = Cell::new(0);
+    let mut output = Counted { written: &written };
+    let outcome = feed(alloc, &mut input, &mut output);
+    (outcome, written.get())
+}
+
+#[test]
+fn a_script_of_the_longest_length(rt: HostRuntime) {
+    let (outcome, written) = commented(rt.alloc(), 1_000_000_000);
+    assert!(rt; outcome == Ok(()));
+    assert_eq!(rt; written, 0);
+}
+
+#[test]
+fn a_script_that_is_too_long(rt: HostRuntime) {
+    let (outcome, written) = commented(rt.alloc(), 1_000_000_001);
+    assert!(rt; outcome == Err(FeedFault::Read));
+    assert_eq!(rt; written, 0);
+}
+
+// A line is asked for after the answers to those before it: `fetch 1 0 origin plain - http://a/` and a full stop have 37 octets.
+const ASKED: [Due; 5] = [
+    Due {
+        written: 0,
+        line: b"go\n",
+    },
+    Due {
+        written: 0,
+        line: b"r 1 shared http://a/ 1000\n",
+    },
+    Due {
+        written: 37,
+        line: b"t 1050\n",
+    },
+    Due {
+        written: 39,
+        line: b"g 3\n",
+    },
+    Due {
+        written: 41,
+        line: b"",
+    },
+];
+
+#[test]
+fn answers_come_in_time(rt: HostRuntime) -> Result<(), Fail> {
+    let written = Cell::new(0);
+    let mut input = Asked {
+        lines: &ASKED,
+        written: &written,
+        early: false,
+    };
+    let mut output = Counted { written: &written };
+    let outcome = feed(rt.alloc(), &mut input, &mut output);
+    assert!(rt; outcome == Ok(()));
+    assert!(rt; !input.early);
+    assert_eq!(rt; written.get(), 41);
     Ok(())
 }
