@@ -1,11 +1,17 @@
 //! A body that hands out an object, which many answers share, a piece at a time.
 #![tactic(auto)]
 
+ghost use Rattle.std.specs.Prelude.{◌≡◌, Some, length};
+ghost use Rattle.http_body.specs.SizeHint.{exact};
+ghost use Rattle.object_body.specs.Octets.{octets_of};
+ghost use Rattle.object_body.specs.Pieces.{in_pieces};
+
 use bytes::Bytes;
 use futures::task::{Context, Poll};
 use http_body::{Body, Frame, SizeHint};
 use object_store::SharedObject;
 use std::alloc::{AllocError, Global};
+use std::marker::Model;
 
 // The most that one frame copies.
 const PIECE: usize = 64 * 1024;
@@ -18,7 +24,9 @@ enum Source {
 }
 
 impl Source {
-    fn as_slice(&self) -> &[u8] {
+    fn as_slice(&self) -> &[u8]
+        ensures { result.now ≡ octets_of self.now }
+    {
         match self {
             Source::Object(object) => object.get().body(),
             Source::Text(text) => text.as_slice(),
@@ -26,7 +34,8 @@ impl Source {
     }
 }
 
-/// The body of an object, or a text of its own, at most 64 KiB a frame.
+/// The body of an object, or a text of its own, at most 64 KiB a frame. Contracts see the octets that
+/// are still to come.
 #[derive(Drop)]
 pub struct Portions {
     alloc: Global,
@@ -34,9 +43,20 @@ pub struct Portions {
     next: usize,
 }
 
+impl Model for Portions {
+    ghost use Rattle.std.specs.Prelude.{List, ℕ, drop};
+    ghost use Rattle.object_body.specs.Octets.{octets_of};
+
+    ghost Value = { List ℕ };
+
+    ghost view = { λ p. drop p.next (octets_of p.source) };
+}
+
 impl Portions {
     /// The body of `object`.
-    pub fn of_object(alloc: Global, object: SharedObject) -> Portions {
+    pub fn of_object(alloc: Global, object: SharedObject) -> Portions
+        ensures { result ≡ object.body }
+    {
         Portions {
             alloc,
             source: Source::Object(object),
@@ -45,7 +65,9 @@ impl Portions {
     }
 
     /// This text.
-    pub fn of_text(alloc: Global, text: Vec<u8>) -> Portions {
+    pub fn of_text(alloc: Global, text: Vec<u8>) -> Portions
+        ensures { result ≡ text.items }
+    {
         Portions {
             alloc,
             source: Source::Text(text),
@@ -54,7 +76,9 @@ impl Portions {
     }
 
     // How many octets are still to come.
-    fn left(&self) -> usize {
+    fn left(&self) -> usize
+        ensures { result ≡ length self.now }
+    {
         self.source.as_slice().len().saturating_sub(self.next)
     }
 }
@@ -63,6 +87,8 @@ impl Body for Portions {
     type Data = Bytes;
 
     type Error = AllocError;
+
+    ghost yields = { in_pieces };
 
     fn poll_frame(
         &mut self,
@@ -82,7 +108,9 @@ impl Body for Portions {
         }
     }
 
-    fn size_hint(&self) -> SizeHint {
+    fn size_hint(&self) -> SizeHint
+        ensures { exact result ≡ Some (length self.now) }
+    {
         SizeHint::with_exact(self.left() as u64)
     }
 }
