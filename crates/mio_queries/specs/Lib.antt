@@ -1,1 +1,4 @@
+pub mod Memory
+pub mod Pumping
 pub mod Told
+pub mod Traffic

@@ -1,0 +1,133 @@
+-- What it is to pump: to take what a wire receives to a clerk, and to carry out what the node answers.
+use Rattle.std.specs.Prelude.{◌≡◌, ◌≤◌, ◌⊎◌, ℕ, ◌+◌, Bool, true, false, not, length, map, filter, take, List, [], ◌∷◌, ◌++◌, Option, Some, None}
+use Rattle.std.specs.Option.{option_map}
+use Rattle.node_core.specs.declared.action.Action.{Action}
+use Rattle.node_core.specs.declared.action.Action.TheVariants.{Send, Fetch, Serve}
+use Rattle.node_core.specs.Counters.{plus}
+use Rattle.node_core.specs.Happening.{Happening, arrives, ticks}
+use Rattle.node_core.specs.State.{HasTaken, is_no_send}
+use Rattle.mio_queries.specs.declared.pumped.Pumped.{Pumped}
+use Rattle.mio_queries.specs.declared.traffic.Sending.{Sending}
+use Rattle.mio_queries.specs.Told.{Told, passing}
+use Rattle.mio_queries.specs.Traffic.{Receipt, came, idled, Traffic, grown}
+
+-- the event of a receipt: a datagram arrives as it came, and when none came, time goes by
+abbrev pub event_of : Receipt → Happening
+event_of (came datagram now) = arrives datagram now
+event_of (idled now) = ticks now
+
+abbrev pub is_datagram : Receipt → Bool
+is_datagram (came datagram now) = true
+is_datagram (idled now) = false
+
+-- the datagrams that the actions want sent, in order
+abbrev pub sendings : List Action → List Sending
+sendings [] = []
+sendings (Send socket to payload ∷ actions) = record { socket = socket; to = to; payload = payload } ∷ sendings actions
+sendings (Fetch fetch attempt source only_if_cached owner ∷ actions) = sendings actions
+sendings (Serve client answer ∷ actions) = sendings actions
+
+-- all other actions, in order
+abbrev pub others : List Action → List Action
+others actions = filter is_no_send actions
+
+-- the lists of actions one after another
+abbrev pub joined : List (List Action) → List Action
+joined [] = []
+joined (actions ∷ outs) = actions ++ joined outs
+
+-- a send that was tried once, and whether the wire took it
+pub record Try : Type 0 where
+  pub sending : Sending
+  pub went : Bool
+
+-- what was tried
+abbrev pub tried : List Try → List Sending
+tried tries = map (λ (t : Try). t.sending) tries
+
+-- what the wire took
+abbrev pub gone : List Try → List Sending
+gone tries = tried (filter (λ (t : Try). t.went) tries)
+
+-- how many the wire refused
+abbrev pub failures : List Try → ℕ
+failures tries = length (filter (λ (t : Try). not t.went) tries)
+
+-- a clerk took the events one after another, with one list of actions for each, and was passed these actions
+pub record Serves (old new : Told) (events : List Happening) (outs : List (List Action)) (actions : List Action) : Type 0 where
+  pub taken : HasTaken old.state new.state events outs
+  pub passed : new.passed ≡ old.passed ++ actions
+  pub next : new.next ≡ old.next + length events
+
+-- the same, where the clerk tells
+abbrev pub HasServed : Option Told → Option Told → List Happening → List (List Action) → List Action → Type 0
+HasServed (Some old) (Some new) events outs actions = Serves old new events outs actions
+HasServed (Some old) None events outs actions = ⊥
+HasServed None (Some new) events outs actions = ⊥
+HasServed None None events outs actions = Unit {0}
+
+-- The wire gave the receipts, and the clerk took the events of the first `taken` of them, with the lists of actions in `outs`. The actions
+-- `done` were carried out, in order: each Send among them was tried once, the sent ones are those that the wire took, and its count of
+-- faults grew by those that it refused, and by `faults` besides; each other action was passed on.
+pub record Runs (old new : Traffic) (before after : Option Told) (receipts taken : List Receipt) (outs : List (List Action)) (done : List Action) (tries : List Try) (faults : ℕ) : Type 0 where
+  pub received : new.received ≡ grown old.received receipts
+  pub served : HasServed before after (map event_of taken) outs (others done)
+  pub sends : tried tries ≡ sendings done
+  pub sent : new.sent ≡ grown old.sent (gone tries)
+  pub counted : new.faults ≡ plus old.faults (failures tries + faults)
+
+-- what was counted; each count stays at its greatest number
+pub record Counts (old new : Pumped) (receipts : List Receipt) (tries : List Try) : Type 0 where
+  pub datagrams : new.received ≡ plus old.received (length (filter is_datagram receipts))
+  pub idles : new.idle ≡ plus old.idle (length (filter (λ r. not (is_datagram r)) receipts))
+  pub sends : new.sent ≡ plus old.sent (length (gone tries))
+  pub fails : new.failed ≡ plus old.failed (failures tries)
+
+-- nothing counted
+abbrev pub nothing : Pumped
+nothing = record { received = 0; idle = 0; sent = 0; failed = 0 }
+
+-- these actions were carried out, in order: each Send among them was tried once, the sent ones are those that the wire took, and its count of
+-- faults grew by those that it refused; each other action was passed on
+pub record Carries (old new : Traffic) (before after : Option Told) (from to : Pumped) (actions : List Action) : Type 0 where
+  pub tries : List Try
+  pub sends : tried tries ≡ sendings actions
+  pub received : new.received ≡ old.received
+  pub sent : new.sent ≡ grown old.sent (gone tries)
+  pub counted : new.faults ≡ plus old.faults (failures tries)
+  pub passed : after ≡ option_map (passing (others actions)) before
+  pub counts : Counts from to [] tries
+
+-- so many turns were made: all events were taken, and all their actions were carried out
+pub record Pumps (old new : Traffic) (before after : Option Told) (from to : Pumped) (turns : ℕ) : Type 0 where
+  pub receipts : List Receipt
+  pub outs : List (List Action)
+  pub tries : List Try
+  pub runs : Runs old new before after receipts receipts outs (joined outs) tries 0
+  pub made : length receipts ≡ turns
+  pub counts : Counts from to receipts tries
+
+-- the wire failed to receive, after fewer turns: all events before were taken, and all their actions were carried out
+pub record LosesWire (old new : Traffic) (before after : Option Told) (turns : ℕ) : Type 0 where
+  pub receipts : List Receipt
+  pub outs : List (List Action)
+  pub tries : List Try
+  pub runs : Runs old new before after receipts receipts outs (joined outs) tries 1
+  pub fewer : length receipts + 1 ≤ turns
+
+-- the events taken are those of all receipts, or of all but the last
+abbrev pub AllButLast : List Receipt → List Receipt → Type 0
+AllButLast receipts taken = (receipts ≡ taken) ⊎ ((last : Receipt) × (receipts ≡ taken ++ last ∷ []))
+
+-- it ended early: a front of the actions of the events taken was carried out
+pub record Breaks (old new : Traffic) (before after : Option Told) (turns : ℕ) : Type 0 where
+  pub receipts : List Receipt
+  pub taken : List Receipt
+  pub outs : List (List Action)
+  pub done : List Action
+  pub left : List Action
+  pub tries : List Try
+  pub runs : Runs old new before after receipts taken outs done tries 0
+  pub all_but_last : AllButLast receipts taken
+  pub front : joined outs ≡ done ++ left
+  pub within : length receipts ≤ turns

@@ -1,0 +1,85 @@
+//! The wire over the system's sockets.
+ghost use Rattle.std.specs.Prelude.{◌≡◌, None};
+ghost use Rattle.node_core.specs.Counters.{plus};
+ghost use Rattle.mio_queries.specs.Traffic.{Traffic};
+
+use crate::NoMemory;
+use crate::bell::Bell;
+use crate::sockets::{BindFault, Sockets};
+use crate::traffic::{Received, WireFault};
+use crate::wire::Wire;
+use filter_slots::{End, Socket};
+use std::alloc::{AllocGlobal, Global};
+use std::net::Net;
+use std::time::Clock;
+
+/// The two query sockets of a node, non-blocking. It tells no lists, only how often it failed.
+///
+/// A receive tries the sockets by turns, and waits for at most 100 milliseconds where both would block. At least once in 100
+/// milliseconds of the clock it is idle, however many datagrams wait; and it is idle when its bell rings. A send that would
+/// block fails. Moments are the system's clock, in milliseconds since 1970.
+#[derive(Drop)]
+pub struct MioWire<R> {
+    sockets: Sockets<R>,
+    faults: u64,
+}
+
+impl<R: Net + Clock + AllocGlobal + Drop> MioWire<R> {
+    /// Binds both sockets. At port 0 the system chooses one. Errors: an end can't be had, the system refused, or there was
+    /// no memory.
+    pub fn bind(rt: R, icp: End, htcp: End) -> Result<MioWire<R>, BindFault> {
+        Ok(MioWire {
+            sockets: Sockets::bind(rt, icp, htcp)?,
+            faults: 0,
+        })
+    }
+
+    /// The own end of a socket.
+    pub fn end(&self, socket: Socket) -> End {
+        self.sockets.end(socket)
+    }
+
+    /// What wakes a receive, from another thread. An error says that there are too many bells.
+    pub fn bell(&self) -> Result<Bell, NoMemory> {
+        self.sockets.bell().share()
+    }
+
+    /// How often the wire failed.
+    pub fn faults(&self) -> u64
+        ensures { result ≡ self.now.faults }
+    {
+        self.faults
+    }
+
+    // One more fault.
+    fn count_fault(&mut self)
+        ensures { self.new.faults ≡ plus self.old.faults 1 }
+    {
+        self.faults = self.faults.saturating_add(1);
+    }
+}
+
+impl<R: Net + Clock + AllocGlobal + Drop> Wire for MioWire<R> {
+    ghost traffic = { λ w. record { received = None; sent = None; faults = w.faults } };
+
+    fn receive(&mut self, alloc: Global) -> Result<Received, WireFault> {
+        match self.sockets.receive(alloc) {
+            Ok(received) => Ok(received),
+            Err(WireFault::NoMemory) => Err(WireFault::NoMemory),
+            Err(WireFault::Io) => {
+                self.count_fault();
+                Err(WireFault::Io)
+            }
+        }
+    }
+
+    fn send(&mut self, socket: Socket, to: End, payload: &[u8]) -> Result<(), WireFault> {
+        match self.sockets.send(socket, to, payload) {
+            Ok(()) => Ok(()),
+            Err(_) => {
+                self.count_fault();
+                Err(WireFault::Io)
+            }
+        }
+    }
+}

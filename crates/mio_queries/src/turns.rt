@@ -1,0 +1,213 @@
+//! The loop between a wire and a clerk.
+ghost use Rattle.std.specs.Prelude.{◌≡◌, ◌+◌, ◌∷◌, [], ℕ, take, OnOk, OnErr, IfOk, IsErrOf};
+ghost use Rattle.node_core.specs.Counters.{plus};
+ghost use Rattle.node_core.specs.Happening.{happening};
+ghost use Rattle.mio_queries.specs.Traffic.{receipt_of, grown};
+ghost use Rattle.mio_queries.specs.Pumping.{event_of, HasServed, Try, gone, failures, Counts, nothing, Carries, Pumps, LosesWire, Breaks};
+
+use crate::NoMemory;
+use crate::clerk::{Clerk, SubmitFault};
+use crate::pumped::{PumpFault, Pumped};
+use crate::traffic::{Received, WireFault};
+use crate::wire::Wire;
+use filter_slots::{End, Socket};
+use node_core::{Action, Event, Out, Payload, append_law};
+use std::alloc::Global;
+use std::sync::Arc;
+
+/// Makes so many turns. Each receives once, has the clerk take the datagram, or a tick where none came, and carries out the
+/// actions in order: a Send by the wire, any other by the clerk. A failed send is counted and not tried again. Errors: the
+/// wire failed to receive; there was no memory; the clerk can take no more events. What was done before stands.
+pub fn pump<W: Wire, C: Clerk>(
+    alloc: Global,
+    wire: &mut W,
+    clerk: &mut C,
+    turns: u32,
+) -> Result<Pumped, PumpFault>
+    ensures all { IfOk result (λ pumped. Pumps (W.traffic wire.old) (W.traffic wire.new) (C.told clerk.old) (C.told clerk.new) nothing pumped turns) }
+    ensures turns { IfOk result (λ pumped. pumped.received + pumped.idle ≡ turns) }
+    ensures receive { IsErrOf result PumpFault.Receive → LosesWire (W.traffic wire.old) (W.traffic wire.new) (C.told clerk.old) (C.told clerk.new) turns }
+    ensures no_memory { IsErrOf result PumpFault.NoMemory → Breaks (W.traffic wire.old) (W.traffic wire.new) (C.told clerk.old) (C.told clerk.new) turns }
+    ensures ended { IsErrOf result PumpFault.Ended → Breaks (W.traffic wire.old) (W.traffic wire.new) (C.told clerk.old) (C.told clerk.new) turns }
+{
+    let Ok(mut out) = Out::new(alloc) else {
+        return Err(PumpFault::NoMemory);
+    };
+    pump_with(alloc, wire, clerk, &mut out, turns)
+}
+
+/// Does what `pump` does, with room for the actions that was made before. What is in it is let go.
+pub fn pump_with<W: Wire, C: Clerk>(
+    alloc: Global,
+    wire: &mut W,
+    clerk: &mut C,
+    out: &mut Out,
+    turns: u32,
+) -> Result<Pumped, PumpFault>
+    ensures all { IfOk result (λ pumped. Pumps (W.traffic wire.old) (W.traffic wire.new) (C.told clerk.old) (C.told clerk.new) nothing pumped turns) }
+    ensures turns { IfOk result (λ pumped. pumped.received + pumped.idle ≡ turns) }
+    ensures receive { IsErrOf result PumpFault.Receive → LosesWire (W.traffic wire.old) (W.traffic wire.new) (C.told clerk.old) (C.told clerk.new) turns }
+    ensures no_memory { IsErrOf result PumpFault.NoMemory → Breaks (W.traffic wire.old) (W.traffic wire.new) (C.told clerk.old) (C.told clerk.new) turns }
+    ensures ended { IsErrOf result PumpFault.Ended → Breaks (W.traffic wire.old) (W.traffic wire.new) (C.told clerk.old) (C.told clerk.new) turns }
+{
+    let mut pumped = Pumped::ZERO;
+    for made in 0..turns {
+        append_law();
+        turn(alloc, wire, clerk, out, &mut pumped)?;
+    }
+    Ok(pumped)
+}
+
+/// Makes one turn.
+fn turn<W: Wire, C: Clerk>(
+    alloc: Global,
+    wire: &mut W,
+    clerk: &mut C,
+    out: &mut Out,
+    pumped: &mut Pumped,
+) -> Result<(), PumpFault>
+    ensures made { OnOk result (Pumps (W.traffic wire.old) (W.traffic wire.new) (C.told clerk.old) (C.told clerk.new) pumped.old pumped.new 1) }
+    ensures receive { IsErrOf result PumpFault.Receive → LosesWire (W.traffic wire.old) (W.traffic wire.new) (C.told clerk.old) (C.told clerk.new) 1 }
+    ensures no_memory { IsErrOf result PumpFault.NoMemory → Breaks (W.traffic wire.old) (W.traffic wire.new) (C.told clerk.old) (C.told clerk.new) 1 }
+    ensures ended { IsErrOf result PumpFault.Ended → Breaks (W.traffic wire.old) (W.traffic wire.new) (C.told clerk.old) (C.told clerk.new) 1 }
+{
+    let received = receive_one(alloc, wire, pumped)?;
+    submit_one(alloc, clerk, received, out)?;
+    match carry_out(alloc, wire, clerk, out.actions(), pumped) {
+        Ok(()) => Ok(()),
+        Err(_) => Err(PumpFault::NoMemory),
+    }
+}
+
+/// Receives once, and counts it.
+fn receive_one<W: Wire>(
+    alloc: Global,
+    wire: &mut W,
+    pumped: &mut Pumped,
+) -> Result<Received, PumpFault>
+    ensures received { IfOk result (λ r. (W.traffic wire.new).received ≡ grown (W.traffic wire.old).received (receipt_of r ∷ [])) }
+    ensures refused { OnErr result ((W.traffic wire.new).received ≡ (W.traffic wire.old).received) }
+    ensures sent { (W.traffic wire.new).sent ≡ (W.traffic wire.old).sent }
+    ensures right { OnOk result ((W.traffic wire.new).faults ≡ (W.traffic wire.old).faults) }
+    ensures receive { IsErrOf result PumpFault.Receive → (W.traffic wire.new).faults ≡ plus (W.traffic wire.old).faults 1 }
+    ensures no_memory { IsErrOf result PumpFault.NoMemory → (W.traffic wire.new).faults ≡ (W.traffic wire.old).faults }
+    ensures no_end { IsErrOf result PumpFault.Ended → ⊥ }
+    ensures counts { IfOk result (λ r. Counts pumped.old pumped.new (receipt_of r ∷ []) []) }
+{
+    match wire.receive(alloc) {
+        Ok(received) => {
+            count_received(pumped, &received);
+            Ok(received)
+        }
+        Err(WireFault::Io) => Err(PumpFault::Receive),
+        Err(WireFault::NoMemory) => Err(PumpFault::NoMemory),
+    }
+}
+
+/// Counts what was received.
+fn count_received(pumped: &mut Pumped, received: &Received)
+    ensures { Counts pumped.old pumped.new (receipt_of received.now ∷ []) [] }
+{
+    match received {
+        Received::Datagram(_, _) => pumped.received = pumped.received.saturating_add(1),
+        Received::Idle(_) => pumped.idle = pumped.idle.saturating_add(1),
+    }
+}
+
+/// Has the clerk take what was received.
+fn submit_one<C: Clerk>(
+    alloc: Global,
+    clerk: &mut C,
+    received: Received,
+    out: &mut Out,
+) -> Result<(), PumpFault>
+    ensures taken { OnOk result (HasServed (C.told clerk.old) (C.told clerk.new) (event_of (receipt_of received) ∷ []) (out.new ∷ []) []) }
+    ensures refused { OnErr result (C.told clerk.new ≡ C.told clerk.old) }
+    ensures no_fault { IsErrOf result PumpFault.Receive → ⊥ }
+{
+    out.clear();
+    let Ok(event) = Arc::new(alloc, event_from(received)) else {
+        return Err(PumpFault::NoMemory);
+    };
+    match clerk.submit(alloc, event, out) {
+        Ok(_) => Ok(()),
+        Err(SubmitFault::Ended) => Err(PumpFault::Ended),
+        Err(SubmitFault::NoMemory) => Err(PumpFault::NoMemory),
+    }
+}
+
+/// The event of what was received.
+fn event_from(received: Received) -> Event
+    ensures { happening result ≡ event_of (receipt_of received) }
+{
+    match received {
+        Received::Datagram(datagram, now) => Event::Datagram { datagram, now },
+        Received::Idle(now) => Event::Timer { now },
+    }
+}
+
+/// Carries out actions in order. An error says that there was no memory to pass one on: a front of them was carried out.
+fn carry_out<W: Wire, C: Clerk>(
+    alloc: Global,
+    wire: &mut W,
+    clerk: &mut C,
+    actions: &[Action],
+    pumped: &mut Pumped,
+) -> Result<(), NoMemory>
+    ensures all { OnOk result (Carries (W.traffic wire.old) (W.traffic wire.new) (C.told clerk.old) (C.told clerk.new) pumped.old pumped.new actions.now) }
+    ensures some { OnErr result ((n : ℕ) × Carries (W.traffic wire.old) (W.traffic wire.new) (C.told clerk.old) (C.told clerk.new) pumped.old pumped.new (take n actions.now)) }
+{
+    for action in actions {
+        carry_one(alloc, wire, clerk, action, pumped)?;
+    }
+    Ok(())
+}
+
+/// Carries out one action.
+fn carry_one<W: Wire, C: Clerk>(
+    alloc: Global,
+    wire: &mut W,
+    clerk: &mut C,
+    action: &Action,
+    pumped: &mut Pumped,
+) -> Result<(), NoMemory>
+    ensures done { OnOk result (Carries (W.traffic wire.old) (W.traffic wire.new) (C.told clerk.old) (C.told clerk.new) pumped.old pumped.new (action.now ∷ [])) }
+    ensures refused { OnErr result (Carries (W.traffic wire.old) (W.traffic wire.new) (C.told clerk.old) (C.told clerk.new) pumped.old pumped.new []) }
+{
+    match action {
+        Action::Send {
+            socket,
+            to,
+            payload,
+        } => {
+            send_one(wire, *socket, *to, payload, pumped);
+            Ok(())
+        }
+        Action::Fetch { .. } | Action::Serve { .. } => clerk.pass(alloc, action),
+    }
+}
+
+/// Tries one send, and counts it. Whether the wire took it.
+fn send_one<W: Wire>(
+    wire: &mut W,
+    socket: Socket,
+    to: End,
+    payload: &Payload,
+    pumped: &mut Pumped,
+) -> bool
+    ensures received { (W.traffic wire.new).received ≡ (W.traffic wire.old).received }
+    ensures sent { (W.traffic wire.new).sent ≡ grown (W.traffic wire.old).sent (gone (record { sending = record { socket = socket; to = to; payload = payload.now }; went = result } ∷ [])) }
+    ensures faults { (W.traffic wire.new).faults ≡ plus (W.traffic wire.old).faults (failures (record { sending = record { socket = socket; to = to; payload = payload.now }; went = result } ∷ [])) }
+    ensures counts { Counts pumped.old pumped.new [] (record { sending = record { socket = socket; to = to; payload = payload.now }; went = result } ∷ []) }
+{
+    match wire.send(socket, to, payload.as_slice()) {
+        Ok(()) => {
+            pumped.sent = pumped.sent.saturating_add(1);
+            true
+        }
+        Err(_) => {
+            pumped.failed = pumped.failed.saturating_add(1);
+            false
+        }
+    }
+}
