@@ -3,14 +3,15 @@ use Rattle.std.proofs.Common.{◌≡◌, ◌<◌, ◌≤◌, ◌⊎◌, inl, inr
 use Rattle.std.proofs.lemmas.Bool.Decides.{nat_tests}
 use Rattle.std.proofs.lemmas.List.{map-append, length-append, take_more, take-append-drop}
 use Rattle.std.proofs.lemmas.List.Elements.{filter-append}
-use Rattle.node_core.specs.declared.action.Action.{Action}
-use Rattle.node_core.specs.declared.action.Action.TheVariants.{Send, Fetch, Serve}
+use Rattle.plain_node.specs.declared.action.Action.{Action}
+use Rattle.plain_node.specs.declared.action.Action.TheVariants.{Send, Fetch, Serve}
 use Rattle.node_core.specs.Counters.{plus}
 use Rattle.node_core.specs.Happening.{Happening}
-use Rattle.node_core.specs.State.{State, HasTaken, is_no_send}
+use Rattle.node_core.specs.State.{State, HasTaken}
+use Rattle.plain_node.specs.Memory.{is_no_send}
 use Rattle.mio_queries.specs.declared.pumped.Pumped.{Pumped}
 use Rattle.mio_queries.specs.declared.traffic.Sending.{Sending}
-use Rattle.mio_queries.specs.Told.{Told, passing}
+use Rattle.node_book.specs.Told.{Told, passing}
 use Rattle.mio_queries.specs.Traffic.{Receipt, came, idled, Traffic, grown}
 use Rattle.mio_queries.specs.Pumping.{event_of, is_datagram, sendings, others, joined, Try, tried, gone, failures, Serves, HasServed, Runs, Counts, nothing, Carries, Pumps, LosesWire, AllButLast, Breaks}
 

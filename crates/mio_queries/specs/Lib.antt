@@ -1,4 +1,3 @@
 pub mod Memory
 pub mod Pumping
-pub mod Told
 pub mod Traffic

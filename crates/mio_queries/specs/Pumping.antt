@@ -1,14 +1,15 @@
 -- What it is to pump: to take what a wire receives to a clerk, and to carry out what the node answers.
 use Rattle.std.specs.Prelude.{◌≡◌, ◌≤◌, ◌⊎◌, ℕ, ◌+◌, Bool, true, false, not, length, map, filter, take, List, [], ◌∷◌, ◌++◌, Option, Some, None}
 use Rattle.std.specs.Option.{option_map}
-use Rattle.node_core.specs.declared.action.Action.{Action}
-use Rattle.node_core.specs.declared.action.Action.TheVariants.{Send, Fetch, Serve}
+use Rattle.plain_node.specs.declared.action.Action.{Action}
+use Rattle.plain_node.specs.declared.action.Action.TheVariants.{Send, Fetch, Serve}
 use Rattle.node_core.specs.Counters.{plus}
 use Rattle.node_core.specs.Happening.{Happening, arrives, ticks}
-use Rattle.node_core.specs.State.{HasTaken, is_no_send}
+use Rattle.node_core.specs.State.{HasTaken}
+use Rattle.plain_node.specs.Memory.{is_no_send}
 use Rattle.mio_queries.specs.declared.pumped.Pumped.{Pumped}
 use Rattle.mio_queries.specs.declared.traffic.Sending.{Sending}
-use Rattle.mio_queries.specs.Told.{Told, passing}
+use Rattle.node_book.specs.Told.{Told, passing}
 use Rattle.mio_queries.specs.Traffic.{Receipt, came, idled, Traffic, grown}
 
 -- the event of a receipt: a datagram arrives as it came, and when none came, time goes by

@@ -2,8 +2,6 @@
 #![tactic(auto)]
 
 mod bell;
-mod clerk;
-mod lone;
 mod memory;
 mod mio_wire;
 mod pumped;
@@ -13,8 +11,6 @@ mod turns;
 mod wire;
 
 pub use bell::Bell;
-pub use clerk::{Clerk, SubmitFault};
-pub use lone::Lone;
 pub use memory::MemoryWire;
 pub use mio_wire::MioWire;
 pub use pumped::{PumpFault, Pumped};

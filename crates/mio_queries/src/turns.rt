@@ -6,11 +6,11 @@ ghost use Rattle.mio_queries.specs.Traffic.{receipt_of, grown};
 ghost use Rattle.mio_queries.specs.Pumping.{event_of, HasServed, Try, gone, failures, Counts, nothing, Carries, Pumps, LosesWire, Breaks};
 
 use crate::NoMemory;
-use crate::clerk::{Clerk, SubmitFault};
 use crate::pumped::{PumpFault, Pumped};
 use crate::traffic::{Received, WireFault};
 use crate::wire::Wire;
 use filter_slots::{End, Socket};
+use node_book::{Clerk, SubmitFault};
 use node_core::{Action, Event, Out, Payload, append_law};
 use std::alloc::Global;
 use std::sync::Arc;
