@@ -1,0 +1,143 @@
+//! The neighbours and the signing keys.
+use crate::fault::Fault;
+use crate::place::Place;
+use crate::shape::items;
+use crate::value::{address, number, port, text};
+use hex::FromHexError;
+use neighbours::{End, Key, Neighbour, Octets, Role, Socket};
+use serde_json::Value;
+use std::alloc::{AllocError, Global};
+
+/// The signing keys, each with a name of its own.
+pub(crate) fn keys(alloc: Global, value: &Value) -> Result<Vec<Key>, Fault> {
+    let mut keys = Vec::new(alloc);
+    for (i, item) in items(value, "keys").iter().enumerate() {
+        let place = Place::item("keys", i);
+        let key = key(alloc, item, place)?;
+        if is_key(keys.as_slice(), key.name.as_slice()) {
+            return Err(Fault::value(alloc, place.key("name"), "the name of an earlier key"));
+        }
+        keys.push(key).map_err(AllocError::from)?;
+    }
+    Ok(keys)
+}
+
+// One signing key.
+fn key(alloc: Global, item: &Value, place: Place<'_>) -> Result<Key, Fault> {
+    let name = text(alloc, item, place.key("name"))?;
+    if name.is_empty() || name.len() > 255 {
+        return Err(Fault::text(
+            alloc,
+            place.key("name"),
+            name,
+            "is empty or over 255 octets",
+        ));
+    }
+    let secret = secret(
+        alloc,
+        text(alloc, item, place.key("secret"))?,
+        place.key("secret"),
+    )?;
+    let name = Octets::new(name.as_bytes().to_vec(alloc)?);
+    Ok(Key { name, secret })
+}
+
+// The octets of a secret. It is not shown.
+fn secret(alloc: Global, text: &str, place: Place<'_>) -> Result<Octets, Fault> {
+    match hex::decode(alloc, text.as_bytes()) {
+        Ok(octets) => Ok(Octets::new(octets)),
+        Err(FromHexError::OutOfMemory) => Err(Fault::Memory),
+        Err(_) => Err(Fault::value(alloc, place, "not hexadecimal")),
+    }
+}
+
+// Whether a key of this name is there.
+fn is_key(keys: &[Key], name: &[u8]) -> bool {
+    keys.iter().any(|key| key.name.as_slice() == name)
+}
+
+/// The neighbours: at most 64, no two with one address and port, each key known.
+pub(crate) fn neighbours(
+    alloc: Global,
+    value: &Value,
+    keys: &[Key],
+) -> Result<Vec<Neighbour>, Fault> {
+    let items = items(value, "neighbours");
+    let mut neighbours = Vec::new(alloc);
+    for (i, item) in items.iter().enumerate() {
+        let place = Place::item("neighbours", i);
+        let neighbour = neighbour(alloc, item, place, keys)?;
+        if has_end(neighbours.as_slice(), neighbour.end) {
+            return Err(Fault::value(
+                alloc,
+                place.key("address"),
+                "an earlier neighbour has this address and query_port",
+            ));
+        }
+        neighbours.push(neighbour).map_err(AllocError::from)?;
+    }
+    if items.len() > 64 {
+        return Err(Fault::value(alloc, Place::whole().key("neighbours"), "over 64 of them"));
+    }
+    Ok(neighbours)
+}
+
+// Whether a neighbour has this address and port.
+fn has_end(neighbours: &[Neighbour], end: End) -> bool {
+    neighbours.iter().any(|neighbour| neighbour.end == end)
+}
+
+// One neighbour.
+fn neighbour(
+    alloc: Global,
+    item: &Value,
+    place: Place<'_>,
+    keys: &[Key],
+) -> Result<Neighbour, Fault> {
+    Ok(Neighbour {
+        kind: role(alloc, item, place.key("kind"))?,
+        protocol: protocol(alloc, item, place.key("protocol"))?,
+        end: End {
+            addr: address(alloc, item, place.key("address"))?,
+            port: port(alloc, item, place.key("query_port"))?,
+        },
+        http_port: port(alloc, item, place.key("http_port"))?,
+        weight: number(alloc, item, place.key("weight"), 1, 100)? as u32,
+        key: key_name(alloc, item, place.key("key"), keys)?,
+    })
+}
+
+// What a neighbour is.
+fn role(alloc: Global, item: &Value, place: Place<'_>) -> Result<Role, Fault> {
+    match text(alloc, item, place)? {
+        "sibling" => Ok(Role::Sibling),
+        "parent" => Ok(Role::Parent),
+        other => Err(Fault::text(alloc, place, other, "is neither sibling nor parent")),
+    }
+}
+
+// How a neighbour is asked.
+fn protocol(alloc: Global, item: &Value, place: Place<'_>) -> Result<Socket, Fault> {
+    match text(alloc, item, place)? {
+        "icp" => Ok(Socket::Icp),
+        "htcp" => Ok(Socket::Htcp),
+        other => Err(Fault::text(alloc, place, other, "is neither icp nor htcp")),
+    }
+}
+
+// The name of a neighbour's key, which has to be there.
+fn key_name(
+    alloc: Global,
+    item: &Value,
+    place: Place<'_>,
+    keys: &[Key],
+) -> Result<Option<Octets>, Fault> {
+    let name = text(alloc, item, place)?;
+    if name.is_empty() {
+        return Ok(None);
+    }
+    if !is_key(keys, name.as_bytes()) {
+        return Err(Fault::text(alloc, place, name, "is the name of no key"));
+    }
+    Ok(Some(Octets::new(name.as_bytes().to_vec(alloc)?)))
+}

@@ -1,0 +1,161 @@
+//! Whether a configuration has exactly its keys, each with a value of its kind.
+use crate::fault::Fault;
+use crate::place::Place;
+use serde_json::{Map, Value};
+use std::alloc::Global;
+
+/// The kind of a value.
+#[derive(Clone, Copy)]
+pub(crate) enum Kind {
+    Text,
+    Number,
+    Truth,
+    List,
+}
+
+/// A key and the kind of its value.
+type Known = (&'static str, Kind);
+
+/// The keys of a configuration.
+const TOP: [Known; 16] = [
+    ("address", Kind::Text),
+    ("icp_port", Kind::Number),
+    ("htcp_port", Kind::Number),
+    ("http_port", Kind::Number),
+    ("admin_port", Kind::Number),
+    ("name", Kind::Text),
+    ("allowed", Kind::List),
+    ("miss_nofetch", Kind::Truth),
+    ("origin", Kind::Truth),
+    ("entries", Kind::Number),
+    ("octets", Kind::Number),
+    ("body_limit", Kind::Number),
+    ("volume", Kind::Number),
+    ("stop_after", Kind::Number),
+    ("keys", Kind::List),
+    ("neighbours", Kind::List),
+];
+
+/// The keys of a signing key.
+const KEY: [Known; 2] = [("name", Kind::Text), ("secret", Kind::Text)];
+
+/// The keys of a neighbour.
+const NEIGHBOUR: [Known; 7] = [
+    ("kind", Kind::Text),
+    ("protocol", Kind::Text),
+    ("address", Kind::Text),
+    ("query_port", Kind::Number),
+    ("http_port", Kind::Number),
+    ("weight", Kind::Number),
+    ("key", Kind::Text),
+];
+
+impl Kind {
+    // Whether a value is of this kind.
+    fn fits(self, value: &Value) -> bool {
+        match self {
+            Kind::Text => value.is_string(),
+            Kind::Number => is_whole(value),
+            Kind::Truth => value.is_boolean(),
+            Kind::List => value.is_array(),
+        }
+    }
+
+    // What is wrong with a value of another kind.
+    fn refusal(self) -> &'static str {
+        match self {
+            Kind::Text => "not a text",
+            Kind::Number => "not a whole number",
+            Kind::Truth => "neither true nor false",
+            Kind::List => "not a list",
+        }
+    }
+}
+
+// Whether a value is a number without a fraction, however large. Those past 64 bits are read as floats.
+fn is_whole(value: &Value) -> bool {
+    value.is_u64() || value.is_i64() || value.as_f64().is_some_and(|x| x >= 9.2e18 || x <= -9.2e18)
+}
+
+/// Checks the keys and kinds of a whole configuration. The first fault is told: of the configuration's
+/// own keys, then of its lists.
+pub(crate) fn check(alloc: Global, value: &Value) -> Result<(), Fault> {
+    check_object(alloc, value, Place::whole(), &TOP)?;
+    for (i, network) in items(value, "allowed").iter().enumerate() {
+        check_kind(alloc, Some(network), Place::item("allowed", i), Kind::Text)?;
+    }
+    for (i, key) in items(value, "keys").iter().enumerate() {
+        check_object(alloc, key, Place::item("keys", i), &KEY)?;
+    }
+    for (i, neighbour) in items(value, "neighbours").iter().enumerate() {
+        check_object(alloc, neighbour, Place::item("neighbours", i), &NEIGHBOUR)?;
+    }
+    Ok(())
+}
+
+/// The items of a list of an object.
+pub(crate) fn items<'a>(object: &'a Value, key: &str) -> &'a [Value] {
+    match object.get(key).and_then(Value::as_array) {
+        Some(items) => items.as_slice(),
+        None => &[],
+    }
+}
+
+// Checks that a value is an object with exactly these keys.
+fn check_object(
+    alloc: Global,
+    value: &Value,
+    place: Place<'_>,
+    known: &[Known],
+) -> Result<(), Fault> {
+    let Some(members) = value.as_object() else {
+        return Err(Fault::shape(alloc, place, "not an object"));
+    };
+    for (key, kind) in known {
+        check_kind(alloc, members.get(*key), place.key(*key), *kind)?;
+    }
+    check_known(alloc, members, place, known)
+}
+
+// Checks that there are no keys but these.
+fn check_known(
+    alloc: Global,
+    members: &Map<String, Value>,
+    place: Place<'_>,
+    known: &[Known],
+) -> Result<(), Fault> {
+    for key in members.keys() {
+        if !is_known(key.as_str(), known) {
+            return Err(unknown(alloc, place, key.as_str()));
+        }
+    }
+    Ok(())
+}
+
+// A key that is not known. One that would not print on a line of its own is quoted.
+fn unknown(alloc: Global, place: Place<'_>, key: &str) -> Fault {
+    if !key.is_empty() && key.bytes().all(|c| 0x21 <= c && c <= 0x7e) {
+        Fault::shape(alloc, place.key(key), "unknown")
+    } else {
+        Fault::unknown(alloc, place, key)
+    }
+}
+
+// Whether a key is one of these.
+fn is_known(key: &str, known: &[Known]) -> bool {
+    known.iter().any(|(word, _)| *word == key)
+}
+
+// Checks that a value is there and of this kind.
+fn check_kind(
+    alloc: Global,
+    value: Option<&Value>,
+    place: Place<'_>,
+    kind: Kind,
+) -> Result<(), Fault> {
+    match value {
+        None => Err(Fault::shape(alloc, place, "missing")),
+        Some(value) if kind.fits(value) => Ok(()),
+        Some(_) => Err(Fault::shape(alloc, place, kind.refusal())),
+    }
+}

@@ -1,0 +1,129 @@
+//! The values of a configuration.
+ghost use Rattle.std.specs.Prelude.{◌≤◌, IfOk};
+
+use crate::fault::Fault;
+use crate::place::Place;
+use node_core::Network;
+use serde_json::Value;
+use std::alloc::{AllocError, Global};
+use std::net::Ipv4Addr;
+
+/// A text of an object.
+pub(crate) fn text<'a>(
+    alloc: Global,
+    object: &'a Value,
+    place: Place<'_>,
+) -> Result<&'a str, Fault> {
+    match object.get(place.name()).and_then(Value::as_str) {
+        Some(text) => Ok(text),
+        None => Err(Fault::shape(alloc, place, "not a text")),
+    }
+}
+
+/// A truth value of an object.
+pub(crate) fn truth(alloc: Global, object: &Value, place: Place<'_>) -> Result<bool, Fault> {
+    match object.get(place.name()).and_then(Value::as_bool) {
+        Some(truth) => Ok(truth),
+        None => Err(Fault::shape(alloc, place, "neither true nor false")),
+    }
+}
+
+/// A number of an object, within its range.
+pub(crate) fn number(
+    alloc: Global,
+    object: &Value,
+    place: Place<'_>,
+    least: u64,
+    most: u64,
+) -> Result<u64, Fault>
+    ensures { IfOk result (λ n. (least ≤ n) × (n ≤ most)) }
+{
+    let Some(value) = object.get(place.name()) else {
+        return Err(Fault::shape(alloc, place, "missing"));
+    };
+    match value.as_u64() {
+        Some(n) if least <= n && n <= most => Ok(n),
+        _ => Err(out_of_range(alloc, value, place, least, most)),
+    }
+}
+
+// What is wrong with a number outside of its range.
+fn out_of_range(alloc: Global, value: &Value, place: Place<'_>, least: u64, most: u64) -> Fault {
+    let Ok(text) = shown(alloc, value) else {
+        return Fault::Memory;
+    };
+    let is_below = match value.as_u64() {
+        Some(n) => n < least,
+        None => value.as_f64().is_some_and(|x| x < 0.0),
+    };
+    if is_below {
+        Fault::bound(alloc, place, text.as_str(), "below", least)
+    } else {
+        Fault::bound(alloc, place, text.as_str(), "above", most)
+    }
+}
+
+// A number as it is written, but one of over 64 bits, of which not all digits are kept.
+fn shown(alloc: Global, value: &Value) -> Result<String, AllocError> {
+    if value.is_f64() {
+        String::from_str(alloc, "a number of over 64 bits")
+    } else {
+        value.to_string(alloc)
+    }
+}
+
+/// A port of an object.
+pub(crate) fn port(alloc: Global, object: &Value, place: Place<'_>) -> Result<u16, Fault> {
+    Ok(number(alloc, object, place, 0, 65_535)? as u16)
+}
+
+/// An address of an object, as `10.0.0.1`.
+pub(crate) fn address(alloc: Global, object: &Value, place: Place<'_>) -> Result<[u8; 4], Fault> {
+    let text = text(alloc, object, place)?;
+    match text.parse::<Ipv4Addr>() {
+        Ok(address) => Ok(address.octets()),
+        Err(_) => Err(Fault::text(alloc, place, text, "is no address")),
+    }
+}
+
+/// A network, as `10.0.0.0/8`.
+pub(crate) fn network(alloc: Global, value: &Value, place: Place<'_>) -> Result<Network, Fault> {
+    let Some(text) = value.as_str() else {
+        return Err(Fault::shape(alloc, place, "not a text"));
+    };
+    match network_of(text) {
+        Some(network) => Ok(network),
+        None => Err(Fault::text(alloc, place, text, "is no network")),
+    }
+}
+
+// The network that a text spells.
+fn network_of(text: &str) -> Option<Network> {
+    let (address, bits) = text.split_once('/')?;
+    let addr = address.parse::<Ipv4Addr>().ok()?.octets();
+    if !bits.bytes().all(|c| c.is_ascii_digit()) {
+        return None;
+    }
+    let prefix = bits.parse::<u8>().ok()?;
+    if prefix <= 32 {
+        Some(Network { addr, prefix })
+    } else {
+        None
+    }
+}
+
+/// A name of visible ASCII.
+pub(crate) fn visible<'a>(
+    alloc: Global,
+    object: &'a Value,
+    place: Place<'_>,
+) -> Result<&'a str, Fault> {
+    let text = text(alloc, object, place)?;
+    if text.is_empty() {
+        return Err(Fault::value(alloc, place, "empty"));
+    }
+    if !text.bytes().all(|c| 0x21 <= c && c <= 0x7e) {
+        return Err(Fault::text(alloc, place, text, "has an octet outside 0x21 to 0x7e"));
+    }
+    Ok(text)
+}
