@@ -14,7 +14,7 @@ ghost use Rattle.node_book.specs.Book.{IsLegal, begun, count_of, turned, written
 
 use crate::NoMemory;
 use crate::image::Image;
-use crate::stand_in::{same_event, same_tally};
+use crate::comparing::{same_event, same_tally};
 use node_core::{Event, Node, Out, Tally, append_law};
 use object_store::CacheKey;
 use std::alloc::Global;

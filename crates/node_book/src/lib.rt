@@ -11,7 +11,7 @@ mod lone;
 mod seat;
 mod seated;
 mod settle;
-mod stand_in;
+mod comparing;
 
 pub use booked::{BookFault, Booked, Entry, MOST_VOLUME, Receipt, TakeFault, Volume};
 pub use clerk::{Clerk, Gate};

@@ -1,44 +1,14 @@
-//! Stands for what is not there yet: events and tallies compared by value.
+//! Events and what they hold, compared by value.
 ghost use Rattle.std.specs.Prelude.{◌≡◌, ◌↔◌, IsTrue};
 ghost use Rattle.std.specs.Arc.{arc_value};
 ghost use Rattle.std.specs.Option.{option_map};
-ghost use Rattle.object_store.specs.Object.{head_of};
 ghost use Rattle.node_core.specs.Happening.{arrives, asks, ends, happening, leaves, swaps, ticks};
 
 use bpf_check::Checked;
-use filter_slots::{Datagram, Moment, Socket};
+use filter_slots::{Datagram, Moment, Socket, same_datagram};
 use node_core::{Event, Mode, Outcome, Tally};
-use object_store::{CacheKey, Object};
+use object_store::{CacheKey, same_object};
 use std::sync::Arc;
-
-/// Whether two objects are equal: in status, head, body, age and life.
-pub fn same_object(a: &Object, b: &Object) -> bool
-    ensures { IsTrue result ↔ (a.now ≡ b.now) }
-{
-    a.digest() == b.digest()
-        && a.status() == b.status()
-        && a.age() == b.age()
-        && a.life() == b.life()
-        && a.body() == b.body()
-        && same_head(a.head(), b.head())
-}
-
-// Whether two heads have the same fields in the same order.
-fn same_head(a: &[(Vec<u8>, Vec<u8>)], b: &[(Vec<u8>, Vec<u8>)]) -> bool
-    ensures { IsTrue result ↔ (head_of a.now ≡ head_of b.now) }
-{
-    a == b
-}
-
-/// Whether two datagrams came in by one socket, have the same ends and the same payload.
-pub fn same_datagram(a: &Datagram, b: &Datagram) -> bool
-    ensures { IsTrue result ↔ (a.now ≡ b.now) }
-{
-    a.socket() == b.socket()
-        && a.from() == b.from()
-        && a.to() == b.to()
-        && a.payload() == b.payload()
-}
 
 /// Whether two tallies are equal.
 pub fn same_tally(a: &Tally, b: &Tally) -> bool
