@@ -1,4 +1,5 @@
 pub mod Datagram
 pub mod Cut
 pub mod Filters
+pub mod Judged
 pub mod Verdict

@@ -5,6 +5,7 @@
 pub mod comparing;
 pub mod cutting;
 pub mod datagram;
+pub mod judged;
 pub mod laws;
 pub mod slots;
 
@@ -13,6 +14,7 @@ pub use bpf_run::{End, Moment, Socket, Verdict};
 pub use comparing::same_datagram;
 pub use cutting::cut;
 pub use datagram::{Datagram, both_ends};
+pub use judged::Judged;
 pub use slots::Slots;
 pub use std::alloc::AllocError as NoMemory;
 

@@ -1,6 +1,6 @@
 //! One datagram under each program, and slots that are filled, shared and emptied.
 
-use crate::{Checked, Datagram, End, Slots, Socket, Verdict, cut};
+use crate::{Checked, Datagram, End, Judged, Slots, Socket, Verdict, cut};
 use bpf_check::{Insn, check};
 use std::sync::Arc;
 use std::test::Fail;
@@ -140,5 +140,34 @@ fn ends_and_length(rt: HostRuntime) -> Result<(), Fail> {
     let payload = [7; 65_508].to_vec(rt.alloc())?;
     let refused = Datagram::new(Socket::Icp, FROM, TO, payload).err();
     assert_eq!(rt; refused.map(|octets| octets.len()), Some(65_508));
+    Ok(())
+}
+
+// The limit of the program that a datagram is judged by, the one that is installed then, and the
+// verdict in force.
+const JUDGED: [(Option<u32>, Option<u32>, u32); 5] = [
+    (None, None, WHOLE),
+    (Some(40), Some(40), 40),
+    (Some(40), Some(0), 0),
+    (Some(40), None, WHOLE),
+    (None, Some(29), 29),
+];
+
+#[test]
+fn judged_datagrams(rt: HostRuntime) -> Result<(), Fail> {
+    for (held, put, verdict) in JUDGED {
+        let program = match held {
+            None => None,
+            Some(k) => Some(limit(&rt, k)?),
+        };
+        let datagram = Arc::new(rt.alloc(), query(&rt, Socket::Icp)?)?;
+        let judged = Judged::new(datagram, program);
+        assert_eq!(rt; judged.verdict().value, held.unwrap_or(WHOLE));
+        let mut slots = Slots::new();
+        if let Some(k) = put {
+            slots.install(Socket::Icp, limit(&rt, k)?);
+        }
+        assert_eq!(rt; slots.force_judged(&judged).value, verdict);
+    }
     Ok(())
 }

@@ -16,6 +16,8 @@ use Rattle.plain_node.specs.Plain.{PlainEvent, plain_step}
 use Rattle.node_core.specs.Kept.{kept, kept_event, kept_places, present, filters_after, swapped}
 use Rattle.node_core.specs.Run.{run_node, run_actions, laid_out, answers}
 use Rattle.node_core.specs.State.{State, HasTaken}
+use Rattle.node_core.specs.Swaps.{PutsInAccepted}
+use Rattle.node_core.proofs.Swaps.{accepted-joined}
 use Rattle.node_core.specs.Counters.{plus, counted, counted_at, count_of, is_icp, is_htcp, is_rejected, is_cut, is_malformed}
 
 pub filters_after-append : (filters : Filters) (xs ys : List Happening) → filters_after filters (xs ++ ys) ≡ filters_after (filters_after filters xs) ys
@@ -53,6 +55,21 @@ answers-append node filters xs ys =
     rw (kept_places-append filters xs ys, present-append (kept_places filters xs) (kept_places (filters_after filters xs) ys), run_actions-append node (kept filters xs) (kept (filters_after filters xs) ys))
     (laid_out-append node (kept_places filters xs) (kept_places (filters_after filters xs) ys) (run_actions (run_node node (kept filters xs)) (kept (filters_after filters xs) ys)))
 
+length-laid_out : (places : List (Option PlainEvent)) (lists : List (List Action)) → length (laid_out places lists) ≡ length places
+length-laid_out [] lists = refl
+length-laid_out (None ∷ places) lists = rw (length-laid_out places lists) refl
+length-laid_out (Some event ∷ places) [] = rw (length-laid_out places []) refl
+length-laid_out (Some event ∷ places) (list ∷ lists) = rw (length-laid_out places lists) refl
+
+length-kept_places : (filters : Filters) (events : List Happening) → length (kept_places filters events) ≡ length events
+length-kept_places filters [] = refl
+length-kept_places filters (x ∷ events) = rw (length-kept_places (swapped filters x) events) refl
+
+-- a list of actions for each event
+pub length-answers : (node : PlainNode) (filters : Filters) (events : List Happening) → length (answers node filters events) ≡ length events
+length-answers node filters events =
+    length-laid_out (kept_places filters events) (run_actions node (kept filters events)) ∙ length-kept_places filters events
+
 count_of-append : (here : Socket → Bool) (test : Filters → DatagramFields → Bool) (filters : Filters) (xs ys : List Happening) → count_of here test filters (xs ++ ys) ≡ count_of here test filters xs + count_of here test (filters_after filters xs) ys
 count_of-append here test filters [] ys = omega arith
 count_of-append here test filters (x ∷ xs) ys = omega (arith, count_of-append here test (swapped filters x) xs ys)
@@ -86,6 +103,10 @@ take_more-happening events event i lt is =
 pub HasTaken-more : (old mid new : State) (events : List Event) (event : Event) (i : ℕ) (outs after : List (List Action)) (actions : List Action) → i < length events → event ≡ get_or events i event → after ≡ outs ++ actions ∷ [] → HasTaken old mid (take i (map happening events)) outs → HasTaken mid new (happening event ∷ []) (actions ∷ []) → HasTaken old new (take (i + 1) (map happening events)) after
 HasTaken-more old mid new events event i outs after actions lt is more so_far one =
     rw (take_more-happening events event i lt is, more) (HasTaken-append old mid new (take i (map happening events)) (happening event ∷ []) outs (actions ∷ []) so_far one)
+
+pub accepted-more : (events : List Event) (event : Event) (i : ℕ) → i < length events → event ≡ get_or events i event → PutsInAccepted (take i (map happening events)) → PutsInAccepted (happening event ∷ []) → PutsInAccepted (take (i + 1) (map happening events))
+accepted-more events event i lt is so_far one =
+    rw (take_more-happening events event i lt is) (accepted-joined (take i (map happening events)) (happening event ∷ []) so_far one)
 
 pub kept_places-between : (filters : Filters) (before after : List Happening) (event : Happening) → kept_places filters (before ++ event ∷ after) ≡ kept_places filters before ++ kept_event (filters_after filters before) event ∷ kept_places (filters_after filters (before ++ event ∷ [])) after
 kept_places-between filters before after event = rw (filters_after-append filters before (event ∷ [])) (kept_places-append filters before (event ∷ after))

@@ -1,5 +1,5 @@
 -- The filters after events are those of the last swaps.
-use Rattle.std.proofs.Common.{◌≡◌, List, [], ◌∷◌, Option, Some, None, refl, ap, sym, ◌∙◌}
+use Rattle.std.proofs.Common.{◌≡◌, List, [], ◌∷◌, ◌++◌, Option, Some, None, refl, ap, sym, ◌∙◌}
 use Rattle.std.specs.Prelude.{unwrap_or, IfSome}
 use Rattle.bpf_run.specs.declared.ends.Socket.{Socket}
 use Rattle.bpf_run.specs.declared.ends.Socket.TheVariants.{Icp, Htcp}
@@ -46,3 +46,12 @@ accepted-after filters (ends number attempt outcome now ∷ events) accepted fin
 accepted-after filters (leaves client ∷ events) accepted fine = accepted-after filters events accepted fine
 accepted-after filters (swaps socket program ∷ events) accepted fine =
     accepted-after (with_slot filters socket program) events (accepted-with socket filters program accepted fine.0) fine.1
+
+pub accepted-joined : (xs ys : List Happening) → PutsInAccepted xs → PutsInAccepted ys → PutsInAccepted (xs ++ ys)
+accepted-joined [] ys first later = later
+accepted-joined (arrives datagram now ∷ xs) ys first later = accepted-joined xs ys first later
+accepted-joined (asks client key mode now ∷ xs) ys first later = accepted-joined xs ys first later
+accepted-joined (ticks now ∷ xs) ys first later = accepted-joined xs ys first later
+accepted-joined (ends number attempt outcome now ∷ xs) ys first later = accepted-joined xs ys first later
+accepted-joined (leaves client ∷ xs) ys first later = accepted-joined xs ys first later
+accepted-joined (swaps socket program ∷ xs) ys first later = (first.0, accepted-joined xs ys first.1 later)

@@ -1,14 +1,13 @@
 -- A node as contracts see it, and what it is for it to have taken events.
 use Rattle.std.specs.Prelude.{◌≡◌, ℕ, Bool, true, false, List, [], ◌∷◌, Option, Some, None}
-use Rattle.bpf_run.specs.declared.ends.Socket.{Socket}
 use Rattle.filter_slots.specs.Filters.{Filters, no_filters}
-use Rattle.pending_fetch.specs.Fetches.{fetch_of, waits}
+use Rattle.pending_fetch.specs.Fetches.{fetch_of}
 use Rattle.plain_node.specs.declared.action.Action.{Action}
 use Rattle.plain_node.specs.Settings.{Setup}
-use Rattle.plain_node.specs.PlainNode.{PlainNode}
+use Rattle.plain_node.specs.PlainNode.{PlainNode, moved}
 use Rattle.plain_node.specs.Plain.{PlainEvent, Arrived, Requested, Ticked, Ended, Left}
 use Rattle.plain_node.specs.Opening.{opening_node}
-use Rattle.plain_node.specs.Memory.{serves_none, sends_none, asks_clear}
+use Rattle.plain_node.specs.Memory.{ends_none, sends_none, asks_none, writes_key_at}
 use Rattle.node_core.specs.declared.stats.Counters.{Counters}
 use Rattle.node_core.specs.declared.stats.Stats.{Stats}
 use Rattle.node_core.specs.Happening.{Happening, arrives, asks, ticks, ends, leaves, swaps}
@@ -52,23 +51,24 @@ state_after old event = record {
 abbrev pub actions_at : State → Happening → List Action
 actions_at old event = actions_of old.plain (kept_event old.filters event)
 
--- whether what is kept of an event is an HTCP request to clear
-abbrev pub keeps_clear : Option PlainEvent → Bool
-keeps_clear None = false
-keeps_clear (Some (Arrived datagram now)) = asks_clear datagram.socket datagram.payload
-keeps_clear (Some (Requested client key mode now)) = false
-keeps_clear (Some (Ticked now)) = false
-keeps_clear (Some (Ended number attempt outcome now)) = false
-keeps_clear (Some (Left client)) = false
+-- whether the key of what is kept of an event has to be written, at its moment
+abbrev pub keeps_key : PlainNode → Option PlainEvent → Bool
+keeps_key node None = false
+keeps_key node (Some (Arrived datagram now)) = writes_key_at (moved node now) datagram datagram.socket
+keeps_key node (Some (Requested client key mode now)) = false
+keeps_key node (Some (Ticked now)) = false
+keeps_key node (Some (Ended number attempt outcome now)) = false
+keeps_key node (Some (Left client)) = false
 
--- an event takes no memory: a datagram for which no datagram is sent and which asks for nothing to be cleared, such as a rejected one, a
--- request of a client that waits already, a tick, a result that serves no object, a client that goes away, and a swap that empties a slot
+-- an event takes no memory: a datagram for which none is sent and no key is written, such as a rejected one; a request that joins a fetch
+-- or is told a status; a tick; a result whose object isn't used; a client that goes away; and a swap that empties a slot
 abbrev pub TakesNone : State → Happening → Type 0
 TakesNone old (arrives datagram now) =
-    (sends_none (actions_at old (arrives datagram now)) ≡ true) × (keeps_clear (kept_event old.filters (arrives datagram now)) ≡ false)
-TakesNone old (asks client key mode now) = waits client old.plain.fetches.list ≡ true
+    (sends_none (actions_at old (arrives datagram now)) ≡ true)
+    × (keeps_key old.plain (kept_event old.filters (arrives datagram now)) ≡ false)
+TakesNone old (asks client key mode now) = asks_none (moved old.plain now) client key mode ≡ true
 TakesNone old (ticks now) = Unit {0}
 TakesNone old (ends number attempt outcome now) =
-    serves_none old.plain attempt outcome (fetch_of number old.plain.fetches.list) ≡ true
+    ends_none old.plain attempt outcome (fetch_of number old.plain.fetches.list) ≡ true
 TakesNone old (leaves client) = Unit {0}
 TakesNone old (swaps socket program) = program ≡ None

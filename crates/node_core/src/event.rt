@@ -1,4 +1,8 @@
 //! What happens to a node.
+ghost use Rattle.std.specs.Prelude.{◌∷◌, []};
+ghost use Rattle.node_core.specs.Happening.{happening};
+ghost use Rattle.node_core.specs.Swaps.{PutsInAccepted};
+
 use bpf_check::Checked;
 use filter_slots::{Datagram, Moment, Socket};
 use object_store::CacheKey;
@@ -40,4 +44,17 @@ pub enum Event {
         socket: Socket,
         program: Option<Arc<Checked>>,
     },
+}
+
+impl Event {
+    /// Does nothing. Its contract says that a program that is put in is one that the checker accepts.
+    pub fn facts(&self)
+        ensures { PutsInAccepted (happening self.now ∷ []) }
+    {
+        if let Event::Swap { program, .. } = self {
+            if let Some(program) = program {
+                let _ = program.insns();
+            }
+        }
+    }
 }

@@ -1,5 +1,5 @@
 //! Laws of the definitions, for the layers above.
-ghost use Rattle.std.specs.Prelude.{◌≡◌, ℕ, List, ◌∷◌, [], ◌++◌, unwrap_or};
+ghost use Rattle.std.specs.Prelude.{◌≡◌, ℕ, List, ◌∷◌, [], ◌++◌, length, unwrap_or};
 ghost use Rattle.bpf_run.specs.declared.ends.Socket.{Socket};
 ghost use Rattle.filter_slots.specs.Datagram.{DatagramFields};
 ghost use Rattle.filter_slots.specs.Filters.{Filters, slot, AreAccepted};
@@ -13,12 +13,18 @@ ghost use Rattle.node_core.specs.Run.{run_node, answers};
 ghost use Rattle.node_core.specs.Counters.{counted};
 ghost use Rattle.node_core.specs.State.{State, HasTaken, state_after, actions_at};
 
-/// Taking more events goes on from what the events before left: one event, or a list of them.
+/// Taking no event changes nothing, and taking more events goes on from what the events before left: one event, or a list of
+/// them. There is a list of actions for each event, and those of joined lists are joined.
 pub fn append_law()
+    ensures none { (state : State) → HasTaken state state [] [] }
     ensures one { (old mid new : State) (events : List Happening) (event : Happening) (outs : List (List Action)) (actions : List Action) →
         HasTaken old mid events outs → HasTaken mid new (event ∷ []) (actions ∷ []) → HasTaken old new (events ++ event ∷ []) (outs ++ actions ∷ []) }
     ensures list { (old mid new : State) (events more : List Happening) (outs lists : List (List Action)) →
         HasTaken old mid events outs → HasTaken mid new more lists → HasTaken old new (events ++ more) (outs ++ lists) }
+    ensures answers { (node : PlainNode) (filters : Filters) (before after : List Happening) →
+        answers node filters (before ++ after)
+        ≡ answers node filters before ++ answers (run_node node (kept filters before)) (filters_after filters before) after }
+    ensures count { (node : PlainNode) (filters : Filters) (events : List Happening) → length (answers node filters events) ≡ length events }
 {}
 
 /// Taking one event reaches one state by one list of actions, and what is taken after it is taken from there.
@@ -54,9 +60,6 @@ pub fn rejected_law()
         verdict_in_force (filters_after filters before) datagram ≡ 0 →
         answers node filters (before ++ arrives datagram now ∷ after)
         ≡ answers node filters before ++ [] ∷ answers (run_node node (kept filters before)) (filters_after filters before) after }
-    ensures without { (node : PlainNode) (filters : Filters) (before after : List Happening) →
-        answers node filters (before ++ after)
-        ≡ answers node filters before ++ answers (run_node node (kept filters before)) (filters_after filters before) after }
 {}
 
 /// What is kept at a place among events is what is kept of that event under the filters after the events before it.
@@ -73,8 +76,9 @@ pub fn filters_law()
 {}
 
 /// Where each program that is put in is one that the checker accepts, so is each program in force: the verdicts in force are then
-/// those of the programs' one run.
+/// those of the programs' one run. Of joined lists each program is accepted where it is of both.
 pub fn accepted_law()
-    ensures { (filters : Filters) (events : List Happening) →
+    ensures after { (filters : Filters) (events : List Happening) →
         AreAccepted filters → PutsInAccepted events → AreAccepted (filters_after filters events) }
+    ensures joined { (before after : List Happening) → PutsInAccepted before → PutsInAccepted after → PutsInAccepted (before ++ after) }
 {}

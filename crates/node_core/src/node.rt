@@ -1,12 +1,18 @@
 //! The node: filters in front of the plain node, counters beside it.
-ghost use Rattle.std.specs.Prelude.{◌≡◌, ◌∷◌, [], true, false, IfOk, IfErr, OnOk, OnErr, IsOk, None, unwrap_or, option_copied};
+ghost use Rattle.std.specs.Prelude.{◌≡◌, ◌≤◌, ◌∷◌, [], length, true, false, IfOk, IfErr, OnOk, OnErr, IsOk, None, unwrap_or, option_copied};
 ghost use Rattle.std.specs.Option.{option_map};
 ghost use Rattle.std.specs.Arc.{arc_value};
 ghost use Rattle.filter_slots.specs.Filters.{AreAccepted, with_slot};
-ghost use Rattle.pending_fetch.specs.Fetches.{PendingFetch, fetch_of, waits};
+ghost use Rattle.filter_slots.specs.Verdict.{verdict_in_force};
+ghost use Rattle.neighbours.specs.Faults.{IsTable};
+ghost use Rattle.object_store.specs.Store.{IsStore};
+ghost use Rattle.pending_fetch.specs.Legal.{IsLegal};
+ghost use Rattle.node_core.specs.Swaps.{PutsInAccepted};
+ghost use Rattle.pending_fetch.specs.Fetches.{PendingFetch, fetch_of};
+ghost use Rattle.plain_node.specs.PlainNode.{moved};
 ghost use Rattle.plain_node.specs.Settings.{setup_of, setup_fault};
 ghost use Rattle.plain_node.specs.Plain.{Requested, Ticked, Ended, Left, plain_step};
-ghost use Rattle.node_core.specs.Happening.{happening};
+ghost use Rattle.node_core.specs.Happening.{happening, arrives};
 ghost use Rattle.node_core.specs.Kept.{kept_datagram};
 ghost use Rattle.node_core.specs.Run.{plain_after, actions_of};
 ghost use Rattle.node_core.specs.Raised.{counted_datagram};
@@ -15,7 +21,7 @@ use crate::NoMemory;
 use crate::event::Event;
 use crate::stats::{Counters, Stats};
 use bpf_check::Checked;
-use filter_slots::{Datagram, Moment, Slots, Socket, cut};
+use filter_slots::{Datagram, Judged, Moment, Slots, Socket, cut};
 use object_store::CacheKey;
 use plain_node::{Config, Core, Mode, NodeFault, Out, Outcome};
 use std::alloc::Global;
@@ -39,8 +45,8 @@ impl Model for Node {
 }
 
 impl Node {
-    ghost use Rattle.node_core.specs.State.{HasTaken, TakesNone, opening, keeps_clear};
-    ghost use Rattle.plain_node.specs.Memory.{sends_none, serves_none};
+    ghost use Rattle.node_core.specs.State.{HasTaken, TakesNone, opening, keeps_key};
+    ghost use Rattle.plain_node.specs.Memory.{sends_none, asks_none, ends_none};
 
     /// The node of a configuration, with no filter, nothing stored, nothing pending and nothing counted. Errors: what is wrong
     /// with the neighbours and keys, else a prefix or a limit out of its range, else that there was no memory.
@@ -83,9 +89,57 @@ impl Node {
         self.core.key_of(fetch)
     }
 
-    /// Takes one event, and writes its actions to an empty `out`. An error says that there was no memory, or that a
-    /// program has too many owners: the node is as before, and `out` is empty.
+    /// What holds at every time: the pending fetches, the store and the neighbours are within their limits, and each program
+    /// in force is one that the checker accepts. It does nothing.
+    pub fn facts(&self)
+        ensures legal { IsLegal self.now.plain.fetches.list }
+        ensures store { IsStore self.now.plain.store }
+        ensures rows { IsTable self.now.plain.rows }
+        ensures accepted { AreAccepted self.now.filters }
+    {
+        self.core.facts();
+        self.slots.facts();
+    }
+
+    /// Takes one event, and writes its actions to an empty `out`, at most 1,344. An error says that there was no memory, or that
+    /// a program has too many owners: the node is as before, and `out` is empty.
     pub fn step(&mut self, alloc: Global, event: &Event, out: &mut Out) -> Result<(), NoMemory>
+        requires { out.old ≡ [] }
+        ensures taken { OnOk result (HasTaken self.old self.new (happening event.now ∷ []) (out.new ∷ [])) }
+        ensures refused { OnErr result ((self.new ≡ self.old) × (out.new ≡ [])) }
+        ensures without_memory { TakesNone self.old (happening event.now) → IsOk result }
+        ensures room { length out.new ≤ 1344 }
+        ensures accepted { PutsInAccepted (happening event.now ∷ []) }
+    {
+        event.facts();
+        let result = self.take(alloc, event, out);
+        out.facts();
+        result
+    }
+
+    /// Takes one datagram that is judged already. Its verdict counts where its program is equal to the one in force, or both have
+    /// none; otherwise the datagram is judged here. So it is taken exactly as by `step`, and errors are those of `step`.
+    pub fn step_judged(
+        &mut self,
+        alloc: Global,
+        judged: &Judged,
+        now: Moment,
+        out: &mut Out,
+    ) -> Result<(), NoMemory>
+        requires { out.old ≡ [] }
+        ensures taken { OnOk result (HasTaken self.old self.new (arrives judged.now.datagram now ∷ []) (out.new ∷ [])) }
+        ensures refused { OnErr result ((self.new ≡ self.old) × (out.new ≡ [])) }
+        ensures without_memory { TakesNone self.old (arrives judged.now.datagram now) → IsOk result }
+        ensures room { length out.new ≤ 1344 }
+    {
+        let verdict = self.slots.force_judged(judged).value;
+        let result = self.judged(alloc, judged.datagram(), verdict, now, out);
+        out.facts();
+        result
+    }
+
+    /// Takes one event.
+    fn take(&mut self, alloc: Global, event: &Event, out: &mut Out) -> Result<(), NoMemory>
         requires { out.old ≡ [] }
         ensures taken { OnOk result (HasTaken self.old self.new (happening event.now ∷ []) (out.new ∷ [])) }
         ensures refused { OnErr result ((self.new ≡ self.old) × (out.new ≡ [])) }
@@ -117,7 +171,7 @@ impl Node {
         }
     }
 
-    /// Judges a datagram, and hands on what its verdict lets through.
+    /// Judges a datagram, and takes what its verdict lets through.
     fn datagram(
         &mut self,
         alloc: Global,
@@ -131,15 +185,36 @@ impl Node {
         ensures filters { OnOk result (self.new.filters ≡ self.old.filters) }
         ensures stats { OnOk result (self.new.stats ≡ counted_datagram self.old.stats self.old.filters datagram.now) }
         ensures refused { OnErr result ((self.new ≡ self.old) × (out.new ≡ [])) }
-        ensures silent { sends_none (actions_of self.old.plain (kept_datagram self.old.filters datagram.now now)) ≡ true → keeps_clear (kept_datagram self.old.filters datagram.now now) ≡ false → IsOk result }
+        ensures silent { sends_none (actions_of self.old.plain (kept_datagram self.old.filters datagram.now now)) ≡ true → keeps_key self.old.plain (kept_datagram self.old.filters datagram.now now) ≡ false → IsOk result }
+    {
+        let verdict = self.slots.force(datagram).value;
+        self.judged(alloc, datagram, verdict, now, out)
+    }
+
+    /// Takes what its verdict in force lets through of a datagram.
+    fn judged(
+        &mut self,
+        alloc: Global,
+        datagram: &Datagram,
+        verdict: u32,
+        now: Moment,
+        out: &mut Out,
+    ) -> Result<(), NoMemory>
+        requires empty { out.old ≡ [] }
+        requires in_force { verdict ≡ verdict_in_force self.old.filters datagram.now }
+        ensures plain { OnOk result (self.new.plain ≡ plain_after self.old.plain (kept_datagram self.old.filters datagram.now now)) }
+        ensures actions { OnOk result (out.new ≡ actions_of self.old.plain (kept_datagram self.old.filters datagram.now now)) }
+        ensures filters { OnOk result (self.new.filters ≡ self.old.filters) }
+        ensures stats { OnOk result (self.new.stats ≡ counted_datagram self.old.stats self.old.filters datagram.now) }
+        ensures refused { OnErr result ((self.new ≡ self.old) × (out.new ≡ [])) }
+        ensures silent { sends_none (actions_of self.old.plain (kept_datagram self.old.filters datagram.now now)) ≡ true → keeps_key self.old.plain (kept_datagram self.old.filters datagram.now now) ≡ false → IsOk result }
     {
         let socket = datagram.socket();
-        let value = self.slots.force(datagram).value;
-        if value == 0 {
+        if verdict == 0 {
             self.stats = self.stats.raised(socket, true, false, false);
             return Ok(());
         }
-        let octets = cut(datagram, value);
+        let octets = cut(datagram, verdict);
         let malformed = self.core.datagram(alloc, datagram, octets, now, out)?;
         let shorter = octets.len() < datagram.payload().len();
         self.stats = self.stats.raised(socket, false, shorter, malformed);
@@ -162,7 +237,7 @@ impl Node {
         ensures filters { OnOk result (self.new.filters ≡ self.old.filters) }
         ensures stats { OnOk result (self.new.stats ≡ self.old.stats) }
         ensures refused { OnErr result ((self.new ≡ self.old) × (out.new ≡ [])) }
-        ensures silent { waits client self.old.plain.fetches.list ≡ true → IsOk result }
+        ensures silent { asks_none (moved self.old.plain now) client key.now mode ≡ true → IsOk result }
     {
         self.core.request(alloc, client, key, mode, now, out)
     }
@@ -193,7 +268,7 @@ impl Node {
         ensures filters { OnOk result (self.new.filters ≡ self.old.filters) }
         ensures stats { OnOk result (self.new.stats ≡ self.old.stats) }
         ensures refused { OnErr result ((self.new ≡ self.old) × (out.new ≡ [])) }
-        ensures silent { serves_none self.old.plain attempt outcome.now (fetch_of fetch self.old.plain.fetches.list) ≡ true → IsOk result }
+        ensures silent { ends_none self.old.plain attempt outcome.now (fetch_of fetch self.old.plain.fetches.list) ≡ true → IsOk result }
     {
         self.core.fetched(fetch, attempt, outcome, now, out)
     }

@@ -2,6 +2,7 @@
 ghost use Rattle.std.specs.Prelude.{◌≤◌, length, take, map, IfOk, IfErr};
 ghost use Rattle.node_core.specs.Happening.{happening};
 ghost use Rattle.node_core.specs.State.{HasTaken};
+ghost use Rattle.node_core.specs.Swaps.{PutsInAccepted};
 
 use crate::event::Event;
 use crate::node::Node;
@@ -23,6 +24,8 @@ pub fn run_events(alloc: Global, node: &mut Node, events: &[Event]) -> Result<Ve
     ensures all { IfOk result (λ outs. HasTaken node.old node.new (map happening events.now) outs.items) }
     ensures some { IfErr result (λ fault. (fault.done ≤ length events.now)
         × HasTaken node.old node.new (take fault.done (map happening events.now)) fault.outs.items) }
+    ensures accepted { IfOk result (λ outs. PutsInAccepted (map happening events.now)) }
+    ensures accepted_before { IfErr result (λ fault. PutsInAccepted (take fault.done (map happening events.now))) }
 {
     let mut outs = match Vec::with_capacity(alloc, events.len()) {
         Ok(outs) => outs,

@@ -1,5 +1,5 @@
 //! What a node wants done.
-ghost use Rattle.std.specs.Prelude.{◌≡◌, ◌<◌, ◌++◌, ◌∷◌, [], length, IfOk};
+ghost use Rattle.std.specs.Prelude.{◌≡◌, ◌<◌, ◌≤◌, ◌++◌, ◌∷◌, [], length, IfOk};
 
 use crate::NoMemory;
 use filter_slots::{End, Socket};
@@ -81,14 +81,14 @@ pub struct Out {
 }
 
 impl Model for Out {
-    ghost use Rattle.std.specs.Prelude.{List, ◌≤◌, vec_capacity};
+    ghost use Rattle.std.specs.Prelude.{List, ◌≤◌, length, vec_capacity};
     ghost use Rattle.plain_node.specs.declared.action.Action.{Action};
 
     ghost Value = { List Action };
 
     ghost view = { λ o. o.actions.items };
 
-    ghost invariant = { λ o. 1344 ≤ vec_capacity o.actions };
+    ghost invariant = { λ o. (1344 ≤ vec_capacity o.actions) × (length o.actions.items ≤ 1344) };
 }
 
 impl Out {
@@ -102,6 +102,13 @@ impl Out {
         Ok(Out {
             actions: Vec::with_capacity(alloc, Out::ROOM)?,
         })
+    }
+
+    /// Does nothing. Its contract says that there are at most 1,344 actions.
+    pub fn facts(&self)
+        ensures { length self.now ≤ 1344 }
+    {
+        let _ = &self.actions;
     }
 
     /// The actions, in order.

@@ -1,11 +1,13 @@
 //! The node without filters and counters.
 ghost use Rattle.std.specs.Prelude.{◌≡◌, ◌≤◌, ℕ, [], length, true, false, None, IfOk, IfErr, IsOk, OnOk, OnErr, option_copied, option_map, unwrap_or, if◌then◌else◌};
 ghost use Rattle.pending_fetch.specs.Fetches.{PendingFetch, fetch_of, changed, with_next, left, waiters_of};
+ghost use Rattle.neighbours.specs.Faults.{IsTable};
+ghost use Rattle.object_store.specs.Store.{IsStore};
 ghost use Rattle.pending_fetch.specs.Legal.{IsLegal};
 ghost use Rattle.plain_node.specs.Settings.{setup_of, setup_fault};
 ghost use Rattle.plain_node.specs.Plain.{Arrived, plain_step, is_no_message};
 ghost use Rattle.plain_node.specs.Opening.{opening_node};
-ghost use Rattle.plain_node.specs.Memory.{sends_none, asks_clear};
+ghost use Rattle.plain_node.specs.Memory.{sends_none, writes_key_at};
 ghost use Rattle.plain_node.specs.Fitting.{fault_after};
 ghost use Rattle.plain_node.specs.PlainNode.{moved, closed, with_fetches};
 
@@ -109,7 +111,7 @@ impl Core {
         ensures actions { OnOk result (out.new ≡ (plain_step self.old (Arrived (record datagram.now { payload = octets.now }) now)).1) }
         ensures malformed { IfOk result (λ malformed. malformed ≡ is_no_message datagram.now.socket octets.now) }
         ensures refused { OnErr result ((self.new ≡ self.old) × (out.new ≡ [])) }
-        ensures silent { sends_none (plain_step self.old (Arrived (record datagram.now { payload = octets.now }) now)).1 ≡ true → asks_clear datagram.now.socket octets.now ≡ false → IsOk result }
+        ensures silent { sends_none (plain_step self.old (Arrived (record datagram.now { payload = octets.now }) now)).1 ≡ true → writes_key_at (moved self.old now) (record datagram.now { payload = octets.now }) datagram.now.socket ≡ false → IsOk result }
     {
         match datagram.socket() {
             Socket::Icp => self.icp(alloc, datagram.from(), octets, now, out),
@@ -145,12 +147,16 @@ impl Core {
         self.pending.leave(client);
     }
 
-    /// What holds of the pending fetches at every time. It does nothing.
-    pub(crate) fn facts(&self)
+    /// What holds of the pending fetches, the store and the neighbours at every time. It does nothing.
+    pub fn facts(&self)
         ensures legal { IsLegal self.now.fetches.list }
         ensures few { (number : ℕ) → length (waiters_of number self.now.fetches.list) ≤ 1024 }
+        ensures store { IsStore self.now.store }
+        ensures rows { IsTable self.now.rows }
     {
         self.pending.facts();
+        self.store.facts();
+        self.table.facts();
     }
 
     /// The key of a pending fetch.

@@ -1,5 +1,5 @@
 //! HTCP messages, and what a request does.
-ghost use Rattle.std.specs.Prelude.{◌≡◌, ◌==◌, ◌<◌, ◌≤◌, ◌+◌, ℕ, [], length, drop, position, true, false, Some, None, IfOk, IsOk, OnOk, OnErr, IfSome, is_none, option_copied, if◌then◌else◌};
+ghost use Rattle.std.specs.Prelude.{◌≡◌, ◌==◌, ◌<◌, ◌≤◌, ◌+◌, ℕ, [], length, drop, position, true, false, Some, None, IfOk, IsOk, OnOk, OnErr, IfSome, unwrap_or, is_none, is_some, ◌&&◌, option_copied, if◌then◌else◌};
 ghost use Rattle.std.specs.Option.{option_map};
 ghost use Rattle.htcp_packet.specs.Message.{request_form};
 ghost use Rattle.htcp_packet.specs.Reading.{message_of};
@@ -8,10 +8,10 @@ ghost use Rattle.htcp_packet.specs.Writing.{FitsForm};
 ghost use Rattle.plain_node.specs.PlainNode.{moved};
 ghost use Rattle.plain_node.specs.Plain.{received_step, htcp_step};
 ghost use Rattle.plain_node.specs.Messages.{is_http};
-ghost use Rattle.plain_node.specs.HtcpRequests.{htcp_request_step, refusal, comes_to, served, uri_key, slash_behind_80, is_get_or_head, answer, answers_to, after_clear};
+ghost use Rattle.plain_node.specs.HtcpRequests.{htcp_request_step, refusal, comes_to, served, uri_key, slash_behind_80, is_get_or_head, answer, answers_to, after_clear, is_cleared};
 ghost use Rattle.plain_node.specs.Signatures.{Standing, standing, key_of_standing, text_to};
 ghost use Rattle.plain_node.specs.Signed.{shown_key, shown_standing, IsShortlyNamed, Suits, uri_in};
-ghost use Rattle.plain_node.specs.Memory.{sends_none, clears, is_clear};
+ghost use Rattle.plain_node.specs.Memory.{sends_none, is_clear, writes_key, writes_key_of};
 
 use crate::NoMemory;
 use crate::action::{Action, Out, Payload};
@@ -20,6 +20,7 @@ use crate::finding::Finding;
 use crate::signatures::{Judgement, Signer};
 use filter_slots::{Datagram, End, Moment, Socket};
 use htcp_packet::{HtcpAuth, HtcpBody, HtcpView, decode};
+use neighbours::Octets;
 use std::alloc::Global;
 
 impl Core {
@@ -38,7 +39,7 @@ impl Core {
         ensures actions { OnOk result (out.new ≡ (received_step (moved self.old now) datagram.now.from datagram.now.to (message_of octets.now)).1) }
         ensures malformed { IfOk result (λ malformed. malformed ≡ is_none (message_of octets.now)) }
         ensures refused { OnErr result ((self.new ≡ self.old) × (out.new ≡ [])) }
-        ensures silent { sends_none (received_step (moved self.old now) datagram.now.from datagram.now.to (message_of octets.now)).1 ≡ true → clears (message_of octets.now) ≡ false → IsOk result }
+        ensures silent { sends_none (received_step (moved self.old now) datagram.now.from datagram.now.to (message_of octets.now)).1 ≡ true → writes_key_of (moved self.old now) datagram.now.from datagram.now.to (message_of octets.now) ≡ false → IsOk result }
     {
         let Ok(view) = decode(octets) else {
             self.tick(now);
@@ -64,7 +65,7 @@ impl Core {
         ensures plain { OnOk result (self.new ≡ (htcp_step (moved self.old now) from to (received view.now) view.now.rr).0) }
         ensures actions { OnOk result (out.new ≡ (htcp_step (moved self.old now) from to (received view.now) view.now.rr).1) }
         ensures refused { OnErr result ((self.new ≡ self.old) × (out.new ≡ [])) }
-        ensures silent { sends_none (htcp_step (moved self.old now) from to (received view.now) view.now.rr).1 ≡ true → is_clear (shown_body view.now.body) ≡ false → IsOk result }
+        ensures silent { sends_none (htcp_step (moved self.old now) from to (received view.now) view.now.rr).1 ≡ true → writes_key_of (moved self.old now) from to (Some (received view.now)) ≡ false → IsOk result }
     {
         if view.rr {
             self.take_response(from, to, view, now, out);
@@ -73,7 +74,7 @@ impl Core {
         self.take_request(alloc, from, to, view, now, out)
     }
 
-    /// Takes a request.
+    /// Takes a request. Of one that is refused nothing is copied, and one that asks for no answer is looked at only where it clears.
     #[tactic(auto, unfolding(crate::specs::HtcpRequests::htcp_request_step))]
     fn take_request(
         &mut self,
@@ -90,21 +91,21 @@ impl Core {
         ensures plain { OnOk result (self.new ≡ (htcp_request_step (moved self.old now) from to (received view.now)).0) }
         ensures actions { OnOk result (out.new ≡ (htcp_request_step (moved self.old now) from to (received view.now)).1) }
         ensures refused { OnErr result ((self.new ≡ self.old) × (out.new ≡ [])) }
-        ensures silent { sends_none (htcp_request_step (moved self.old now) from to (received view.now)).1 ≡ true → is_clear (shown_body view.now.body) ≡ false → IsOk result }
+        ensures silent { sends_none (htcp_request_step (moved self.old now) from to (received view.now)).1 ≡ true → writes_key (moved self.old now) from (shown view.now) (standing (moved self.old now) from to (received view.now)) ≡ false → IsOk result }
     {
         if !view.f1 && !is_clear(&view.body) {
             self.tick(now);
             return Ok(());
         }
-        let key = uri_key(alloc, uri_in(&view.body))?;
         let clock = self.clock.later(now);
-        let finding = self.respond(alloc, clock, from, to, view, &key, out)?;
+        let (finding, written) = self.respond(alloc, clock, from, to, view, out)?;
         self.tick(now);
-        self.clear(finding, &view.body, &key);
+        self.clear(finding, &view.body, &written);
         Ok(())
     }
 
-    /// Finds what a request comes to at a moment, and sends the answer where one is asked for. The key is that of its URI.
+    /// Finds what a request comes to at a moment, and sends the answer where one is asked for. Gives the finding, and the key of
+    /// its URI where that had to be written.
     fn respond(
         &self,
         alloc: Global,
@@ -112,45 +113,70 @@ impl Core {
         from: End,
         to: End,
         view: &HtcpView<'_>,
-        key: &[u8],
         out: &mut Out,
-    ) -> Result<Finding, NoMemory>
+    ) -> Result<(Finding, Option<Octets>), NoMemory>
         requires empty { out.old ≡ [] }
         requires opcode { view.now.opcode < 16 }
         requires fits { FitsForm (request_form view.now.opcode) (shown_body view.now.body) }
-        requires key { key.now ≡ uri_key (uri_in (shown_body view.now.body)) }
-        ensures finding { IfOk result (λ finding. finding ≡ comes_to (record self.now { clock = clock }) (shown_body view.now.body) (refusal (record self.now { clock = clock }) from view.now.opcode (standing (record self.now { clock = clock }) from to (received view.now)))) }
-        ensures actions { IfOk result (λ finding. out.new ≡ answers_to (record self.now { clock = clock }) from (shown view.now) (standing (record self.now { clock = clock }) from to (received view.now)) finding view.now.f1) }
+        ensures finding { IfOk result (λ found. found.0 ≡ comes_to (record self.now { clock = clock }) (shown_body view.now.body) (refusal (record self.now { clock = clock }) from view.now.opcode (standing (record self.now { clock = clock }) from to (received view.now)))) }
+        ensures key { IfOk result (λ found. is_cleared found.0 ≡ true → unwrap_or found.1 (uri_in (shown_body view.now.body)) ≡ uri_key (uri_in (shown_body view.now.body))) }
+        ensures actions { IfOk result (λ found. out.new ≡ answers_to (record self.now { clock = clock }) from (shown view.now) (standing (record self.now { clock = clock }) from to (received view.now)) found.0 view.now.f1) }
         ensures refused { OnErr result (out.new ≡ []) }
+        ensures silent { view.now.f1 ≡ false → (is_none (refusal (record self.now { clock = clock }) from view.now.opcode (standing (record self.now { clock = clock }) from to (received view.now))) && is_some (slash_behind_80 (uri_in (shown_body view.now.body)))) ≡ false → IsOk result }
     {
         let judgement = self.judgement(view, from, to, clock);
-        let finding = self.finding(clock, from, view, &judgement, key);
-        if view.f1 {
-            let payload = self.answer_text(alloc, clock, from, view, finding, judgement.key())?;
+        let refusal = self.refusal(from, view.opcode, &judgement);
+        let written = written_unless(alloc, refusal, &view.body)?;
+        let finding = self.finding(clock, refusal, &view.body, &written);
+        self.answer_request(alloc, clock, from, view, finding, &judgement, out)?;
+        Ok((finding, written))
+    }
+
+    /// Sends the answer to a request at a moment, where one is asked for.
+    fn answer_request(
+        &self,
+        alloc: Global,
+        clock: Moment,
+        to: End,
+        request: &HtcpView<'_>,
+        finding: Finding,
+        judgement: &Judgement<'_>,
+        out: &mut Out,
+    ) -> Result<(), NoMemory>
+        requires empty { out.old ≡ [] }
+        requires opcode { request.now.opcode < 16 }
+        requires suits { Suits request.now.opcode finding }
+        requires named { IsShortlyNamed (key_of_standing (shown_standing judgement.now)) }
+        ensures actions { OnOk result (out.new ≡ answers_to (record self.now { clock = clock }) to (shown request.now) (shown_standing judgement.now) finding request.now.f1) }
+        ensures refused { OnErr result (out.new ≡ []) }
+        ensures silent { request.now.f1 ≡ false → IsOk result }
+    {
+        if request.f1 {
+            let payload = self.answer_text(alloc, clock, to, request, finding, judgement.key())?;
             out.push(Action::Send {
                 socket: Socket::Htcp,
-                to: from,
+                to,
                 payload,
             });
         }
-        Ok(finding)
+        Ok(())
     }
 
-    /// What a request comes to at a moment. The key is that of its URI.
+    /// What a request comes to at a moment, where it is refused with this code or none. The key of its URI is given where it had to
+    /// be written.
     fn finding(
         &self,
         clock: Moment,
-        from: End,
-        view: &HtcpView<'_>,
-        judgement: &Judgement<'_>,
-        key: &[u8],
+        refusal: Option<u8>,
+        body: &HtcpBody<'_>,
+        written: &Option<Octets>,
     ) -> Finding
-        requires key { key.now ≡ uri_key (uri_in (shown_body view.now.body)) }
-        ensures { result ≡ comes_to (record self.now { clock = clock }) (shown_body view.now.body) (refusal (record self.now { clock = clock }) from view.now.opcode (shown_standing judgement.now)) }
+        requires key { refusal ≡ None → unwrap_or written.now (uri_in (shown_body body.now)) ≡ uri_key (uri_in (shown_body body.now)) }
+        ensures { result ≡ comes_to (record self.now { clock = clock }) (shown_body body.now) refusal }
     {
-        match self.refusal(from, view.opcode, judgement) {
+        match refusal {
             Some(code) => Finding::Refused(code),
-            None => self.served(clock, &view.body, key),
+            None => self.served(clock, body, written),
         }
     }
 
@@ -174,14 +200,15 @@ impl Core {
         None
     }
 
-    /// What a request comes to that isn't refused. The key is that of its URI.
-    fn served(&self, clock: Moment, body: &HtcpBody<'_>, key: &[u8]) -> Finding
-        requires key { key.now ≡ uri_key (uri_in (shown_body body.now)) }
+    /// What a request comes to that isn't refused. The key of its URI is given where it had to be written.
+    fn served(&self, clock: Moment, body: &HtcpBody<'_>, written: &Option<Octets>) -> Finding
+        requires key { unwrap_or written.now (uri_in (shown_body body.now)) ≡ uri_key (uri_in (shown_body body.now)) }
         ensures { result ≡ served (record self.now { clock = clock }) (shown_body body.now) }
     {
         match body {
             HtcpBody::Empty => Finding::Alive,
             HtcpBody::Specifier(specifier) => {
+                let key = key_or(written, specifier.uri);
                 if is_get_or_head(specifier.method)
                     && self.store.peek_octets(key, clock).is_some()
                 {
@@ -190,6 +217,7 @@ impl Core {
                 Finding::NotFound
             }
             HtcpBody::Clear { specifier, .. } => {
+                let key = key_or(written, specifier.uri);
                 if is_get_or_head(specifier.method) && self.store.holds_octets(key) {
                     return Finding::Cleared;
                 }
@@ -230,13 +258,13 @@ impl Core {
         self.text_to(alloc, clock, to, &view, key)
     }
 
-    /// Takes an object that is cleared out of the store. The key is that of its URI.
-    fn clear(&mut self, finding: Finding, body: &HtcpBody<'_>, key: &[u8])
-        requires key { key.now ≡ uri_key (uri_in (shown_body body.now)) }
+    /// Takes an object that is cleared out of the store. The key of its URI is given where it had to be written.
+    fn clear(&mut self, finding: Finding, body: &HtcpBody<'_>, written: &Option<Octets>)
+        requires key { is_cleared finding ≡ true → unwrap_or written.now (uri_in (shown_body body.now)) ≡ uri_key (uri_in (shown_body body.now)) }
         ensures { self.new ≡ after_clear self.old finding (shown_body body.now) }
     {
         if finding == Finding::Cleared && is_clear(body) {
-            let _ = self.store.remove_octets(key);
+            let _ = self.store.remove_octets(key_or(written, uri_in(body)));
         }
     }
 }
@@ -266,18 +294,44 @@ fn is_get_or_head(method: &[u8]) -> bool
     method == b"GET".as_slice() || method == b"HEAD".as_slice()
 }
 
-/// The key that a URI is stored under: without `:80` before the first slash after `http://`.
+/// The key that was written, or the URI itself.
+fn key_or<'a>(written: &'a Option<Octets>, uri: &'a [u8]) -> &'a [u8]
+    ensures { result.now ≡ unwrap_or written.now uri.now }
+{
+    match written {
+        Some(key) => key.as_slice(),
+        None => uri,
+    }
+}
+
+/// The key of a request's URI where it isn't the URI itself; of a request that is refused nothing is written.
+fn written_unless(
+    alloc: Global,
+    refusal: Option<u8>,
+    body: &HtcpBody<'_>,
+) -> Result<Option<Octets>, NoMemory>
+    ensures key { IfOk result (λ written. refusal ≡ None → unwrap_or written (uri_in (shown_body body.now)) ≡ uri_key (uri_in (shown_body body.now))) }
+    ensures silent { (is_none refusal && is_some (slash_behind_80 (uri_in (shown_body body.now)))) ≡ false → IsOk result }
+{
+    match refusal {
+        Some(_) => Ok(None),
+        None => written_key(alloc, uri_in(body)),
+    }
+}
+
+/// The key that a URI is stored under, where it isn't the URI itself: without `:80` before the first slash after `http://`.
 #[tactic(auto, unfolding(crate::specs::HtcpRequests::uri_key))]
-fn uri_key(alloc: Global, uri: &[u8]) -> Result<Vec<u8>, NoMemory>
-    ensures { IfOk result (λ key. key.items ≡ uri_key uri.now) }
+fn written_key(alloc: Global, uri: &[u8]) -> Result<Option<Octets>, NoMemory>
+    ensures key { IfOk result (λ written. unwrap_or written uri.now ≡ uri_key uri.now) }
+    ensures silent { is_some (slash_behind_80 uri.now) ≡ false → IsOk result }
 {
     let Some(end) = slash_behind_80(uri) else {
-        return uri.to_vec(alloc);
+        return Ok(None);
     };
     let mut key = Vec::with_capacity(alloc, uri.len())?;
     key.extend_from_slice(&uri[..end + 4])?;
     key.extend_from_slice(&uri[end + 7..])?;
-    Ok(key)
+    Ok(Some(Octets::new(key)))
 }
 
 /// The place of the first slash behind `http://`, counted from there, where `:80` stands right before it.

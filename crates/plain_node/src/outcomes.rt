@@ -8,7 +8,7 @@ ghost use Rattle.plain_node.specs.PlainNode.{moved, serves};
 ghost use Rattle.plain_node.specs.Plain.{Ended, plain_step};
 ghost use Rattle.plain_node.specs.Sources.{source_of};
 ghost use Rattle.plain_node.specs.Outcomes.{outcome_step, next_step, got_step, counts, is_failure, is_from_sibling, may_store, put_in, stored};
-ghost use Rattle.plain_node.specs.Memory.{serves_none, is_no_object};
+ghost use Rattle.plain_node.specs.Memory.{ends_none, is_no_object, is_unused, is_nobody};
 
 use crate::NoMemory;
 use crate::action::Out;
@@ -33,7 +33,7 @@ impl Core {
         ensures plain { OnOk result (self.new ≡ (plain_step self.old (Ended number attempt outcome.now now)).0) }
         ensures actions { OnOk result (out.new ≡ (plain_step self.old (Ended number attempt outcome.now now)).1) }
         ensures refused { OnErr result ((self.new ≡ self.old) × (out.new ≡ [])) }
-        ensures silent { serves_none self.old attempt outcome.now (fetch_of number self.old.fetches.list) ≡ true → IsOk result }
+        ensures silent { ends_none self.old attempt outcome.now (fetch_of number self.old.fetches.list) ≡ true → IsOk result }
     {
         if !self.counts(number, attempt) {
             self.tick(now);
@@ -79,7 +79,7 @@ impl Core {
         ensures plain { (f : PendingFetch) → fetch_of number self.old.fetches.list ≡ Some f → OnOk result (self.new ≡ (outcome_step (moved self.old now) f (Outcome.Object object.now)).0) }
         ensures actions { (f : PendingFetch) → fetch_of number self.old.fetches.list ≡ Some f → OnOk result (out.new ≡ (outcome_step (moved self.old now) f (Outcome.Object object.now)).1) }
         ensures refused { OnErr result ((self.new ≡ self.old) × (out.new ≡ [])) }
-        ensures silent { (f : PendingFetch) → fetch_of number self.old.fetches.list ≡ Some f → is_failure self.old f object.now ≡ true → IsOk result }
+        ensures silent { (f : PendingFetch) → fetch_of number self.old.fetches.list ≡ Some f → is_unused self.old f object.now ≡ true → IsOk result }
     {
         if self.is_failure(number, object) {
             self.go_on(number, now, out);
@@ -114,6 +114,7 @@ impl Core {
         ensures plain { (f : PendingFetch) → fetch_of number self.old.fetches.list ≡ Some f → OnOk result (self.new ≡ (got_step (moved self.old now) f object.now).0) }
         ensures actions { (f : PendingFetch) → fetch_of number self.old.fetches.list ≡ Some f → OnOk result (out.new ≡ (got_step (moved self.old now) f object.now).1) }
         ensures refused { OnErr result ((self.new ≡ self.old) × (out.new ≡ [])) }
+        ensures silent { (f : PendingFetch) → fetch_of number self.old.fetches.list ≡ Some f → is_nobody f.waiters ≡ true → may_store f object.now ≡ false → IsOk result }
     {
         self.facts();
         self.serve(number, object, out)?;
@@ -131,6 +132,7 @@ impl Core {
         requires room { length (waiters_of number self.now.fetches.list) ≤ 1344 }
         ensures ok { OnOk result (out.new ≡ serves (Got object.now) (waiters_of number self.now.fetches.list)) }
         ensures err { OnErr result (out.new ≡ []) }
+        ensures silent { is_nobody (waiters_of number self.now.fetches.list) ≡ true → IsOk result }
     {
         serve_object(&self.pending, number, object, out)
     }
@@ -139,6 +141,7 @@ impl Core {
     fn keep(&mut self, number: u32, object: &SharedObject, now: Moment) -> Result<(), NoMemory>
         ensures ok { OnOk result ((f : PendingFetch) → fetch_of number self.old.fetches.list ≡ Some f → self.new ≡ stored (moved self.old now) f object.now) }
         ensures err { OnErr result (self.new ≡ self.old) }
+        ensures silent { (f : PendingFetch) → fetch_of number self.old.fetches.list ≡ Some f → may_store f object.now ≡ false → IsOk result }
     {
         if !self.may_store(number, object) {
             self.tick(now);

@@ -11,6 +11,7 @@ ghost use Rattle.plain_node.specs.PlainNode.{moved, with_fetches};
 ghost use Rattle.plain_node.specs.Plain.{Requested, plain_step};
 ghost use Rattle.plain_node.specs.Requests.{request_step, mode_step, found_step, wait_step, open_step, looked_up, age_of};
 ghost use Rattle.plain_node.specs.Fitting.{asked, joining};
+ghost use Rattle.plain_node.specs.Memory.{asks_none, finds, opens};
 
 use crate::NoMemory;
 use crate::action::{Action, Answer, Out};
@@ -38,7 +39,7 @@ impl Core {
         ensures plain { OnOk result (self.new ≡ (plain_step self.old (Requested client key.now mode now)).0) }
         ensures actions { OnOk result (out.new ≡ (plain_step self.old (Requested client key.now mode now)).1) }
         ensures refused { OnErr result ((self.new ≡ self.old) × (out.new ≡ [])) }
-        ensures silent { waits client self.old.fetches.list ≡ true → IsOk result }
+        ensures silent { asks_none (moved self.old now) client key.now mode ≡ true → IsOk result }
     {
         if self.waits(client) {
             self.tick(now);
@@ -73,6 +74,7 @@ impl Core {
         ensures plain { OnOk result (self.new ≡ (mode_step (moved self.old now) client key.now Mode.Private).0) }
         ensures actions { OnOk result (out.new ≡ (mode_step (moved self.old now) client key.now Mode.Private).1) }
         ensures refused { OnErr result ((self.new ≡ self.old) × (out.new ≡ [])) }
+        ensures silent { opens (moved self.old now) key.now Mode.Private ≡ false → IsOk result }
     {
         self.open(alloc, client, key, false, now, out)
     }
@@ -92,6 +94,7 @@ impl Core {
         ensures plain { OnOk result (self.new ≡ (mode_step (moved self.old now) client key.now Mode.Shared).0) }
         ensures actions { OnOk result (out.new ≡ (mode_step (moved self.old now) client key.now Mode.Shared).1) }
         ensures refused { OnErr result ((self.new ≡ self.old) × (out.new ≡ [])) }
+        ensures silent { finds (moved self.old now) key.now Mode.Shared ≡ false → opens (moved self.old now) key.now Mode.Shared ≡ false → IsOk result }
     {
         match self.stored(key, now)? {
             Some(answer) => {
@@ -115,6 +118,7 @@ impl Core {
         ensures plain { OnOk result (self.new ≡ (mode_step (moved self.old now) client key.now Mode.Cached).0) }
         ensures actions { OnOk result (out.new ≡ (mode_step (moved self.old now) client key.now Mode.Cached).1) }
         ensures refused { OnErr result ((self.new ≡ self.old) × (out.new ≡ [])) }
+        ensures silent { finds (moved self.old now) key.now Mode.Cached ≡ false → IsOk result }
     {
         match self.stored(key, now)? {
             Some(answer) => self.give(client, key, answer, now, out),
@@ -137,6 +141,7 @@ impl Core {
         ensures plain { OnOk result (self.new ≡ (wait_step (looked_up (moved self.old now) key.now) client key.now (shared_number key.now self.old.fetches.list)).0) }
         ensures actions { OnOk result (out.new ≡ (wait_step (looked_up (moved self.old now) key.now) client key.now (shared_number key.now self.old.fetches.list)).1) }
         ensures refused { OnErr result ((self.new ≡ self.old) × (out.new ≡ [])) }
+        ensures silent { opens (moved self.old now) key.now Mode.Shared ≡ false → IsOk result }
     {
         if !self.join(client, key, out) {
             return self.open(alloc, client, key, true, now, out);
@@ -192,6 +197,7 @@ impl Core {
         ensures plain { OnOk result (self.new ≡ (open_step (asked (moved self.old now) key.now shared) client key.now shared).0) }
         ensures actions { OnOk result (out.new ≡ (open_step (asked (moved self.old now) key.now shared) client key.now shared).1) }
         ensures refused { OnErr result ((self.new ≡ self.old) × (out.new ≡ [])) }
+        ensures silent { is_full self.old.fetches.list ≡ true → IsOk result }
     {
         self.facts();
         self.few();
@@ -272,7 +278,8 @@ impl Core {
 
     /// The answer from the store, where it has a fresh object.
     fn stored(&self, key: &CacheKey, now: Moment) -> Result<Option<Answer>, NoMemory>
-        ensures { IfOk result (λ answer. answer ≡ option_map (λ (entry : Stored). Hit entry.object (age_of entry (max self.now.clock now))) (fresh_at key.now (max self.now.clock now) self.now.store)) }
+        ensures value { IfOk result (λ answer. answer ≡ option_map (λ (entry : Stored). Hit entry.object (age_of entry (max self.now.clock now))) (fresh_at key.now (max self.now.clock now) self.now.store)) }
+        ensures silent { fresh_at key.now (max self.now.clock now) self.now.store ≡ None → IsOk result }
     {
         let now = self.clock.later(now);
         let Some(entry) = self.store.peek(key, now) else {

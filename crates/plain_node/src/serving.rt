@@ -1,8 +1,9 @@
 //! Answers to all clients that wait for a fetch.
-ghost use Rattle.std.specs.Prelude.{◌≡◌, ◌≤◌, ◌+◌, ◌++◌, [], length, OnOk, OnErr};
+ghost use Rattle.std.specs.Prelude.{◌≡◌, ◌≤◌, ◌+◌, ◌++◌, [], length, true, IsOk, OnOk, OnErr};
 ghost use Rattle.pending_fetch.specs.Fetches.{waiters_of};
 ghost use Rattle.plain_node.specs.declared.action.Answer.TheVariants.{Got, Fail};
 ghost use Rattle.plain_node.specs.PlainNode.{serves};
+ghost use Rattle.plain_node.specs.Memory.{is_nobody};
 
 use crate::NoMemory;
 use crate::action::{Action, Answer, Out};
@@ -35,6 +36,7 @@ pub fn serve_object(
     requires room { length (waiters_of number pending.now.list) ≤ 1344 }
     ensures ok { OnOk result (out.new ≡ serves (Got object.now) (waiters_of number pending.now.list)) }
     ensures err { OnErr result (out.new ≡ []) }
+    ensures silent { is_nobody (waiters_of number pending.now.list) ≡ true → IsOk result }
 {
     let mut place = 0;
     while let Some(client) = pending.waiter(number, place) {

@@ -1,4 +1,4 @@
-use Rattle.node_core.proofs.Runs.{kept_rejected, filters_rejected, answers_rejected, answers-append}
+use Rattle.node_core.proofs.Runs.{kept_rejected, filters_rejected, answers_rejected}
 use Rattle.node_core.proofs.laws.rejected_law.Goals as goal
 
 pub returns-clause-kept : goal.returns-clause-kept
@@ -9,6 +9,3 @@ returns-clause-filters c = filters_rejected
 
 pub returns-clause-answers : goal.returns-clause-answers
 returns-clause-answers c = answers_rejected
-
-pub returns-clause-without : goal.returns-clause-without
-returns-clause-without c = answers-append
