@@ -66,6 +66,20 @@ impl Node {
         })
     }
 
+    /// An equal node, with memory of its own; programs and objects are shared. An error says that there was no memory, or that
+    /// one of these has too many owners.
+    pub fn copy(&self, alloc: Global) -> Result<Node, NoMemory>
+        ensures { IfOk result (λ copy. copy ≡ self.now) }
+    {
+        let core = self.core.copy(alloc)?;
+        let slots = self.slots.copy()?;
+        Ok(Node {
+            core,
+            slots,
+            stats: self.stats,
+        })
+    }
+
     /// What was counted.
     pub fn stats(&self) -> Stats
         ensures { result ≡ self.now.stats }

@@ -1,9 +1,11 @@
 //! What a node is set up with.
-ghost use Rattle.std.specs.Prelude.{◌≡◌, ◌&&◌};
+ghost use Rattle.std.specs.Prelude.{◌≡◌, ◌&&◌, IfOk};
 ghost use Rattle.plain_node.specs.Settings.{are_limits, are_prefixes, first_bits, is_allowed, is_inside};
 
+use crate::NoMemory;
 use filter_slots::End;
 use neighbours::{ConfigFault, Key, Neighbour};
+use std::alloc::Global;
 use std::marker::Model;
 use thiserror::Error;
 
@@ -103,6 +105,20 @@ impl Model for Rules {
 }
 
 impl Rules {
+    /// Equal rules, with memory of their own.
+    pub fn copy(&self, alloc: Global) -> Result<Rules, NoMemory>
+        ensures { IfOk result (λ copy. copy ≡ self.now) }
+    {
+        let allowed = Vec::from_slice(alloc, &self.allowed)?;
+        Ok(Rules {
+            icp: self.icp,
+            htcp: self.htcp,
+            allowed,
+            miss_nofetch: self.miss_nofetch,
+            origin: self.origin,
+        })
+    }
+
     /// The own address of the ICP socket.
     pub fn sender(&self) -> [u8; 4]
         ensures { result ≡ self.now.icp.addr }

@@ -96,6 +96,24 @@ impl Core {
         })
     }
 
+    /// An equal node, with memory of its own; objects are shared. An error says that there was no memory, or that an object has
+    /// too many owners.
+    pub fn copy(&self, alloc: Global) -> Result<Core, NoMemory>
+        ensures { IfOk result (λ copy. copy ≡ self.now) }
+    {
+        let rules = self.rules.copy(alloc)?;
+        let table = self.table.copy(alloc)?;
+        let store = self.store.copy(alloc)?;
+        let pending = self.pending.copy(alloc)?;
+        Ok(Core {
+            rules,
+            table,
+            store,
+            pending,
+            clock: self.clock,
+        })
+    }
+
     /// Takes a datagram of which `octets` are handed on. Says whether they are no message.
     #[tactic(auto, unfolding(crate::specs::Plain::socket_step))]
     pub fn datagram(
