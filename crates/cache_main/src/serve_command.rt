@@ -31,6 +31,8 @@ where
         + Copy
         + Send
         + 'static,
+    R::Stream: Send + 'static,
+    R::Listener: Send + 'static,
     requires name { blank.name ≡ L.name }
     requires parts { blank.parts ≡ L.parts }
     requires seven { blank.parts ≡ 7 }

@@ -11,10 +11,10 @@ pub struct Destination {
     pub target: String,
 }
 
-/// A neighbour as fetches see it: its address, and the port that it serves HTTP at.
+/// A neighbour as fetches see it: where it is asked, and the port that it serves HTTP at.
 #[derive(Clone, Copy)]
 pub struct Peer {
-    pub addr: [u8; 4],
+    pub end: End,
     pub http_port: u16,
 }
 
@@ -65,19 +65,11 @@ pub fn origin_of(alloc: Global, key: &[u8]) -> Option<Destination> {
 /// A neighbour that is asked for a URL. None where there is no memory.
 pub fn peer_of(alloc: Global, key: &[u8], peer: Peer) -> Option<Destination> {
     let parts = parts_of(key)?;
-    let [a, b, c, d] = peer.addr;
+    let [a, b, c, d] = peer.end.addr;
     Some(Destination {
         name: format!(in alloc; "{a}.{b}.{c}.{d}").ok()?,
         port: peer.http_port,
         host: String::from_str(alloc, parts.authority).ok()?,
         target: String::from_str(alloc, str::from_utf8(key).ok()?).ok()?,
     })
-}
-
-/// The peer that a configured neighbour is.
-pub fn peer_at(end: End, http_port: u16) -> Peer {
-    Peer {
-        addr: end.addr,
-        http_port,
-    }
 }

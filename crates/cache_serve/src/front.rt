@@ -1,5 +1,6 @@
 //! Requests of clients.
 use crate::clock::now;
+use crate::house::House;
 use crate::mailbox::{Field, Waiting};
 use crate::teller::Teller;
 use crossbeam_channel::Sender;
@@ -20,7 +21,9 @@ use std::time::Clock;
 pub struct Counter<R, L: Ledger> {
     pub rt: R,
     pub alloc: Global,
-    /// Shared with the thread that ends the proxy, which takes the seat back.
+    /// What all threads share.
+    pub house: Arc<House<L>>,
+    /// The seat of the thread, which takes it back at the end.
     pub teller: Arc<Mutex<Teller<R, L>>>,
     /// The networks whose clients may come in.
     pub allowed: Vec<Network>,
@@ -84,7 +87,7 @@ impl<R: Wait + Clock + Drop, L: Ledger> Counter<R, L> {
     /// Has a client wait for an answer.
     fn expect(
         &self,
-        teller: &mut Teller<R, L>,
+        client: u64,
         fields: Vec<Field>,
     ) -> Result<oneshot::Receiver<Answer>, AllocError> {
         let (reply, answer) = oneshot::channel(self.alloc)?;
@@ -93,12 +96,18 @@ impl<R: Wait + Clock + Drop, L: Ledger> Counter<R, L> {
             fields,
             fetch: None,
         };
-        teller
-            .house()
-            .mailbox
-            .lock(&self.rt)
-            .add(self.last, waiting)?;
+        self.house.mailbox.lock(&self.rt).add(client, waiting)?;
         Ok(answer)
+    }
+
+    /// Has nobody wait for this client's answer any more.
+    fn forget(&self, client: u64) {
+        self.house.mailbox.lock(&self.rt).remove(client);
+    }
+
+    /// Hands an event in. Says how many actions it had.
+    fn take(&self, event: Event) -> Option<usize> {
+        self.teller.lock(&self.rt).take(event).ok()
     }
 }
 
@@ -112,8 +121,7 @@ impl<R: Wait + Clock + Drop, L: Ledger> Front for Counter<R, L> {
         let Request { key, mode, fields } = request_of(self.alloc, &asked)?;
         self.last = self.last.saturating_add(1);
         let client = self.last;
-        let mut teller = self.teller.lock(&self.rt);
-        let Ok(answer) = self.expect(&mut teller, fields) else {
+        let Ok(answer) = self.expect(client, fields) else {
             return Err(503);
         };
         let event = Event::Request {
@@ -122,23 +130,20 @@ impl<R: Wait + Clock + Drop, L: Ledger> Front for Counter<R, L> {
             mode,
             now: now(&self.rt),
         };
-        match teller.take(event) {
-            Ok(actions) => Ok(Asking {
-                client,
-                forward: forward_of(mode, actions),
-                answer,
-            }),
-            Err(_) => {
-                teller.house().mailbox.lock(&self.rt).remove(client);
-                Err(503)
-            }
-        }
+        let Some(actions) = self.take(event) else {
+            self.forget(client);
+            return Err(503);
+        };
+        Ok(Asking {
+            client,
+            forward: forward_of(mode, actions),
+            answer,
+        })
     }
 
     fn gone(&mut self, client: u64) {
-        let mut teller = self.teller.lock(&self.rt);
-        teller.house().mailbox.lock(&self.rt).remove(client);
-        let _ = teller.take(Event::Gone { client });
+        self.forget(client);
+        let _ = self.take(Event::Gone { client });
     }
 
     fn answered(&mut self) {

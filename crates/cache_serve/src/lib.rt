@@ -17,6 +17,7 @@ mod panel;
 mod queries;
 mod results;
 mod site;
+mod tasks;
 mod teller;
 
 pub use fault::{Port, ServeFault};
