@@ -115,9 +115,15 @@ where
         peers,
         fetching: limits.fetching,
     };
-    let mut site = Site::of(alloc, house, seats).map_err(no_memory)?;
-    let begin = |task: Task<L>| thread::spawn(&rt, move || run_task(rt, task)).ok();
-    match site.open(rt, alloc, openings, allowed, &begin) {
+    let mut opening = Opening {
+        rt,
+        alloc,
+        openings,
+        site: Site::of(alloc, house, seats).map_err(no_memory)?,
+    };
+    let opened = opening.open(allowed);
+    let Opening { site, .. } = opening;
+    match opened {
         Ok(()) => Ok(site),
         Err(fault) => {
             let _ = site.shut(rt);
@@ -192,204 +198,6 @@ impl<L: Ledger + Send + Sync + 'static> Site<L> {
         self.shut(rt)
     }
 
-    /// The next seat, with what its thread needs besides.
-    fn chair(&mut self, alloc: Global) -> Result<Chair<L>, ServeFault> {
-        let Some(seat) = self.spare.pop() else {
-            return Err(ServeFault::NoMemory);
-        };
-        Chair::new(alloc, &self.house, seat).map_err(no_memory)
-    }
-
-    /// Begins a thread, and keeps its handle.
-    fn begin<F>(&mut self, begin: &F, work: Work<L>) -> Result<(), ServeFault>
-    where
-        F: Fn(Task<L>) -> Option<JoinHandle<Ending<L>>>,
-        requires { F.IsAlwaysCallable begin.now }
-    {
-        let Some(thread) = begin(Task { work }) else {
-            return Err(ServeFault::NoMemory);
-        };
-        match self.threads.push(thread) {
-            Ok(()) => Ok(()),
-            Err(_) => Err(ServeFault::NoMemory),
-        }
-    }
-
-    fn open<R, F>(
-        &mut self,
-        rt: R,
-        alloc: Global,
-        openings: Openings,
-        allowed: Vec<Network>,
-        begin: &F,
-    ) -> Result<(), ServeFault>
-    where
-        R: Wait + Copy,
-        F: Fn(Task<L>) -> Option<JoinHandle<Ending<L>>>,
-        requires { F.IsAlwaysCallable begin.now }
-    {
-        self.open_fetchers(rt, alloc, openings, begin)?;
-        let (outgoing, incoming) = unbounded(alloc).map_err(no_memory)?;
-        let heard = self.open_queries(rt, alloc, openings, incoming, begin)?;
-        let bell = heard.bell.share().map_err(no_memory)?;
-        self.bell = Some(heard.bell);
-        let post = Post { to: outgoing, bell };
-        let clients = self.open_clients(rt, alloc, openings, allowed, post, begin)?;
-        let administration = self.open_administration(rt, alloc, openings, begin)?;
-        self.addresses = Some(Addresses {
-            icp: heard.icp,
-            htcp: heard.htcp,
-            clients,
-            administration,
-        });
-        Ok(())
-    }
-
-    fn open_fetchers<R, F>(
-        &mut self,
-        rt: R,
-        alloc: Global,
-        openings: Openings,
-        begin: &F,
-    ) -> Result<(), ServeFault>
-    where
-        R: Wait + Copy,
-        F: Fn(Task<L>) -> Option<JoinHandle<Ending<L>>>,
-        requires { F.IsAlwaysCallable begin.now }
-    {
-        let mut lanes = Vec::with_capacity(alloc, FETCHERS).map_err(no_memory)?;
-        for _ in 0..FETCHERS {
-            let (to, jobs) = mpsc::unbounded(alloc).map_err(no_memory)?;
-            let _ = lanes.push(to);
-            let fetches = Fetches {
-                chair: self.chair(alloc)?,
-                jobs,
-                octets: openings.body_limit,
-                connecting: openings.limits.connecting,
-                end: self.end.clone().map_err(no_memory)?,
-            };
-            self.begin(begin, Work::Fetches(fetches))?;
-        }
-        let wishes = self.open_look_ups(alloc, lanes.as_slice(), begin)?;
-        let lanes = Lanes {
-            wishes,
-            jobs: lanes,
-        };
-        *self.house.lanes.lock(&rt) = Some(lanes);
-        Ok(())
-    }
-
-    fn open_look_ups<F>(
-        &mut self,
-        alloc: Global,
-        lanes: &[mpsc::UnboundedSender<Job>],
-        begin: &F,
-    ) -> Result<Sender<Wish, Global>, ServeFault>
-    where
-        F: Fn(Task<L>) -> Option<JoinHandle<Ending<L>>>,
-        requires { F.IsAlwaysCallable begin.now }
-    {
-        let (to, wishes) = unbounded(alloc).map_err(no_memory)?;
-        for _ in 0..LOOK_UPS {
-            let names = LookUps {
-                wishes: wishes.clone().map_err(no_memory)?,
-                lanes: cloned(alloc, lanes).map_err(no_memory)?,
-            };
-            self.begin(begin, Work::LookUps(names))?;
-        }
-        Ok(to)
-    }
-
-    fn open_queries<R, F>(
-        &mut self,
-        rt: R,
-        alloc: Global,
-        openings: Openings,
-        outgoing: Receiver<Outgoing, Global>,
-        begin: &F,
-    ) -> Result<Heard, ServeFault>
-    where
-        R: Wait + Copy,
-        F: Fn(Task<L>) -> Option<JoinHandle<Ending<L>>>,
-        requires { F.IsAlwaysCallable begin.now }
-    {
-        let (bound, heard) = unbounded(alloc).map_err(no_memory)?;
-        let queries = Queries {
-            chair: self.chair(alloc)?,
-            icp: openings.icp,
-            htcp: openings.htcp,
-            outgoing,
-            bound,
-            is_ended: Arc::try_clone(&self.is_ended).map_err(no_memory)?,
-            end: self.end.clone().map_err(no_memory)?,
-        };
-        self.begin(begin, Work::Queries(queries))?;
-        match heard.recv(&rt) {
-            Ok(bound) => bound,
-            Err(_) => Err(ServeFault::NoMemory),
-        }
-    }
-
-    fn open_clients<R, F>(
-        &mut self,
-        rt: R,
-        alloc: Global,
-        openings: Openings,
-        allowed: Vec<Network>,
-        post: Post,
-        begin: &F,
-    ) -> Result<SocketAddr, ServeFault>
-    where
-        R: Wait + Copy,
-        F: Fn(Task<L>) -> Option<JoinHandle<Ending<L>>>,
-        requires { F.IsAlwaysCallable begin.now }
-    {
-        let (stop, stopped) = oneshot::channel(alloc).map_err(no_memory)?;
-        let (bound, heard) = unbounded(alloc).map_err(no_memory)?;
-        let clients = Clients {
-            house: Arc::try_clone(&self.house).map_err(no_memory)?,
-            chair: self.chair(alloc)?,
-            post,
-            openings,
-            allowed,
-            name: String::from_str(alloc, self.house.name.as_str()).map_err(no_memory)?,
-            bound,
-            stopped,
-            end: self.end.clone().map_err(no_memory)?,
-        };
-        self.begin(begin, Work::Clients(clients))?;
-        let _ = self.stops.push(stop);
-        heard.recv(&rt).map_err(|_| ServeFault::Bind(Port::Clients))
-    }
-
-    fn open_administration<R, F>(
-        &mut self,
-        rt: R,
-        alloc: Global,
-        openings: Openings,
-        begin: &F,
-    ) -> Result<SocketAddr, ServeFault>
-    where
-        R: Wait + Copy,
-        F: Fn(Task<L>) -> Option<JoinHandle<Ending<L>>>,
-        requires { F.IsAlwaysCallable begin.now }
-    {
-        let (stop, stopped) = oneshot::channel(alloc).map_err(no_memory)?;
-        let (bound, heard) = unbounded(alloc).map_err(no_memory)?;
-        let administration = Administration {
-            chair: self.chair(alloc)?,
-            openings,
-            bound,
-            stopped,
-            end: self.end.clone().map_err(no_memory)?,
-        };
-        self.begin(begin, Work::Administration(administration))?;
-        let _ = self.stops.push(stop);
-        heard
-            .recv(&rt)
-            .map_err(|_| ServeFault::Bind(Port::Administration))
-    }
-
     /// Ends all threads, joins them, and settles the book.
     fn shut<R: Threads + Wait + Copy>(self, rt: R) -> Result<Report, ServeFault> {
         let Site {
@@ -423,6 +231,159 @@ impl<L: Ledger + Send + Sync + 'static> Site<L> {
             }
         }
         settled(house, seats, fault)
+    }
+}
+
+/// A proxy that is being opened.
+#[derive(Drop)]
+struct Opening<R, L: Ledger> {
+    rt: R,
+    alloc: Global,
+    openings: Openings,
+    site: Site<L>,
+}
+
+impl<R, L> Opening<R, L>
+where
+    L: Ledger + Send + Sync + 'static,
+    R: Threads + Wait + Net + Clock + RandomSource + AllocGlobal + Copy + Send + 'static,
+    R::Stream: Send + 'static,
+    R::Listener: Send + 'static,
+{
+    /// The next seat, with what its thread needs besides.
+    fn chair(&mut self) -> Result<Chair<L>, ServeFault> {
+        let Some(seat) = self.site.spare.pop() else {
+            return Err(ServeFault::NoMemory);
+        };
+        Chair::new(self.alloc, &self.site.house, seat).map_err(no_memory)
+    }
+
+    /// Begins a thread, and keeps its handle.
+    fn begin(&mut self, work: Work<L>) -> Result<(), ServeFault> {
+        let (rt, task) = (self.rt, Task { work });
+        let Ok(thread) = thread::spawn(&rt, move || run_task(rt, task)) else {
+            return Err(ServeFault::NoMemory);
+        };
+        match self.site.threads.push(thread) {
+            Ok(()) => Ok(()),
+            Err(_) => Err(ServeFault::NoMemory),
+        }
+    }
+
+    fn open(&mut self, allowed: Vec<Network>) -> Result<(), ServeFault> {
+        self.open_fetchers()?;
+        let (outgoing, incoming) = unbounded(self.alloc).map_err(no_memory)?;
+        let heard = self.open_queries(incoming)?;
+        let bell = heard.bell.share().map_err(no_memory)?;
+        self.site.bell = Some(heard.bell);
+        let post = Post { to: outgoing, bell };
+        let clients = self.open_clients(allowed, post)?;
+        let administration = self.open_administration()?;
+        self.site.addresses = Some(Addresses {
+            icp: heard.icp,
+            htcp: heard.htcp,
+            clients,
+            administration,
+        });
+        Ok(())
+    }
+
+    fn open_fetchers(&mut self) -> Result<(), ServeFault> {
+        let mut lanes = Vec::with_capacity(self.alloc, FETCHERS).map_err(no_memory)?;
+        for _ in 0..FETCHERS {
+            let (to, jobs) = mpsc::unbounded(self.alloc).map_err(no_memory)?;
+            let _ = lanes.push(to);
+            let fetches = Fetches {
+                chair: self.chair()?,
+                jobs,
+                octets: self.openings.body_limit,
+                connecting: self.openings.limits.connecting,
+                end: self.site.end.clone().map_err(no_memory)?,
+            };
+            self.begin(Work::Fetches(fetches))?;
+        }
+        let wishes = self.open_look_ups(lanes.as_slice())?;
+        let lanes = Lanes {
+            wishes,
+            jobs: lanes,
+        };
+        *self.site.house.lanes.lock(&self.rt) = Some(lanes);
+        Ok(())
+    }
+
+    fn open_look_ups(
+        &mut self,
+        lanes: &[mpsc::UnboundedSender<Job>],
+    ) -> Result<Sender<Wish, Global>, ServeFault> {
+        let (to, wishes) = unbounded(self.alloc).map_err(no_memory)?;
+        for _ in 0..LOOK_UPS {
+            let names = LookUps {
+                wishes: wishes.clone().map_err(no_memory)?,
+                lanes: cloned(self.alloc, lanes).map_err(no_memory)?,
+            };
+            self.begin(Work::LookUps(names))?;
+        }
+        Ok(to)
+    }
+
+    fn open_queries(&mut self, outgoing: Receiver<Outgoing, Global>) -> Result<Heard, ServeFault> {
+        let (bound, heard) = unbounded(self.alloc).map_err(no_memory)?;
+        let queries = Queries {
+            chair: self.chair()?,
+            icp: self.openings.icp,
+            htcp: self.openings.htcp,
+            outgoing,
+            bound,
+            is_ended: Arc::try_clone(&self.site.is_ended).map_err(no_memory)?,
+            end: self.site.end.clone().map_err(no_memory)?,
+        };
+        self.begin(Work::Queries(queries))?;
+        match heard.recv(&self.rt) {
+            Ok(bound) => bound,
+            Err(_) => Err(ServeFault::NoMemory),
+        }
+    }
+
+    fn open_clients(
+        &mut self,
+        allowed: Vec<Network>,
+        post: Post,
+    ) -> Result<SocketAddr, ServeFault> {
+        let (stop, stopped) = oneshot::channel(self.alloc).map_err(no_memory)?;
+        let (bound, heard) = unbounded(self.alloc).map_err(no_memory)?;
+        let clients = Clients {
+            house: Arc::try_clone(&self.site.house).map_err(no_memory)?,
+            chair: self.chair()?,
+            post,
+            openings: self.openings,
+            allowed,
+            name: String::from_str(self.alloc, self.site.house.name.as_str()).map_err(no_memory)?,
+            bound,
+            stopped,
+            end: self.site.end.clone().map_err(no_memory)?,
+        };
+        self.begin(Work::Clients(clients))?;
+        let _ = self.site.stops.push(stop);
+        heard
+            .recv(&self.rt)
+            .map_err(|_| ServeFault::Bind(Port::Clients))
+    }
+
+    fn open_administration(&mut self) -> Result<SocketAddr, ServeFault> {
+        let (stop, stopped) = oneshot::channel(self.alloc).map_err(no_memory)?;
+        let (bound, heard) = unbounded(self.alloc).map_err(no_memory)?;
+        let administration = Administration {
+            chair: self.chair()?,
+            openings: self.openings,
+            bound,
+            stopped,
+            end: self.site.end.clone().map_err(no_memory)?,
+        };
+        self.begin(Work::Administration(administration))?;
+        let _ = self.site.stops.push(stop);
+        heard
+            .recv(&self.rt)
+            .map_err(|_| ServeFault::Bind(Port::Administration))
     }
 }
 

@@ -304,7 +304,7 @@ where
         stopped,
         limits,
     );
-    ending(&rt, kept, ran, Port::Clients, &end)
+    end_of(&rt, kept, ran, Port::Clients, &end)
 }
 
 /// The limits of a server.
@@ -345,7 +345,7 @@ where
     };
     let limits = limits_of(openings.limits, 64, 262_144);
     let ran = serve_admin(rt, openings.admin_port, switches, bound, stopped, limits);
-    ending(&rt, kept, ran, Port::Administration, &end)
+    end_of(&rt, kept, ran, Port::Administration, &end)
 }
 
 /// A teller that two hold.
@@ -362,7 +362,7 @@ where
 }
 
 /// The end of a thread that serves, whose seat is taken back.
-fn ending<R, L: Ledger>(
+fn end_of<R, L: Ledger>(
     rt: &R,
     kept: Arc<Mutex<Teller<R, L>>>,
     ran: io::Result<()>,
