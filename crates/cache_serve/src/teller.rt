@@ -222,7 +222,10 @@ impl<R: Wait + Clock + Drop, L: Ledger> Clerk for Teller<R, L> {
         if self.house.pass(&self.rt, alloc, action).is_err()
             && let Action::Fetch { fetch, attempt, .. } = action
         {
-            self.remember(*fetch, *attempt);
+            let _ = self.failed.push(Attempt {
+                fetch: *fetch,
+                attempt: *attempt,
+            });
         }
         Ok(())
     }

@@ -14,8 +14,7 @@ ghost use Rattle.node_book.specs.Book.{IsLegal, begun, count_of, turned, written
 
 use crate::NoMemory;
 use crate::image::Image;
-use crate::comparing::{same_event, same_tally};
-use node_core::{Event, Node, Out, Tally, append_law};
+use node_core::{Event, Node, Out, Tally, append_law, same_event, same_tally};
 use object_store::CacheKey;
 use std::alloc::Global;
 use std::marker::Model;

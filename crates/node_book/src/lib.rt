@@ -11,7 +11,6 @@ mod lone;
 mod seat;
 mod seated;
 mod settle;
-mod comparing;
 
 pub use booked::{BookFault, Booked, Entry, MOST_VOLUME, Receipt, TakeFault, Volume};
 pub use clerk::{Clerk, Gate};

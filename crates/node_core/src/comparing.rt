@@ -4,10 +4,11 @@ ghost use Rattle.std.specs.Arc.{arc_value};
 ghost use Rattle.std.specs.Option.{option_map};
 ghost use Rattle.node_core.specs.Happening.{arrives, asks, ends, happening, leaves, swaps, ticks};
 
+use crate::event::Event;
 use bpf_check::Checked;
 use filter_slots::{Datagram, Moment, Socket, same_datagram};
-use node_core::{Event, Mode, Outcome, Tally};
 use object_store::{CacheKey, same_object};
+use plain_node::{Mode, Outcome, Tally};
 use std::sync::Arc;
 
 /// Whether two tallies are equal.
