@@ -54,14 +54,10 @@ where
 
 /// Sends what other threads have handed over, in order. What can't be sent is lost, as a datagram may be.
 fn send_all<R: Wait, W: Wire>(rt: &R, wire: &mut W, outgoing: &Receiver<Outgoing, Global>) {
-    while let Ok(
-        Outgoing {
-            socket,
-            to,
-            payload,
-        },
-    ) = outgoing.try_recv(rt)
-    {
-        let _ = wire.send(socket, to, payload.as_slice());
+    for _ in 0..u64::MAX {
+        let Ok(next) = outgoing.try_recv(rt) else {
+            return;
+        };
+        let _ = wire.send(next.socket, next.to, next.payload.as_slice());
     }
 }
