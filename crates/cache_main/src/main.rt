@@ -6,7 +6,7 @@ mod serve_command;
 
 use check_command::run_check;
 use feed_script::feed;
-use serve_command::run_serve;
+use serve_command::{run_serve, settings_of};
 use std::env::Env;
 use std::marker::Brand;
 use std::process::ExitCode;
@@ -34,7 +34,10 @@ fn main(rt: HostRuntime) -> ExitCode {
         Some(Command::Feed) => run_feed(&rt),
         Some(Command::Check(file)) => run_check(&rt, file),
         Some(Command::Serve(file)) => {
-            if run_serve::<Brand, _>(rt, Blank::new(7), file) {
+            let Some(settings) = settings_of(&rt, file) else {
+                return ExitCode::FAILURE;
+            };
+            if run_serve::<Brand, _>(rt, Blank::new(7), settings) {
                 ExitCode::SUCCESS
             } else {
                 ExitCode::FAILURE

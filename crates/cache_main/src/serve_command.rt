@@ -14,9 +14,24 @@ use std::sync::ledger::{Blank, Ledger};
 use std::thread::Threads;
 use std::time::Clock;
 
-/// Runs a proxy by a configuration file. Prints `ready` once all its sockets are bound, and the line of a fault on standard error.
-/// The answer is whether all went well.
-pub fn run_serve<L, R>(rt: R, blank: Blank, file: &str) -> bool
+/// The settings in a configuration file. None after the line of a fault on standard error.
+pub fn settings_of<R: Files + AllocGlobal + Eprint>(rt: &R, file: &str) -> Option<Settings> {
+    let Ok(text) = fs::read(rt, file) else {
+        let _ = eprintln!(rt; "file fault");
+        return None;
+    };
+    match Settings::read(rt.alloc(), text.as_slice()) {
+        Ok(settings) => Some(settings),
+        Err(fault) => {
+            let _ = eprintln!(rt; "{fault}");
+            None
+        }
+    }
+}
+
+/// Runs a proxy until it has given its last answer. Prints `ready` once all its sockets are bound, and the line of a fault on
+/// standard error. The answer is whether all went well.
+pub fn run_serve<L, R>(rt: R, blank: Blank, settings: Settings) -> bool
 where
     L: Ledger + Send + Sync + 'static,
     R: Threads
@@ -25,7 +40,6 @@ where
         + Clock
         + RandomSource
         + AllocGlobal
-        + Files
         + Print
         + Eprint
         + Copy
@@ -37,17 +51,6 @@ where
     requires parts { blank.parts ≡ L.parts }
     requires seven { blank.parts ≡ 7 }
 {
-    let Ok(text) = fs::read(&rt, file) else {
-        let _ = eprintln!(rt; "file fault");
-        return false;
-    };
-    let settings = match Settings::read(rt.alloc(), text.as_slice()) {
-        Ok(settings) => settings,
-        Err(fault) => {
-            let _ = eprintln!(rt; "{fault}");
-            return false;
-        }
-    };
     match start::<L, R>(rt, blank, settings, Limits::usual()) {
         Ok(site) => {
             let _ = println!(rt; "ready");

@@ -1,6 +1,7 @@
 use super::*;
 use filter_slots::{Datagram, End, Moment, Socket};
 use neighbours::{Neighbour, Role};
+use node_book::{Clerk, Lone};
 use node_core::{Action, Config, Event, Mode, Network, Node, Out};
 use object_store::CacheKey;
 use peer_select::Source;

@@ -2,4 +2,4 @@
 use Rattle.cache_main.proofs.main.Given as goal
 
 abbrev pub ghosts-run_serve : goal.ghosts-run_serve
-ghosts-run_serve a = record { name = a.blank.name; parts = a.blank.parts }
+ghosts-run_serve g a = record { name = a.blank.name; parts = a.blank.parts }
