@@ -1,10 +1,9 @@
 //! The node at one event, and the configurations that it refuses.
 
-use bpf_check::{Checked, Insn, check};
-use filter_slots::{Datagram, End, Judged, Moment, Socket};
+use bpf_check::{Insn, check};
+use filter_slots::{Datagram, End, Moment, Socket};
 use neighbours::{ConfigFault, Neighbour, Role};
-use node_core::{Action, Answer, Config, Event, Mode, Network, Node, NodeFault, Out, run_events};
-use object_store::CacheKey;
+use node_core::{Action, Config, Event, Network, Node, NodeFault, Out, run_events};
 use std::alloc::Global;
 use std::sync::Arc;
 use std::test::*;
@@ -86,27 +85,23 @@ fn new_node(alloc: Global) -> Result<Node, Fail> {
     Ok(Node::new(alloc, config).ok().ok_or("a node")?)
 }
 
-/// A filter that lets so many octets of the packet through.
-fn limit(alloc: Global, k: u32) -> Result<Arc<Checked>, Fail> {
+/// A filter that lets everything through.
+fn swap(alloc: Global) -> Result<Event, Fail> {
     let mut insns = Vec::new(alloc);
     insns.push(Insn {
         code: 6,
         jt: 0,
         jf: 0,
-        k,
+        k: 65_535,
     })?;
     let program = check(insns).ok().ok_or("a program")?;
-    Ok(Arc::new(alloc, program)?)
-}
-
-fn swap(alloc: Global, k: u32) -> Result<Event, Fail> {
     Ok(Event::Swap {
         socket: Socket::Icp,
-        program: Some(limit(alloc, k)?),
+        program: Some(Arc::new(alloc, program)?),
     })
 }
 
-fn datagram_of(alloc: Global, row: &Row) -> Result<Arc<Datagram>, Fail> {
+fn arrival(alloc: Global, row: &Row) -> Result<Event, Fail> {
     let from = End {
         addr: row.from,
         port: 3130,
@@ -114,48 +109,15 @@ fn datagram_of(alloc: Global, row: &Row) -> Result<Arc<Datagram>, Fail> {
     let datagram = Datagram::new(row.socket, from, OWN, row.query.to_vec(alloc)?)
         .ok()
         .ok_or("a short datagram")?;
-    Ok(Arc::new(alloc, datagram)?)
-}
-
-fn now() -> Result<Moment, Fail> {
-    Ok(Moment::new(5).ok_or("a moment")?)
-}
-
-fn arrival(alloc: Global, row: &Row) -> Result<Event, Fail> {
-    let datagram = datagram_of(alloc, row)?;
     Ok(Event::Datagram {
-        datagram,
-        now: now()?,
-    })
-}
-
-/// A request for `http://a/`.
-fn request(alloc: Global, client: u64, mode: Mode) -> Result<Event, Fail> {
-    let key = CacheKey::new(alloc, b"http://a/".to_vec(alloc)?);
-    Ok(Event::Request {
-        client,
-        key: key.ok().ok_or("a key")?,
-        mode,
-        now: now()?,
+        datagram: Arc::new(alloc, datagram)?,
+        now: Moment::new(5).ok_or("a moment")?,
     })
 }
 
 fn is_sent(out: &Out, reply: &[u8]) -> bool {
     match out.actions() {
         [Action::Send { payload, .. }] => payload.as_slice() == reply,
-        _ => false,
-    }
-}
-
-/// Whether the one action tells a client this status.
-fn is_told(out: &Out, status: u16) -> bool {
-    match out.actions() {
-        [
-            Action::Serve {
-                answer: Answer::Fail(told),
-                ..
-            },
-        ] => *told == status,
         _ => false,
     }
 }
@@ -173,7 +135,7 @@ fn is_answered(alloc: Global, row: &Row) -> Result<bool, Fail> {
 fn is_answered_in_list(alloc: Global, row: &Row) -> Result<bool, Fail> {
     let mut node = new_node(alloc)?;
     let mut events = Vec::new(alloc);
-    events.push(swap(alloc, 65_535)?)?;
+    events.push(swap(alloc)?)?;
     events.push(arrival(alloc, row)?)?;
     let outs = run_events(alloc, &mut node, &events)
         .ok()
@@ -205,89 +167,5 @@ fn configurations_are_refused(rt: HostRuntime) -> Result<(), Fail> {
         let config = config_of(alloc, prefix, entries, neighbours)?;
         assert!(rt; Node::new(alloc, config).err() == Some(fault));
     }
-    Ok(())
-}
-
-#[test]
-fn many_queries_get_their_replies(rt: HostRuntime) -> Result<(), Fail> {
-    let alloc = rt.alloc();
-    let row = &ROWS[0];
-    let mut node = new_node(alloc)?;
-    let mut out = Out::new(alloc)?;
-    let event = arrival(alloc, row)?;
-    for _ in 0..100_000u32 {
-        out.clear();
-        node.step(alloc, &event, &mut out)?;
-        assert!(rt; is_sent(&out, row.reply));
-    }
-    Ok(())
-}
-
-/// Whether a client's request is told a status, as the only action.
-fn tells(
-    alloc: Global,
-    node: &mut Node,
-    client: u64,
-    mode: Mode,
-    status: u16,
-) -> Result<bool, Fail> {
-    let mut out = Out::new(alloc)?;
-    let event = request(alloc, client, mode)?;
-    node.step(alloc, &event, &mut out)?;
-    Ok(is_told(&out, status))
-}
-
-#[test]
-fn clients_join_and_are_turned_away(rt: HostRuntime) -> Result<(), Fail> {
-    let alloc = rt.alloc();
-    let mut node = new_node(alloc)?;
-    for client in 0..1_000u64 {
-        assert!(rt; tells(alloc, &mut node, client, Mode::Cached, 504)?);
-    }
-    for client in 0..1_024u64 {
-        assert!(rt; !tells(alloc, &mut node, client, Mode::Shared, 503)?);
-    }
-    assert!(rt; tells(alloc, &mut node, 1_024, Mode::Shared, 503)?);
-    Ok(())
-}
-
-#[test]
-fn a_long_list_is_taken(rt: HostRuntime) -> Result<(), Fail> {
-    let alloc = rt.alloc();
-    let mut events = Vec::new(alloc);
-    for _ in 0..1_000u32 {
-        events.push(arrival(alloc, &ROWS[0])?)?;
-    }
-    let mut node = new_node(alloc)?;
-    let outs = run_events(alloc, &mut node, &events)
-        .ok()
-        .ok_or("memory is there")?;
-    assert_eq!(rt; outs.len(), 1_000);
-    assert!(rt; outs.iter().all(|out| is_sent(out, ROWS[0].reply)));
-    Ok(())
-}
-
-/// Whether a datagram that was judged by a filter that rejects it is answered.
-fn is_answered_when_judged(alloc: Global, node: &mut Node) -> Result<bool, Fail> {
-    let row = &ROWS[0];
-    let judged = Judged::new(datagram_of(alloc, row)?, Some(limit(alloc, 0)?));
-    let mut out = Out::new(alloc)?;
-    node.step_judged(alloc, &judged, now()?, &mut out)?;
-    Ok(is_sent(&out, row.reply))
-}
-
-#[test]
-fn a_held_verdict_counts_only_under_its_filter(rt: HostRuntime) -> Result<(), Fail> {
-    let alloc = rt.alloc();
-    let mut node = new_node(alloc)?;
-    let mut copy = node.copy(alloc)?;
-    let mut out = Out::new(alloc)?;
-    node.step(alloc, &swap(alloc, 0)?, &mut out)?;
-    assert!(rt; !is_answered_when_judged(alloc, &mut node)?);
-    assert!(rt; is_answered_when_judged(alloc, &mut copy)?);
-    assert_eq!(rt;
-        (node.stats().icp.rejected, copy.stats().icp.rejected),
-        (1, 0)
-    );
     Ok(())
 }

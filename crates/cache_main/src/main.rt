@@ -93,14 +93,6 @@ fn run_feed(rt: &HostRuntime) -> ExitCode {
 }
 
 #[cfg(test)]
-mod book_tests;
-#[cfg(test)]
 mod event_tests;
 #[cfg(test)]
-mod feed_memory;
-#[cfg(test)]
-mod feed_tests;
-#[cfg(test)]
 mod node_tests;
-#[cfg(test)]
-mod tally_tests;

@@ -19,6 +19,3 @@ pub use std::alloc::AllocError as NoMemory;
 pub use traffic::{Received, Sending, WireFault};
 pub use turns::{pump, pump_with};
 pub use wire::Wire;
-
-#[cfg(test)]
-mod tests;

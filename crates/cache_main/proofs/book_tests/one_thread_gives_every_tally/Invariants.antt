@@ -1,4 +1,0 @@
-use Rattle.cache_main.proofs.book_tests.one_thread_gives_every_tally.Given as goal
-
-abbrev pub ghosts-replayed : goal.ghosts-replayed
-ghosts-replayed g a = record { name = a.blank.name; parts = a.blank.parts }
