@@ -2,7 +2,7 @@
 #   make feed    runs the example script: by the proved program where it is built, otherwise unproved, and says which
 #   make serve   runs the proxy on examples/serve.json, proved or unproved likewise
 #   make group   runs three proxies that ask one another (it needs the built program)
-#   make build   proves every crate and builds the program
+#   make build   proves and builds the program, with every crate that it stands on
 #   make test    proves every crate from nothing, tries the must-fail edits, runs all tests, script cases and documents
 #   make edits   tries every must-fail edit there is, also those of more-edits/
 #   make bench   measures (it needs valgrind)
