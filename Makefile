@@ -29,12 +29,14 @@ build:
 test:
 	@tools/gate
 
-# The script cases, and the documents' commands, against the program as it was last built.
+# The script cases, and the documents' commands, against the program as it was last built; and PROMISES' list of what has to be
+# believed, against the definitions.
 cases:
 	@tools/cases $(PROGRAM) cases
 
 documents:
 	@tools/documents $(PROGRAM)
+	@tools/believe --check
 
 # The proxy over loopback.
 loopback:

@@ -3,3 +3,4 @@ mod RefusalLemmas
 pub mod ListingNumbers
 pub mod ListingFaults
 pub mod ListingText
+pub mod SamePrograms

@@ -2,6 +2,5 @@ pub mod Operation
 pub mod Accepted
 pub mod Refusal
 pub mod Insn
-pub mod Same
 pub mod Listing
 pub mod LineReading

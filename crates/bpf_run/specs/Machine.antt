@@ -27,7 +27,7 @@ loaded Word packet at =
     then Some ((slice_index packet at * 256 + slice_index packet (at + 1)) * 65536 + (slice_index packet (at + 2) * 256 + slice_index packet (at + 3)))
     else None
 
--- two words computed, modulo 2^32; a shift by 32 or more gives 0
+-- two words computed, modulo 2^32; a shift by more than 31 leaves 0
 abbrev pub computed : Arithmetic → ℕ → ℕ → ℕ
 computed Add a b = (a + b) % 2 ^ 32
 computed Subtract a b = (a + (2 ^ 32 - b)) % 2 ^ 32

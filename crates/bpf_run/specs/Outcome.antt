@@ -1,4 +1,4 @@
--- How the interpreter's outcome, and the machine that it leaves, stand for what an instruction leads to.
+-- How the interpreter's outcome, and the machine that it leaves, stand for what an instruction leads to. No public contract rests on it.
 use Rattle.std.specs.Prelude.{◌≡◌, Option, Some}
 use Rattle.bpf_run.specs.declared.machine.Machine.{Machine}
 use Rattle.bpf_run.specs.declared.machine.Step.{Step}

@@ -4,13 +4,21 @@ use Rattle.std.specs.Prelude.{ℕ, ◌+◌, List, [], ◌∷◌, ◌++◌, lengt
 use Rattle.std.specs.Int.{to_be_bytes, w16}
 use Rattle.bpf_run.specs.declared.ends.End.{End}
 
--- the 28 octets before a payload of n octets
+-- how many octets stand before the payload
+abbrev pub header_octets : ℕ
+header_octets = 28
+
+-- how many octets the payload of a UDP datagram over IPv4 can have
+abbrev pub most_payload : ℕ
+most_payload = 65507
+
+-- the octets before a payload of n octets
 abbrev pub header_of : End → End → ℕ → List ℕ
 header_of from to n =
     -- version 4 and header length 5, no service
     (0x45 ∷ 0 ∷ [])
     -- the length of the whole
-    ++ to_be_bytes w16 (28 + n)
+    ++ to_be_bytes w16 (header_octets + n)
     -- no identification, no fragments
     ++ (0 ∷ 0 ∷ 0 ∷ 0 ∷ [])
     -- 64 hops, protocol 17 (UDP), no checksum

@@ -2,7 +2,7 @@
 
 ghost use Rattle.std.specs.Prelude.{◌≡◌, ◌<◌, ◌≤◌, ◌+◌, ◌↔◌, ◌^◌, length, Some, IsSome, IfSome, slice_get};
 ghost use Rattle.bpf_run.specs.Machine.{loaded};
-ghost use Rattle.bpf_run.specs.Packet.{filter_packet, header_of};
+ghost use Rattle.bpf_run.specs.Packet.{filter_packet, header_of, header_octets, most_payload};
 
 use crate::ends::End;
 use bpf_check::operation::Width;
@@ -27,19 +27,20 @@ pub struct Packet<'a> {
 
 impl<'a> Model for Packet<'a> {
     ghost use Rattle.std.specs.Prelude.{List, ℕ, ◌≡◌, ◌≤◌, ◌-◌, ◌++◌, length};
+    ghost use Rattle.bpf_run.specs.Packet.{most_payload};
 
     ghost Value = { List ℕ };
 
     ghost view = { λ p. p.header ++ p.payload.now };
 
-    ghost invariant = { λ p. (length p.payload.now ≤ 65507) × (p.halves ≡ length p.payload.now - 1) × (p.words ≡ length p.payload.now - 3) };
+    ghost invariant = { λ p. (length p.payload.now ≤ most_payload) × (p.halves ≡ length p.payload.now - 1) × (p.words ≡ length p.payload.now - 3) };
 }
 
 impl<'a> Packet<'a> {
     /// The filter packet of a payload, unless that has more than 65,507 octets.
     #[inline(always)]
     pub fn new(from: End, to: End, payload: &'a [u8]) -> Option<Packet<'a>>
-        ensures exists { IsSome result ↔ (length payload.now ≤ 65507) }
+        ensures exists { IsSome result ↔ (length payload.now ≤ most_payload) }
         ensures value { IfSome result (λ packet. packet ≡ filter_packet from to payload.now) }
     {
         if payload.len() > MOST_PAYLOAD {
@@ -135,8 +136,8 @@ impl<'a> Packet<'a> {
 // A place as one of the payload. Where it is in the header, this is past each payload.
 #[inline(always)]
 fn in_payload(place: u64) -> u64
-    ensures header { place < 28 → 2 ^ 40 < result }
-    ensures payload { 28 ≤ place → place ≡ 28 + result }
+    ensures header { place < header_octets → 2 ^ 40 < result }
+    ensures payload { header_octets ≤ place → place ≡ header_octets + result }
 {
     place.wrapping_sub(HEADER as u64)
 }
@@ -162,10 +163,10 @@ fn word_at(octets: &[u8], at: usize) -> u32
 // The octets before a payload of so many octets.
 #[inline(always)]
 fn header(from: End, to: End, payload: u16) -> [u8; HEADER]
-    requires { payload ≤ 65507 }
+    requires { payload ≤ most_payload }
     ensures { result ≡ header_of from to payload }
 {
-    let total = (28 + payload).to_be_bytes();
+    let total = (HEADER as u16 + payload).to_be_bytes();
     let udp = (8 + payload).to_be_bytes();
     let source = from.port.to_be_bytes();
     let target = to.port.to_be_bytes();

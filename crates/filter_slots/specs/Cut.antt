@@ -1,7 +1,8 @@
 -- What a verdict leaves of a payload.
--- A verdict counts octets of the whole packet, of which the first 28 are the header's.
+-- A verdict counts octets of the whole packet, of which the first are the header's.
 use Rattle.std.specs.Prelude.{ℕ, ◌-◌, List, take}
+use Rattle.bpf_run.specs.Packet.{header_octets}
 
--- the first (value - 28) octets, none where that is below 0, all where there are fewer
+-- so many octets less those of the header, none where that is below 0, all where there are fewer
 abbrev pub cut_of : List ℕ → ℕ → List ℕ
-cut_of payload value = take (value - 28) payload
+cut_of payload value = take (value - header_octets) payload

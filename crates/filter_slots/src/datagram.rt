@@ -1,7 +1,7 @@
 //! A datagram that came in.
 
 ghost use Rattle.std.specs.Prelude.{◌≡◌, ◌≤◌, ◌↔◌, length, IsOk, IfOk, IfErr};
-ghost use Rattle.bpf_run.specs.Packet.{filter_packet};
+ghost use Rattle.bpf_run.specs.Packet.{filter_packet, most_payload};
 ghost use Rattle.filter_slots.specs.Datagram.{ends_of};
 
 use bpf_run::packet::MOST_PAYLOAD;
@@ -20,19 +20,20 @@ pub struct Datagram {
 
 impl Model for Datagram {
     ghost use Rattle.std.specs.Prelude.{◌≤◌, length};
+    ghost use Rattle.bpf_run.specs.Packet.{most_payload};
     ghost use Rattle.filter_slots.specs.Datagram.{DatagramFields};
 
     ghost Value = { DatagramFields };
 
     ghost view = { λ d. record { socket = d.socket; from = d.from; to = d.to; payload = d.payload.items } };
 
-    ghost invariant = { λ d. length d.payload.items ≤ 65507 };
+    ghost invariant = { λ d. length d.payload.items ≤ most_payload };
 }
 
 impl Datagram {
     /// The datagram, or the payload handed back where it has more than 65,507 octets.
     pub fn new(socket: Socket, from: End, to: End, payload: Vec<u8>) -> Result<Datagram, Vec<u8>>
-        ensures accepts { IsOk result ↔ (length payload.items ≤ 65507) }
+        ensures accepts { IsOk result ↔ (length payload.items ≤ most_payload) }
         ensures value { IfOk result (λ datagram. datagram ≡ record { socket = socket; from = from; to = to; payload = payload.items }) }
         ensures back { IfErr result (λ refused. refused ≡ payload) }
     {
@@ -75,7 +76,7 @@ impl Datagram {
     #[inline(always)]
     pub fn payload(&self) -> &[u8]
         ensures same { result.now ≡ self.now.payload }
-        ensures within { length self.now.payload ≤ 65507 }
+        ensures within { length self.now.payload ≤ most_payload }
     {
         &self.payload
     }

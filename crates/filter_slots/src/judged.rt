@@ -48,7 +48,7 @@ impl Judged {
         }
     }
 
-    /// The verdict of its own program on its own datagram.
+    /// What its program, if it has one, says of its datagram.
     pub fn verdict(&self) -> Verdict
         ensures value { result.value ≡ verdict_by self.now.datagram self.now.program }
         ensures steps { result.steps ≡ steps_by self.now.datagram self.now.program }

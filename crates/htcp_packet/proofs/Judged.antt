@@ -5,7 +5,7 @@ use Rattle.htcp_packet.specs.Message.{Message, Spells}
 use Rattle.htcp_packet.specs.Reading.{Received, message_of}
 use Rattle.htcp_packet.specs.Writing.{body_text, data_text, message_text}
 use Rattle.htcp_packet.specs.Signing.{IsGood, sealed, sealed_received, IsSignable}
-use Rattle.htcp_packet.specs.Lengths.{length-signed}
+use Rattle.htcp_packet.proofs.Lengths.{length-signed}
 use Rattle.htcp_packet.proofs.Whole.{one_message}
 use Rattle.htcp_packet.proofs.Agreed.{agreed}
 use Rattle.htcp_packet.proofs.Written.{spelled_from_written, holds_sealed}

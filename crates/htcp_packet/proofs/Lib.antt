@@ -4,3 +4,4 @@ pub mod Agreed
 pub mod Limits
 pub mod Written
 pub mod Judged
+pub mod Lengths

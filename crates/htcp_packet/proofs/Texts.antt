@@ -10,7 +10,7 @@ use Rattle.htcp_packet.specs.declared.message.Form.TheVariants as forms
 use Rattle.htcp_packet.specs.Message.{Spec, Details, Body, empty, specifier, clear, detail, cache_headers, opaque, Seal, Auth, unsigned, signed, countstr, spec_text, detail_text, IsSpec, IsDetails, BeginsWith, IsClear, HoldsBody, seal_text, IsSeal, HoldsAuth}
 use Rattle.htcp_packet.specs.Reading.{◌>>=◌, countstr_at, spec_at, detail_at, body_at, seal_at, auth_at}
 use Rattle.wire_octets.specs.Octets.{IsOctets}
-use Rattle.wire_octets.specs.Fields.{IsOctets-drop, IsOctets-take, field2, field4}
+use Rattle.wire_octets.proofs.Fields.{IsOctets-drop, IsOctets-take, field2, field4}
 
 -- the value of a step that did not fail
 pub bind_some : {A B : Type 0} (r : Option A) (f : A → Option B) (y : B) → (r >>= f) ≡ Some y → (x : A) × (r ≡ Some x) × (f x ≡ Some y)

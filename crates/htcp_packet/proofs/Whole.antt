@@ -15,7 +15,7 @@ use Rattle.htcp_packet.specs.Reading.{body_at, auth_at, data_octets, auth_octets
 use Rattle.htcp_packet.specs.Fault.{HasFault, place, IsFaultOf}
 use Rattle.htcp_packet.specs.Fields.{IsHeader, ReadsAs}
 use Rattle.wire_octets.specs.Octets.{IsOctets}
-use Rattle.wire_octets.specs.Fields.{IsOctets-drop, IsOctets-take, field2, field4}
+use Rattle.wire_octets.proofs.Fields.{IsOctets-drop, IsOctets-take, field2, field4}
 use Rattle.htcp_packet.proofs.Texts.{some_is, body_takes, body_again, auth_takes, auth_again}
 
 none_is : {A : Type 0} (x : A) → None ≡ Some x → ⊥

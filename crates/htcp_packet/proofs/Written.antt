@@ -6,9 +6,9 @@ use Rattle.htcp_packet.specs.declared.message.Form.{Form}
 use Rattle.htcp_packet.specs.declared.message.Form.TheVariants as forms
 use Rattle.htcp_packet.specs.Message.{Message, Spec, Details, Body, empty, specifier, clear, detail, cache_headers, opaque, Auth, signed, Seal, form_of, countstr, seal_text, spec_text, detail_text, IsSpec, IsDetails, HoldsBody, HoldsAuth, bit, Spells}
 use Rattle.hmac_md5.specs.Hmac.{hmac}
-use Rattle.hmac_md5.specs.Lengths.{length-hmac}
+use Rattle.hmac_md5.proofs.Lengths.{length-hmac}
 use Rattle.htcp_packet.specs.Signing.{covered, expiry, seal_for}
-use Rattle.htcp_packet.specs.Lengths.{length-sealed}
+use Rattle.htcp_packet.proofs.Lengths.{length-sealed}
 use Rattle.htcp_packet.specs.Writing.{body_text, data_text, auth_text, message_text, FitsForm, IsWritable}
 
 is_spec : (s : Spec) → length (spec_text s) < 2 ^ 16 → IsSpec s

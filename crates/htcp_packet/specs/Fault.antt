@@ -6,8 +6,8 @@ use Rattle.htcp_packet.specs.declared.fault.HtcpFault.TheVariants as faults
 use Rattle.htcp_packet.specs.Message.{Body, Auth, HoldsBody, HoldsAuth}
 use Rattle.htcp_packet.specs.Reading.{data_octets, auth_octets, form_at}
 
--- the condition of each fault: too short for LENGTH and versions; another LENGTH; another MAJOR; DATA's LENGTH isn't
--- whole, under 8, or more than what is left; OP-DATA doesn't hold its form; the octets behind DATA are no AUTH
+-- the condition of each fault: too short for LENGTH and versions; another LENGTH; another MAJOR; DATA's LENGTH lacks an
+-- octet, is less than 8, or goes past the end; OP-DATA doesn't hold its form; the octets behind DATA are no AUTH
 abbrev pub HasFault : HtcpFault → List ℕ → Type 0
 HasFault faults.Short octets = length octets < 4
 HasFault faults.Length octets = big_number 2 octets ≢ length octets

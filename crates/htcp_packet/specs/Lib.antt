@@ -7,4 +7,3 @@ pub mod Fault
 pub mod Fields
 pub mod Signing
 pub mod Writing
-pub mod Lengths

@@ -8,10 +8,10 @@ use Rattle.htcp_packet.specs.declared.verifying.Sign.{Sign}
 use Rattle.htcp_packet.specs.declared.verifying.Sign.TheVariants.{Absent, Good, Bad}
 use Rattle.htcp_packet.specs.Message.{Auth, unsigned, signed, Seal, Message, countstr}
 use Rattle.htcp_packet.specs.Reading.{Received}
-use Rattle.htcp_packet.specs.Writing.{data_text, message_text, IsWritable}
+use Rattle.htcp_packet.specs.Writing.{data_text, message_text, most_octets, IsWritable}
 use Rattle.wire_octets.specs.Octets.{IsOctets}
 
--- what a signature covers: the ends, MAJOR 0, MINOR, SIG-TIME, SIG-EXPIRE, DATA as transmitted, and KEY-NAME with its length
+-- what a signature covers: the ends, the version (MAJOR is 0), both times, DATA just as it came, and KEY-NAME with its length
 abbrev pub covered : List ℕ → ℕ → ℕ → ℕ → List ℕ → List ℕ → List ℕ
 covered ends minor time expire raw key_name =
     ends ++ (0 ∷ minor ∷ big_bytes 4 time ++ big_bytes 4 expire ++ (raw ++ countstr key_name))
@@ -73,4 +73,4 @@ pub record IsSignable (m : Message) (ends name secret : List ℕ) (seconds : ℕ
   pub trans : m.trans < 2 ^ 32
   pub seconds_fit : seconds < 2 ^ 32
   pub octets : IsOctets (message_text (sealed m ends name secret seconds))
-  pub short : length (message_text (sealed m ends name secret seconds)) ≤ 65507
+  pub short : length (message_text (sealed m ends name secret seconds)) ≤ most_octets

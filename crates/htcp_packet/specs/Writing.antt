@@ -31,6 +31,10 @@ message_text m =
     big_bytes 2 (length (data_text m) + length (auth_text m.auth) + 4)
     ++ (0 ∷ m.minor ∷ data_text m ++ auth_text m.auth)
 
+-- how many octets a message can have: what a UDP datagram over IPv4 can carry
+abbrev pub most_octets : ℕ
+most_octets = 65507
+
 -- the same message with no signature
 abbrev pub without_auth : Message → Message
 without_auth m = record m { auth = unsigned }

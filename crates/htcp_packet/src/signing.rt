@@ -3,7 +3,7 @@
 ghost use Rattle.std.specs.Prelude.{◌≡◌, ◌↔◌, ◌+◌, ◌<◌, ◌≤◌, ◌++◌, length, ℕ, List, OnOk, IfOk};
 ghost use Rattle.htcp_packet.specs.Message.{Message, signed, Spells};
 ghost use Rattle.htcp_packet.specs.View.{shown, shown_body};
-ghost use Rattle.htcp_packet.specs.Writing.{auth_text, body_text, data_text, message_text, IsWritable};
+ghost use Rattle.htcp_packet.specs.Writing.{auth_text, body_text, data_text, message_text, most_octets, IsWritable};
 ghost use Rattle.htcp_packet.specs.Signing.{sealed, IsGood};
 
 use crate::fault::EncodeFault;
@@ -77,7 +77,7 @@ pub fn sign(
     requires { IsWritable (shown view.now) }
     ensures written { IfOk result (λ out. out.items ≡ message_text (sealed (shown view.now) ends.now name.now secret.now seconds)) }
     ensures spelled { IfOk result (λ out. Spells out.items (data_text (shown view.now)) (sealed (shown view.now) ends.now name.now secret.now seconds)) }
-    ensures too_long { (result ≡ Err EncodeFault.TooLong) ↔ (65507 < length (message_text (sealed (shown view.now) ends.now name.now secret.now seconds))) }
+    ensures too_long { (result ≡ Err EncodeFault.TooLong) ↔ (most_octets < length (message_text (sealed (shown view.now) ends.now name.now secret.now seconds))) }
     // Whoever reads it finds the signature good, but at the last second.
     ensures good { IfOk result (λ out. (raw : List ℕ) (m : Message) → Spells out.items raw m → (IsGood (record { message = m; raw = raw }) ends.now secret.now seconds ↔ (seconds < 4294967295))) }
 {

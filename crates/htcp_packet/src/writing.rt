@@ -3,7 +3,7 @@
 ghost use Rattle.std.specs.Prelude.{◌≡◌, ◌+◌, ◌-◌, ◌^◌, ◌<◌, ◌≤◌, ◌∷◌, ◌++◌, ◌↔◌, [], length, min, OnOk, IfOk};
 ghost use Rattle.byteorder.specs.Endian.{big_bytes};
 ghost use Rattle.htcp_packet.specs.Message.{countstr, spec_text, detail_text, Spells};
-ghost use Rattle.htcp_packet.specs.Writing.{body_text, data_text, message_text, without_auth, IsWritable};
+ghost use Rattle.htcp_packet.specs.Writing.{body_text, data_text, message_text, most_octets, without_auth, IsWritable};
 ghost use Rattle.htcp_packet.specs.View.{shown, shown_body, shown_detail, shown_specifier};
 
 use crate::fault::EncodeFault;
@@ -162,7 +162,7 @@ pub fn encode(alloc: Global, view: &HtcpView<'_>) -> Result<Vec<u8>, EncodeFault
     requires { IsWritable (shown view.now) }
     ensures written { IfOk result (λ out. out.items ≡ message_text (without_auth (shown view.now))) }
     ensures spelled { IfOk result (λ out. Spells out.items (data_text (shown view.now)) (without_auth (shown view.now))) }
-    ensures too_long { (result ≡ Err EncodeFault.TooLong) ↔ (65507 < length (message_text (without_auth (shown view.now)))) }
+    ensures too_long { (result ≡ Err EncodeFault.TooLong) ↔ (most_octets < length (message_text (without_auth (shown view.now)))) }
 {
     view.is_in_range();
     let body_len = body_len(&view.body);

@@ -1,4 +1,4 @@
--- Where the first element of a text ends, what is left after it, and a search value by value.
+-- Where the first element of a text ends, what is left after it, and a search value by value. No public contract rests on it.
 use Rattle.std.specs.Prelude.{ℕ, suc, List, [], ◌∷◌, length, Option, Some, None, if◌then◌else◌}
 use Rattle.http_rules.specs.declared.directives.Place.{Place}
 use Rattle.http_rules.specs.Directives.{place_after, is_separator, directives_in, first_argument}

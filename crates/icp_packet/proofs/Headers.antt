@@ -6,7 +6,7 @@ use Rattle.byteorder.specs.Endian.{big_bytes, big_number}
 use Rattle.byteorder.specs.Numbers.{big_number-reads_back}
 use Rattle.icp_packet.specs.Message.{Message, code, payload, spelling, spelled_length, Spells}
 use Rattle.wire_octets.specs.Octets.{IsOctets}
-use Rattle.wire_octets.specs.Fields.{part, field2, field4}
+use Rattle.wire_octets.proofs.Fields.{part, field2, field4}
 use Rattle.icp_packet.specs.Parts.{IsHeader}
 
 four_cells : (xs : List ℕ) → 4 ≤ length xs → take 4 xs ≡ get_or xs 0 0 ∷ get_or xs 1 0 ∷ get_or xs 2 0 ∷ get_or xs 3 0 ∷ []

@@ -4,12 +4,12 @@ ghost use Rattle.std.specs.Prelude.{◌≡◌, ◌↔◌, List, ℕ};
 ghost use Rattle.icp_packet.specs.Message.{Message, Spells};
 ghost use Rattle.icp_packet.specs.Reading.{message_of};
 
-/// Octets spell at most one message.
+/// No octets spell two messages.
 pub fn one_message()
     ensures { (octets : List ℕ) (m n : Message) → Spells octets m → Spells octets n → m ≡ n }
 {}
 
-/// A message has at most one spelling.
+/// No message has two spellings.
 pub fn one_spelling()
     ensures { (a b : List ℕ) (m : Message) → Spells a m → Spells b m → a ≡ b }
 {}

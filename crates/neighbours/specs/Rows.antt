@@ -30,7 +30,7 @@ mark_at marks n = unwrap_or (slice_get marks n) blank
 abbrev pub weight_at : List Neighbour → ℕ → ℕ
 weight_at neighbours n = unwrap_or (option_map (λ (neighbour : Neighbour). neighbour.weight) (slice_get neighbours n)) 1
 
--- a peer is up while its misses are under 20
+-- fewer than 20 misses: the peer is up
 abbrev pub is_up : Mark → Bool
 is_up mark = nat_lt mark.misses 20
 

@@ -55,7 +55,7 @@ first_of less list = find (λ one. not (list_any (λ other. less other one) list
 abbrev pub hit_of : List Reply → Option Reply
 hit_of replies = find (λ reply. is_hit reply.kind) replies
 
--- that Miss parent which no other Miss parent is before
+-- of the parents with a Miss, the one that comes before all others
 abbrev pub parent_of : List Peer → List Reply → Option Reply
 parent_of peers replies = first_of (reply_before peers) (filter (is_parent_miss peers) replies)
 

@@ -46,7 +46,7 @@ abbrev pub all_replied : List Reply → ℕ → List Peer → Bool
 all_replied replies n [] = true
 all_replied replies n (peer ∷ peers) = (not peer.up || has_reply replies n) && all_replied replies (n + 1) peers
 
--- a round is decided where it asked nobody, its time is up, it has a Hit, or every peer that was up at its start has replied
+-- a round is decided where it asked nobody, its time is up, one reply is a Hit, or no peer that was up when it began is still silent
 abbrev pub decided : Poll → Bool
 decided poll =
     not poll.asked || (poll.expired || (list_any (λ reply. is_hit reply.kind) poll.replies || all_replied poll.replies 0 poll.peers))

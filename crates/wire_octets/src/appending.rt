@@ -31,16 +31,3 @@ pub fn put_u32(out: &mut Vec<u8>, n: u32) -> Result<(), AllocError>
     BigEndian::write_u32(&mut octets, n);
     out.extend_from_slice(&octets)
 }
-
-/// Appends the eight octets of `n`. An error says that there was no memory for them, and leaves `out` as it was.
-#[inline]
-pub fn put_u64(out: &mut Vec<u8>, n: u64) -> Result<(), AllocError>
-    ensures appended { OnOk result (out.new.items ≡ out.old.items ++ big_bytes 8 n) }
-    ensures unchanged { OnErr result (out.new.items ≡ out.old.items) }
-    ensures full { OnErr result (vec_capacity out.old < vec_len out.old + 8) }
-    ensures room { vec_capacity out.old ≤ vec_capacity out.new }
-{
-    let mut octets = [0u8; 8];
-    BigEndian::write_u64(&mut octets, n);
-    out.extend_from_slice(&octets)
-}

@@ -3,7 +3,7 @@ use Rattle.htcp_packet.specs.declared.fault.EncodeFault.TheVariants.{TooLong}
 use Rattle.htcp_packet.specs.View.{shown}
 use Rattle.htcp_packet.specs.Writing.{body_text}
 use Rattle.htcp_packet.specs.Signing.{sealed}
-use Rattle.htcp_packet.specs.Lengths.{length-signed}
+use Rattle.htcp_packet.proofs.Lengths.{length-signed}
 use Rattle.htcp_packet.proofs.Written.{spelled_from_written, holds_sealed}
 use Rattle.htcp_packet.proofs.Judged.{good_as_made}
 use Rattle.htcp_packet.proofs.Limits.{over, within, refused_over, refused_within, written_within}

@@ -3,7 +3,7 @@ use Rattle.htcp_packet.specs.Message.{signed, Seal}
 use Rattle.htcp_packet.specs.View.{shown}
 use Rattle.htcp_packet.specs.Writing.{auth_text}
 use Rattle.htcp_packet.specs.Signing.{seal_for}
-use Rattle.htcp_packet.specs.Lengths.{length-sealed}
+use Rattle.htcp_packet.proofs.Lengths.{length-sealed}
 use Rattle.htcp_packet.proofs.Written.{message_put, seal_made}
 use Rattle.htcp_packet.proofs.signing.signed_message.Goals as goal
 

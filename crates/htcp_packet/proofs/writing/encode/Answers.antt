@@ -1,7 +1,7 @@
 use Rattle.std.proofs.Common.{◌≤◌, [], length, refl, arith, inr}
 use Rattle.htcp_packet.specs.View.{shown}
 use Rattle.htcp_packet.specs.Writing.{message_text, without_auth}
-use Rattle.htcp_packet.specs.Lengths.{length-unsigned}
+use Rattle.htcp_packet.proofs.Lengths.{length-unsigned}
 use Rattle.htcp_packet.proofs.Written.{spelled_from_written}
 use Rattle.htcp_packet.proofs.writing.encode.Goals as goal
 

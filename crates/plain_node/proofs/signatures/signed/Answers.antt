@@ -1,6 +1,6 @@
 use Rattle.std.proofs.Common.{◌≡◌, Err, ap, ◌∙◌, arith}
 use Rattle.htcp_packet.specs.View.{shown}
-use Rattle.htcp_packet.specs.Lengths.{length-signed}
+use Rattle.htcp_packet.proofs.Lengths.{length-signed}
 use Rattle.plain_node.proofs.signatures.signed.Goals as goal
 
 pub unreachable-requires : goal.unreachable-requires

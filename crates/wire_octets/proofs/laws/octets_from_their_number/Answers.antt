@@ -1,4 +1,4 @@
-use Rattle.wire_octets.specs.Fields.{two_back, four_back}
+use Rattle.wire_octets.proofs.Fields.{two_back, four_back}
 use Rattle.wire_octets.proofs.laws.octets_from_their_number.Goals as goal
 
 pub returns-clause-two : goal.returns-clause-two

@@ -1,6 +1,6 @@
 -- How long written messages are: laws for the proofs of those who write them.
 use Rattle.std.proofs.Common.{◌≡◌, ℕ, ◌+◌, List, [], ◌∷◌, length, length-append, arith}
-use Rattle.hmac_md5.specs.Lengths.{length-hmac}
+use Rattle.hmac_md5.proofs.Lengths.{length-hmac}
 use Rattle.htcp_packet.specs.Message.{Message, signed, countstr}
 use Rattle.htcp_packet.specs.Writing.{body_text, data_text, auth_text, message_text, without_auth}
 use Rattle.htcp_packet.specs.Signing.{covered, expiry, seal_for, sealed}
