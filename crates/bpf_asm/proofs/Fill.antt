@@ -1,11 +1,16 @@
 -- What is read of the tokens is spelled by them, and its words are numerals and labels.
-use Rattle.std.proofs.Common.{◌≡◌, ℕ, List, [], ◌∷◌, ◌++◌, Bool, true, false, cond, ◌⊎◌, inl, inr, Option, Some, None, option_and_then, refl, ap, sym, ◌∙◌, subst}
+use Rattle.bpf_check.specs.declared.operation.Operand.TheVariants.{Constant, Index}
+use Rattle.bpf_check.specs.declared.operation.Operation.{Operation}
+use Rattle.bpf_check.specs.declared.operation.Operation.TheVariants.{Compute, Branch}
+use Rattle.std.proofs.Common.{◌≡◌, ◌≤◌, ◌+◌, ℕ, arith, length, map, List, [], ◌∷◌, ◌++◌, Bool, true, false, cond, ◌⊎◌, inl, inr, Option, Some, None, option_and_then, refl, ap, sym, ◌∙◌, subst}
 use Rattle.std.specs.Option.{option_map}
 use Rattle.std.specs.Str.{bytes_eq}
 use Rattle.std.proofs.lemmas.Slice.Eq.{bytes_eq-Decides}
+use Rattle.bpf_asm.specs.declared.form.Piece.{Piece}
+use Rattle.bpf_asm.specs.declared.form.Piece.TheVariants.{Number, Label}
 use Rattle.bpf_asm.specs.Token.{ended, is_numeral, starts_word, is_label}
-use Rattle.bpf_asm.specs.Spelling.{Kind, a_number, a_label, exactly, spelled_with, AreOpen}
-use Rattle.bpf_asm.specs.Reading.{Front, number_front, label_front, left_of, fill}
+use Rattle.bpf_asm.specs.Spelling.{Kind, a_number, a_label, exactly, kind, kinds, spelled_with, AreOpen}
+use Rattle.bpf_asm.specs.Reading.{Front, number_front, label_front, left_of, fill, open_places}
 
 and_then : {A B : Type 0} (o : Option A) (g : A → Option B) (y : B) → option_and_then g o ≡ Some y → (x : A) × (o ≡ Some x) × (g x ≡ Some y)
 and_then None g y e = absurd (cc)
@@ -103,3 +108,37 @@ read_open (a_label ∷ ks) ts ws e =
 read_open (exactly token ∷ ks) ts ws e =
     let p = and_then (left_of token ts) (λ left. fill ks left) ws e in
     read_open ks p.0 ws p.2
+
+-- there is a word for each open place
+pub fill_opens : (ks : List Kind) (ts ws : List (List ℕ)) → fill ks ts ≡ Some ws → length ws ≡ open_places ks
+fill_opens [] [] ws e = let n : [] ≡ ws = cc in ap length (sym n)
+fill_opens [] (t ∷ ts) ws e = absurd (cc)
+fill_opens (a_number ∷ ks) ts ws e =
+    let p = and_then (number_front ts) (λ x. option_map (λ (us : List (List ℕ)). x.word ∷ us) (fill ks x.left)) ws e in
+    let q = mapped (fill ks p.0.left) (λ us. p.0.word ∷ us) ws p.2 in
+    let long = fill_opens ks p.0.left q.0 q.1 in
+    let same = ap length q.2 in
+    omega arith
+fill_opens (a_label ∷ ks) ts ws e =
+    let p = and_then (label_front ts) (λ x. option_map (λ (us : List (List ℕ)). x.word ∷ us) (fill ks x.left)) ws e in
+    let q = mapped (fill ks p.0.left) (λ us. p.0.word ∷ us) ws p.2 in
+    let long = fill_opens ks p.0.left q.0 q.1 in
+    let same = ap length q.2 in
+    omega arith
+fill_opens (exactly token ∷ ks) ts ws e =
+    let p = and_then (left_of token ts) (λ left. fill ks left) ws e in
+    fill_opens ks p.0 ws p.2
+
+-- no operation has more than three
+pub few_open : (o : Operation) → open_places (kinds o) ≤ 3
+few_open (Compute arithmetic Constant) = omega arith
+few_open (Compute arithmetic Index) = omega arith
+few_open (Branch comparison Constant) = omega arith
+few_open (Branch comparison Index) = omega arith
+few_open _ = omega arith
+
+pub number_opens : (ps rest : List Piece) (p : Piece) → ps ≡ p ∷ rest → p ≡ Number → open_places (map kind ps) ≡ 1 + open_places (map kind rest)
+number_opens ps rest p e f = ap (λ (x : List Piece). open_places (map kind x)) e ∙ ap (λ (q : Piece). open_places (kind q ∷ map kind rest)) f
+
+pub label_opens : (ps rest : List Piece) (p : Piece) → ps ≡ p ∷ rest → p ≡ Label → open_places (map kind ps) ≡ 1 + open_places (map kind rest)
+label_opens ps rest p e f = ap (λ (x : List Piece). open_places (map kind x)) e ∙ ap (λ (q : Piece). open_places (kind q ∷ map kind rest)) f

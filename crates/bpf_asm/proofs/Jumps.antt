@@ -1,6 +1,8 @@
 -- The second pass: the instructions of the drafts, and which label is the first wrong one.
-use Rattle.std.proofs.Common.{◌≡◌, ℕ, zero, suc, ◌+◌, ◌*◌, ◌<◌, ◌≤◌, ◌^◌, ◌⊎◌, inl, inr, List, [], ◌∷◌, length, true, Option, Some, Result, Ok, Err, MatchResult, refl, ap, sym, ◌∙◌, subst, arith}
-use Rattle.std.specs.Prelude.{slice_get}
+use Rattle.std.proofs.Common.{◌≡◌, ℕ, zero, suc, ◌+◌, ◌*◌, ◌<◌, ◌≤◌, ◌^◌, ◌⊎◌, inl, inr, List, [], ◌∷◌, ◌++◌, length, true, Option, Some, None, refl, ap, sym, ◌∙◌, subst, arith}
+use Rattle.std.specs.Prelude.{slice_get, IfSome, IsSomeAnd}
+use Rattle.std.proofs.lemmas.List.{length_push}
+use Rattle.bpf_check.specs.Accepted.{most_insns}
 use Rattle.std.proofs.lemmas.Option.{slice_get_within}
 use Rattle.bpf_check.specs.declared.insn.Insn.{Insn}
 use Rattle.bpf_check.specs.declared.operation.Operand.TheVariants.{Constant, Index}
@@ -11,9 +13,10 @@ use Rattle.bpf_asm.specs.declared.fault.AsmFault.TheVariants as faults
 use Rattle.bpf_asm.specs.Form.{mnemonic}
 use Rattle.bpf_asm.specs.Spelling.{kinds, AreOpen}
 use Rattle.bpf_asm.specs.Number.{IsNumber}
-use Rattle.bpf_asm.specs.Assembly.{body_of, has_body, place_of, LabelAt, IsBody, Leads, Puts, IsInsn, Assembles, IsBranch, labels_in, LabelFault, LineFault, JumpFault, FaultAt, IsFirstFault, IsAnswer}
-use Rattle.bpf_asm.specs.Drafts.{Draft, Keeps, IsDraft, IsTable, IsDraftAt, AreDrafts, NoneBefore, Resolves, IsResolved, labels_kept, FineLabel, WrongLabel, Unresolved, AreResolved, FirstUnresolved, ResolveAnswer}
+use Rattle.bpf_asm.specs.Assembly.{body_of, has_body, place_of, LabelAt, IsBody, Leads, Puts, IsInsn, Assembles, IsBranch, labels_in, LabelFault, BodyFault, LineFault, JumpFault, FaultAt, IsFirstFault, IsAnswer}
+use Rattle.bpf_asm.specs.Drafts.{Draft, Keeps, IsDraft, IsTable, NoneBefore, Resolves, IsResolved, labels_kept, FineLabel, WrongLabel, Unresolved, HasInsn, InsnRefused, IsInsnAt}
 use Rattle.bpf_asm.proofs.Bodies.{one_body}
+use Rattle.bpf_asm.proofs.Resolving.{each_pushed}
 use Rattle.bpf_asm.proofs.Places.{moved, place_less, place_injective, body_true}
 
 pub body_has : (line : List (List ℕ)) (code : ℕ) (operation : Operation) (ws : List (List ℕ)) → IsBody (body_of line) code operation ws → has_body line ≡ true
@@ -26,13 +29,6 @@ pub there_is : {A : Type 0} (xs : List A) (n : ℕ) → n < length xs → (x : A
 there_is [] n h = absurd (omega arith)
 there_is (x ∷ xs) zero h = (x, refl)
 there_is (x ∷ xs) (suc n) h = there_is xs n (omega arith)
-
--- the draft at the place of a line with an instruction is of this line
-draft_here : (ls : List (List (List ℕ))) (n : ℕ) (line : List (List ℕ)) (place : ℕ) (d : Draft) → slice_get ls n ≡ Some line → has_body line ≡ true → place_of ls n ≡ place → IsDraftAt ls place d → IsDraft (body_of line) d
-draft_here ls n line place d here body at is =
-    let own = body_has is.line d.code d.operation is.draft.ws is.draft.written in
-    let same = place_injective ls is.n n is.line line is.found here own body (is.here ∙ sym at) in
-    moved (λ k l. IsDraft (body_of l) d) ls is.n n is.line line same is.found here is.draft
 
 same_labels : (d : Draft) (o : Operation) (ws : List (List ℕ)) → AreOpen (kinds o) ws → Keeps d o ws → labels_in ws o ≡ labels_kept d o
 same_labels d Jump [] fits keeps = absurd fits
@@ -49,12 +45,13 @@ same_labels d (Branch test Index) (l ∷ m ∷ []) fits keeps = (let a = keeps.1
 same_labels d (Branch test Index) (l ∷ m ∷ v ∷ ws) fits keeps = absurd fits.1.1
 same_labels d _ ws fits keeps = refl
 
--- a label of a jump is the draft's
-jump_label : (ls : List (List (List ℕ))) (n : ℕ) (line : List (List ℕ)) (place : ℕ) (d : Draft) (time : ℕ) (fault : AsmFault) → slice_get ls n ≡ Some line → place_of ls n ≡ place → IsDraftAt ls place d → (b : JumpFault ls time n line fault)
+-- a label of a jump at the place of a draft's line is the draft's
+jump_label : (ls : List (List (List ℕ))) (n m : ℕ) (line other : List (List ℕ)) (d : Draft) (time : ℕ) (fault : AsmFault) → slice_get ls n ≡ Some line → slice_get ls m ≡ Some other → place_of ls m ≡ place_of ls n → IsDraft (body_of line) d → (b : JumpFault ls time m other fault)
     → (slice_get (labels_kept d d.operation) b.j ≡ Some b.label) × (d.operation ≡ b.operation)
-jump_label ls n line place d time fault here at is b =
-    let own = draft_here ls n line place d here (body_has line b.code b.operation b.ws b.written) at is in
-    let e = one_body (body_of line) d.code b.code d.operation b.operation own.ws b.ws own.written b.written in
+jump_label ls n m line other d time fault here there place is b =
+    let one = place_injective ls n m line other here there (body_has line d.code d.operation is.ws is.written) (body_has other b.code b.operation b.ws b.written) (sym place) in
+    let own = moved (λ k l. IsDraft (body_of l) d) ls n m line other one here there is in
+    let e = one_body (body_of other) d.code b.code d.operation b.operation own.ws b.ws own.written b.written in
     (ap (λ (l : List (List ℕ)). slice_get l b.j) (sym (same_labels d d.operation own.ws own.written.form own.kept) ∙ ap (λ (ws : List (List ℕ)). labels_in ws d.operation) e.words ∙ ap (labels_in b.ws) e.operation) ∙ b.named, e.operation)
 
 none_past : {A : Type 0} (n : ℕ) (x : A) → slice_get [] n ≡ Some x → ⊥
@@ -102,76 +99,103 @@ line_early ls time n line _ h = omega (arith, h.0)
 three : (m n : ℕ) → (m < n) ⊎ ((n < m) ⊎ (m ≡ n))
 three m n = grind arith
 
-answer : (ls : List (List (List ℕ))) (fault : AsmFault) → IsFirstFault ls fault → IsAnswer ls fault
-answer ls faults.NoMemory h = tt
-answer ls _ h = h
+no_memory_fault : (ls : List (List (List ℕ))) (time : ℕ) → FaultAt ls time faults.NoMemory → ⊥
+no_memory_fault ls time h = elim h.3 [ inl a ↦ a.1 | inr b ↦ b.wrong ]
 
-first_jump : (ls : List (List (List ℕ))) (look : List ℕ → Option ℕ) (ds : List Draft) (fault : AsmFault) → IsTable ls (length ls) look → AreDrafts ls (length ls) ds → NoneBefore ls (3 * length ls) → FirstUnresolved look ds fault → IsFirstFault ls fault
-first_jump ls look ds fault table drafts none h = record {
-  time = 3 * length ls + 2 * place_of ls at.n + u.j;
+pub first_answer : (ls : List (List (List ℕ))) (fault : AsmFault) → IsFirstFault ls fault → IsAnswer ls fault
+first_answer ls faults.NoMemory h = absurd (no_memory_fault ls h.time h.has)
+first_answer ls _ h = h
+
+-- no fault of the lines comes after all lines were read
+past_lines : (ls : List (List (List ℕ))) (time when n : ℕ) (line : List (List ℕ)) (fault : AsmFault) → slice_get ls n ≡ Some line → LineFault ls when n line fault → 3 * length ls + time ≤ when → ⊥
+past_lines ls time when n line fault here h low = let early = line_early ls when n line fault h in let within = slice_get_within ls n line here in omega arith
+
+-- each fault comes when all jumps before this place were read, or later
+abbrev pub NoneBeforePlace : List (List (List ℕ)) → ℕ → Type 0
+NoneBeforePlace ls place = NoneBefore ls (3 * length ls + 2 * place)
+
+-- a fault of the label of a jump, which is fine
+refuted : (ls : List (List (List ℕ))) (look : List ℕ → Option ℕ) (n m : ℕ) (line other : List (List ℕ)) (d : Draft) (time : ℕ) (fault : AsmFault) → IsTable ls (length ls) look → slice_get ls n ≡ Some line → slice_get ls m ≡ Some other → place_of ls m ≡ place_of ls n → IsDraft (body_of line) d → (b : JumpFault ls time m other fault)
+    → ((l : List ℕ) → slice_get (labels_kept d d.operation) b.j ≡ Some l → FineLabel look (place_of ls n) d.operation l) → ⊥
+refuted ls look n m line other d time fault table here there place is b fine =
+    let named = jump_label ls n m line other d time fault here there place is b in
+    let good = subst (λ (o : Operation). FineLabel look (place_of ls n) o b.label) named.1 (fine b.label named.0) in
+    fine_right ls look (place_of ls n) b.operation b.label table good (m + 1) fault (subst (λ (k : ℕ). LabelFault ls k b.operation b.label (m + 1) fault) place b.wrong)
+
+-- the jump of a line is right
+pub place_resolved : (ls : List (List (List ℕ))) (look : List ℕ → Option ℕ) (n : ℕ) (line : List (List ℕ)) (i : Insn) → IsTable ls (length ls) look → slice_get ls n ≡ Some line → HasInsn look (place_of ls n) (body_of line) i → NoneBeforePlace ls (place_of ls n) → NoneBeforePlace ls (place_of ls n + 1)
+place_resolved ls look n line i table here h none when other f = elim f.3 [
+  | inl a ↦ absurd (past_lines ls (2 * place_of ls n) when f.0 f.1 other f.2 a (none when other f))
+  | inr b ↦ elim (three (place_of ls f.0) (place_of ls n)) [
+    | inl lt ↦ absurd (let low = none when other f in omega (arith, b.after, b.one_of_two))
+    | inr r ↦ elim r [
+      | inl gt ↦ omega (arith, b.after)
+      | inr same ↦ absurd (refuted ls look n f.0 line f.1 h.d when other table here f.2 same h.draft b (resolved_fine look (place_of ls n) i h.d h.d.operation h.resolved.1 b.j))
+    ]
+  ]
+]
+
+-- the first label of a line that is wrong
+pub place_unresolved : (ls : List (List (List ℕ))) (look : List ℕ → Option ℕ) (n : ℕ) (line : List (List ℕ)) (d : Draft) (fault : AsmFault) → IsTable ls (length ls) look → slice_get ls n ≡ Some line → IsDraft (body_of line) d → d.line ≡ n + 1 → NoneBeforePlace ls (place_of ls n) → Unresolved look (place_of ls n) d fault → IsFirstFault ls fault
+place_unresolved ls look n line d fault table here is numbered none u = record {
+  time = 3 * length ls + 2 * place_of ls n + u.j;
   has = (
-    at.n,
-    at.line,
-    at.found,
+    n,
+    line,
+    here,
     inr (record {
       code = d.code;
       operation = d.operation;
-      ws = at.draft.ws;
-      written = at.draft.written;
+      ws = is.ws;
+      written = is.written;
       j = u.j;
       one_of_two = u.one_of_two;
       label = u.label;
-      named = ap (λ (l : List (List ℕ)). slice_get l u.j) (same_labels d d.operation at.draft.ws at.draft.written.form at.draft.kept) ∙ u.named;
+      named = ap (λ (l : List (List ℕ)). slice_get l u.j) (same_labels d d.operation is.ws is.written.form is.kept) ∙ u.named;
       after = refl;
-      wrong = subst (λ (k : ℕ). LabelFault ls k d.operation u.label (at.n + 1) fault) (sym at.here) (subst (λ (k : ℕ). LabelFault ls h.place d.operation u.label k fault) at.numbered (wrong_right ls look h.place d.operation u.label d.line fault table u.wrong));
+      wrong = subst (λ (k : ℕ). LabelFault ls (place_of ls n) d.operation u.label k fault) numbered (wrong_right ls look (place_of ls n) d.operation u.label d.line fault table u.wrong);
     }),
   );
   first = first;
 }
   where
-    d : Draft
-    d = h.d
-
-    at : IsDraftAt ls h.place d
-    at = drafts.each h.place d h.found
-
-    u : Unresolved look h.place d fault
-    u = h.wrong
-
-    refuted : (q : ℕ) (e : Draft) (time m : ℕ) (line : List (List ℕ)) (other : AsmFault) → slice_get ls m ≡ Some line → place_of ls m ≡ q → IsDraftAt ls q e → (b : JumpFault ls time m line other) → ((l : List ℕ) → slice_get (labels_kept e e.operation) b.j ≡ Some l → FineLabel look q e.operation l) → ⊥
-    refuted q e time m line other here place is b fine =
-        let named = jump_label ls m line q e time other here place is b in
-        let good = subst (λ (o : Operation). FineLabel look q o b.label) named.1 (fine b.label named.0) in
-        fine_right ls look q b.operation b.label table good (m + 1) other (subst (λ (k : ℕ). LabelFault ls k b.operation b.label (m + 1) other) place b.wrong)
-
-    before : (q : ℕ) (time m : ℕ) (line : List (List ℕ)) (other : AsmFault) → slice_get ls m ≡ Some line → place_of ls m ≡ q → q < h.place → JumpFault ls time m line other → ⊥
-    before q time m line other here place lt b =
-        let within = slice_get_within ds h.place d h.found in
-        let e = there_is ds q (omega arith) in
-        let done = h.before q e.0 lt e.1 in
-        refuted q e.0 time m line other here place (drafts.each q e.0 e.1) b (resolved_fine look q done.0 e.0 e.0.operation done.1.1 b.j)
-
-    jump_first : (when m : ℕ) (line : List (List ℕ)) (other : AsmFault) → slice_get ls m ≡ Some line → JumpFault ls when m line other → 3 * length ls + 2 * place_of ls at.n + u.j ≤ when
-    jump_first when m line other here b = elim (three (place_of ls m) h.place) [
-      | inl lt ↦ absurd (before (place_of ls m) when m line other here refl lt b)
+    jump_first : (when m : ℕ) (line : List (List ℕ)) (other : AsmFault) → slice_get ls m ≡ Some line → 3 * length ls + 2 * place_of ls n ≤ when → JumpFault ls when m line other → 3 * length ls + 2 * place_of ls n + u.j ≤ when
+    jump_first when m there other found low b = elim (three (place_of ls m) (place_of ls n)) [
+      | inl lt ↦ absurd (omega (arith, b.after, b.one_of_two, low))
       | inr r ↦ elim r [
-        | inl gt ↦ (let e = at.here in omega (arith, b.after, u.one_of_two))
+        | inl gt ↦ omega (arith, b.after, u.one_of_two)
         | inr same ↦ elim (three b.j u.j) [
-          | inl lt ↦ absurd (refuted h.place d when m line other here same at b (λ l e. u.before b.j l lt e))
-          | inr s ↦ (let e = at.here in elim s [ inl gt ↦ omega (arith, b.after) | inr equal ↦ omega (arith, b.after) ])
+          | inl lt ↦ absurd (refuted ls look n m line there d when other table here found same is b (λ l e. u.before b.j l lt e))
+          | inr s ↦ elim s [ inl gt ↦ omega (arith, b.after, same) | inr equal ↦ omega (arith, b.after, same) ]
         ]
       ]
     ]
 
-    first : (when : ℕ) (other : AsmFault) → FaultAt ls when other → 3 * length ls + 2 * place_of ls at.n + u.j ≤ when
+    first : (when : ℕ) (other : AsmFault) → FaultAt ls when other → 3 * length ls + 2 * place_of ls n + u.j ≤ when
     first when other f = elim f.3 [
-      | inl a ↦ absurd (let low = none when other f in let early = line_early ls when f.0 f.1 other a in let within = slice_get_within ls f.0 f.1 f.2 in omega arith)
-      | inr b ↦ jump_first when f.0 f.1 other f.2 b
+      | inl a ↦ absurd (past_lines ls (2 * place_of ls n) when f.0 f.1 other f.2 a (none when other f))
+      | inr b ↦ jump_first when f.0 f.1 other f.2 (none when other f) b
     ]
 
-pub jump_answer : (ls : List (List (List ℕ))) (look : List ℕ → Option ℕ) (ds : List Draft) (fault : AsmFault) → IsTable ls (length ls) look → AreDrafts ls (length ls) ds → NoneBefore ls (3 * length ls) → ResolveAnswer look ds fault → IsAnswer ls fault
-jump_answer ls look ds faults.NoMemory table drafts none h = tt
-jump_answer ls look ds fault table drafts none h = answer ls fault (first_jump ls look ds fault table drafts none h)
+-- the body of a line that is refused when all lines were read
+pub insn_answer : (ls : List (List (List ℕ))) (look : List ℕ → Option ℕ) (n place at : ℕ) (line : List (List ℕ)) (fault : AsmFault) → IsTable ls (length ls) look → slice_get ls n ≡ Some line → place ≡ place_of ls n → at ≡ n + 1 → NoneBeforePlace ls place → InsnRefused look place at (body_of line) fault → IsAnswer ls fault
+insn_answer ls look n place at line fault table here place_is at_is none h = first_answer ls fault (elim h [
+  | inl a ↦ absurd (let low = none (3 * n + 1) fault (n, line, here, inl (body_line fault (subst (λ (k : ℕ). BodyFault (body_of line) k fault) at_is a))) in let within = slice_get_within ls n line here in omega arith)
+  | inr u ↦ place_unresolved ls look n line u.0 fault table here u.1 (u.2 ∙ at_is) (subst (NoneBeforePlace ls) place_is none) (subst (λ (k : ℕ). Unresolved look k u.0 fault) place_is u.3)
+])
+  where
+    body_line : (fault : AsmFault) → BodyFault (body_of line) (n + 1) fault → LineFault ls (3 * n + 1) n line fault
+    body_line (faults.Mnemonic k) h = (refl, h)
+    body_line (faults.Operand k) h = (refl, h)
+    body_line (faults.Number k) h = (refl, h)
+    body_line _ h = absurd h
+
+-- a text whose lines and jumps were all read has no fault
+pub none_found : (ls : List (List (List ℕ))) → NoneBeforePlace ls (place_of ls (length ls)) → (time : ℕ) (fault : AsmFault) → FaultAt ls time fault → ⊥
+none_found ls none time fault f = elim f.3 [
+  | inl a ↦ past_lines ls (2 * place_of ls (length ls)) time f.0 f.1 fault f.2 a (none time fault f)
+  | inr b ↦ (let low = none time fault f in let less = place_less ls f.0 (length ls) f.1 f.2 (body_has f.1 b.code b.operation b.ws b.written) (slice_get_within ls f.0 f.1 f.2) in omega (arith, b.after, b.one_of_two))
+]
 
 -- ---- the program
 
@@ -209,24 +233,42 @@ made_insn ls look place body i d table is res = record {
   ranges = resolved_ranges look place i d d.operation res.1;
 }
 
-pub assembled : (ls : List (List (List ℕ))) (look : List ℕ → Option ℕ) (ds : List Draft) (p : List Insn) → IsTable ls (length ls) look → AreDrafts ls (length ls) ds → AreResolved look ds p → Assembles ls p
-assembled ls look ds p table drafts res = record {
+-- the instructions of the lines before a place
+abbrev pub AreInsns : List (List (List ℕ)) → ℕ → List Insn → Type 0
+AreInsns ls place p = (length p ≡ place) × ((q : ℕ) (i : Insn) → slice_get p q ≡ Some i → IsInsnAt ls q i)
+
+pub insn_made : (ls : List (List (List ℕ))) (look : List ℕ → Option ℕ) (n : ℕ) (line : List (List ℕ)) (i : Insn) → IsTable ls (length ls) look → slice_get ls n ≡ Some line → HasInsn look (place_of ls n) (body_of line) i → IsInsnAt ls (place_of ls n) i
+insn_made ls look n line i table here h = record {
+  n = n;
+  line = line;
+  found = here;
+  here = refl;
+  insn = made_insn ls look (place_of ls n) (body_of line) i h.d table h.draft h.resolved;
+}
+
+-- what is kept has one more instruction
+pub kept_more : {V : Type 0} (items : V → List Insn) (old new : Option V) (ls : List (List (List ℕ))) (place : ℕ) (i : Insn) → IfSome new (λ v. IsSomeAnd old (λ u. items v ≡ items u ++ i ∷ [])) → IfSome old (λ u. AreInsns ls place (items u)) → IsInsnAt ls place i → IfSome new (λ v. AreInsns ls (place + 1) (items v))
+kept_more items old None ls place i pushed before is = tt
+kept_more items None (Some v) ls place i pushed before is = absurd pushed
+kept_more items (Some u) (Some v) ls place i pushed before is = (
+  ap length pushed ∙ length_push (items u) i ∙ ap (λ (n : ℕ). n + 1) before.0,
+  rw pushed (each_pushed (IsInsnAt ls) (items u) i before.1 (rw before.0 is)),
+)
+
+pub assembled : (ls : List (List (List ℕ))) (look : List ℕ → Option ℕ) (p : List Insn) → IsTable ls (length ls) look → place_of ls (length ls) ≤ most_insns → AreInsns ls (place_of ls (length ls)) p → Assembles ls p
+assembled ls look p table short are = record {
   labels = λ m n label a b. table.unique m n label (label_within ls m label a) (label_within ls n label b) a b;
   each = each;
-  count = res.count ∙ drafts.count;
-  short = (let e = res.count in let s = drafts.short in omega arith);
+  count = are.0;
+  short = (let e = are.0 in omega arith);
 }
   where
     each : (n : ℕ) (line : List (List ℕ)) → slice_get ls n ≡ Some line → has_body line ≡ true → (i : Insn) × (slice_get p (place_of ls n) ≡ Some i) × IsInsn ls (place_of ls n) (body_of line) i
     each n line here body =
         let within = slice_get_within ls n line here in
         let less = place_less ls n (length ls) line here body within in
-        let long = res.count ∙ drafts.count in
+        let long = are.0 in
         let i = there_is p (place_of ls n) (omega arith) in
-        let r = res.each (place_of ls n) i.0 i.1 in
-        (i.0, i.1, made_insn ls look (place_of ls n) (body_of line) i.0 r.0 table (draft_here ls n line (place_of ls n) r.0 here body refl (drafts.each (place_of ls n) r.0 r.1)) r.2)
-
-pub finished : {V : Type 0} (items : V → List Insn) (r : Result V AsmFault) (ls : List (List (List ℕ))) (look : List ℕ → Option ℕ) (ds : List Draft) → IsTable ls (length ls) look → AreDrafts ls (length ls) ds → NoneBefore ls (3 * length ls)
-    → MatchResult r (λ v. AreResolved look ds (items v)) (λ f. ResolveAnswer look ds f) → MatchResult r (λ v. Assembles ls (items v)) (λ f. IsAnswer ls f)
-finished items (Ok v) ls look ds table drafts none h = assembled ls look ds (items v) table drafts h
-finished items (Err f) ls look ds table drafts none h = jump_answer ls look ds f table drafts none h
+        let at = are.1 (place_of ls n) i.0 i.1 in
+        let one = place_injective ls at.n n at.line line at.found here (body_has at.line i.0.code at.insn.operation at.insn.ws at.insn.written) body at.here in
+        (i.0, i.1, moved (λ k l. IsInsn ls (place_of ls n) (body_of l) i.0) ls at.n n at.line line one at.found here at.insn)

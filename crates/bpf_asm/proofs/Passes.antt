@@ -1,21 +1,20 @@
 -- The first pass, a line at a time: what it gathers, and which fault is the first.
-use Rattle.std.proofs.Common.{◌≡◌, ℕ, ◌+◌, ◌*◌, ◌<◌, ◌≤◌, ◌⊎◌, inl, inr, List, [], ◌∷◌, length, Bool, true, false, cond, Option, Some, None, refl, ap, sym, ◌∙◌, subst, arith}
-use Rattle.std.specs.Prelude.{slice_get}
+use Rattle.std.proofs.Common.{◌≡◌, ℕ, zero, suc, ◌+◌, ◌*◌, ◌<◌, ◌≤◌, ◌⊎◌, inl, inr, List, [], ◌∷◌, length, Bool, true, false, cond, Option, Some, None, refl, ap, sym, ◌∙◌, subst, arith}
+use Rattle.std.specs.Prelude.{slice_get, IfSome, IsSomeAnd, if◌then◌else◌}
 use Rattle.std.specs.Str.{bytes_eq}
 use Rattle.std.proofs.lemmas.Slice.Eq.{bytes_eq-Decides}
 use Rattle.std.proofs.lemmas.Option.{slice_get_within}
-use Rattle.std.proofs.lemmas.List.{length_push}
 use Rattle.bpf_check.specs.declared.operation.Operand.TheVariants.{Constant, Index}
 use Rattle.bpf_check.specs.declared.operation.Operation.{Operation}
 use Rattle.bpf_check.specs.declared.operation.Operation.TheVariants.{Jump, Branch}
 use Rattle.bpf_check.specs.Accepted.{most_insns}
 use Rattle.bpf_asm.specs.declared.fault.AsmFault.{AsmFault}
 use Rattle.bpf_asm.specs.declared.fault.AsmFault.TheVariants as faults
-use Rattle.bpf_asm.specs.Assembly.{label_of, body_of, has_body, place_of, LabelAt, IsBody, IsMnemonic, FirstWord, WrongNumber, BodyFault, IsDouble, LineFault, JumpFault, FaultAt, IsFirstFault, IsAnswer}
-use Rattle.bpf_asm.specs.Drafts.{Draft, Keeps, IsDraft, Labelled, LabelRefused, Drafted, BodyRefused, IsTable, IsDraftAt, AreDrafts, NoneBefore}
+use Rattle.bpf_asm.specs.Assembly.{label_of, body_of, has_body, place_of, LabelAt, IsBody, IsMnemonic, FirstWord, WrongNumber, BodyFault, IsDouble, LineFault, JumpFault, FaultAt, IsFirstFault}
+use Rattle.bpf_asm.specs.Labels.{Places, place_in, begins_with, behind, found_from, found_in, named_by, LabelKept}
+use Rattle.bpf_asm.specs.Drafts.{Draft, Keeps, IsDraft, LabelRefused, Counted, CountRefused, IsTable, NoneBefore}
 use Rattle.bpf_asm.proofs.Bodies.{one_body}
-use Rattle.bpf_asm.proofs.Places.{moved, place_yes, place_no, body_true, body_false}
-use Rattle.bpf_asm.proofs.Resolving.{each_pushed}
+use Rattle.bpf_asm.proofs.Places.{moved, place_start, place_first, place_yes, place_no, body_true, body_false}
 
 -- ---- the time of a fault
 
@@ -69,25 +68,38 @@ eq_itself w = (bytes_eq-Decides w w).1 refl
 none_not_some : {A : Type 0} (o : Option A) (x : A) → o ≡ None → o ≡ Some x → ⊥
 none_not_some o x e f = absurd (cc)
 
-none_labelled : (ls : List (List (List ℕ))) (n : ℕ) (look new : List ℕ → Option ℕ) (place : ℕ) (line : List (List ℕ)) (o : Option (List ℕ)) → label_of line ≡ o → IsTable ls n look → Labelled look new place o → IsDouble ls n line → ⊥
-none_labelled ls n look new place line None e table h d = absurd (let f = d.named in cc)
-none_labelled ls n look new place line (Some label) e table h d =
+-- the label, where there is one, names no place yet
+abbrev Unnamed : (List ℕ → Option ℕ) → Option (List ℕ) → Type 0
+Unnamed look None = Unit {0}
+Unnamed look (Some label) = look label ≡ None
+
+unnamed : (look : List ℕ → Option ℕ) (old new : Option Places) (place : ℕ) (o : Option (List ℕ)) → LabelKept look old new place o → Unnamed look o
+unnamed look old new place None h = tt
+unnamed look old new place (Some label) h = h.0
+
+none_labelled : (ls : List (List (List ℕ))) (n : ℕ) (look : List ℕ → Option ℕ) (line : List (List ℕ)) (o : Option (List ℕ)) → label_of line ≡ o → IsTable ls n look → Unnamed look o → IsDouble ls n line → ⊥
+none_labelled ls n look line None e table h d = absurd (let f = d.named in cc)
+none_labelled ls n look line (Some label) e table h d =
     let same : label ≡ d.label = (let f = d.named in cc) in
-    table.missing d.label (ap look (sym same) ∙ h.0) d.earlier d.before d.first
+    table.missing d.label (ap look (sym same) ∙ h) d.earlier d.before d.first
 
-pub after_label : (ls : List (List (List ℕ))) (n : ℕ) (look new : List ℕ → Option ℕ) (place : ℕ) (line : List (List ℕ)) → slice_get ls n ≡ Some line → IsTable ls n look → Labelled look new place (label_of line) → NoneBefore ls (3 * n) → NoneBefore ls (3 * n + 1)
-after_label ls n look new place line here table h none =
-    raised ls (3 * n) (3 * n + 1) refl none (λ other f. none_labelled ls n look new place line (label_of line) refl table h (double_at ls n line other here f))
+pub after_label : (ls : List (List (List ℕ))) (n : ℕ) (look : List ℕ → Option ℕ) (old new : Option Places) (place : ℕ) (line : List (List ℕ)) → slice_get ls n ≡ Some line → IsTable ls n look → LabelKept look old new place (label_of line) → NoneBefore ls (3 * n) → NoneBefore ls (3 * n + 1)
+after_label ls n look old new place line here table h none =
+    raised ls (3 * n) (3 * n + 1) refl none (λ other f. none_labelled ls n look line (label_of line) refl table (unnamed look old new place (label_of line) h) (double_at ls n line other here f))
 
-pub label_answer : (ls : List (List (List ℕ))) (n : ℕ) (look : List ℕ → Option ℕ) (line : List (List ℕ)) (fault : AsmFault) → slice_get ls n ≡ Some line → IsTable ls n look → NoneBefore ls (3 * n) → LabelRefused look (n + 1) (label_of line) fault → IsAnswer ls fault
+pub label_answer : (ls : List (List (List ℕ))) (n : ℕ) (look : List ℕ → Option ℕ) (line : List (List ℕ)) (fault : AsmFault) → slice_get ls n ≡ Some line → IsTable ls n look → NoneBefore ls (3 * n) → LabelRefused look (n + 1) (label_of line) fault → IsFirstFault ls fault
 label_answer ls n look line (faults.DoubleLabel k) here table none h = record {
   time = 3 * n;
   has = (let l = h.1.0 in let f = table.found l h.1.2 h.1.3 in
       (n, line, here, inl (h.0, refl, record { label = l; named = h.1.1; earlier = f.0; before = f.1; first = f.2 })));
   first = none;
 }
-label_answer ls n look line faults.NoMemory here table none h = tt
 label_answer ls n look line _ here table none h = absurd h
+
+-- what the label of a line does to the places of labels
+abbrev Labelled : (List ℕ → Option ℕ) → (List ℕ → Option ℕ) → ℕ → Option (List ℕ) → Type 0
+Labelled old new place None = (other : List ℕ) → new other ≡ old other
+Labelled old new place (Some label) = (old label ≡ None) × ((other : List ℕ) → new other ≡ (if bytes_eq label other then Some place else old other))
 
 lt_cases : (a m : ℕ) → a < m + 1 → (a < m) ⊎ (a ≡ m)
 lt_cases a m h = grind arith
@@ -141,8 +153,105 @@ table_with ls n look new line (Some own) here named table h = record { found = f
       | inr e ↦ elim (lt_cases m n b) [ inl less ↦ absurd (not_earlier m k label less e g f) | inr d ↦ e ∙ sym d ]
     ]
 
-pub table_more : (ls : List (List (List ℕ))) (n : ℕ) (look new : List ℕ → Option ℕ) (line : List (List ℕ)) → slice_get ls n ≡ Some line → IsTable ls n look → Labelled look new (place_of ls n) (label_of line) → IsTable ls (n + 1) new
-table_more ls n look new line here table h = table_with ls n look new line (label_of line) here refl table h
+-- ---- labels that are found again
+
+begun_with : (o : Option (List ℕ)) (label : List ℕ) → begins_with o label ≡ true → o ≡ Some label
+begun_with None label e = absurd (cc)
+begun_with (Some own) label e = ap (λ (l : List ℕ). Some l) ((bytes_eq-Decides own label).0 e)
+
+begins_own : (o : Option (List ℕ)) (label : List ℕ) → o ≡ Some label → begins_with o label ≡ true
+begins_own o label e = ap (λ (x : Option (List ℕ)). begins_with x label) e ∙ eq_itself label
+
+-- the place of a line that begins with a label, behind a first place
+pub record IsFound (place : ℕ) (ls : List (List (List ℕ))) (n : ℕ) (label : List ℕ) (found : ℕ) : Type 0 where
+  pub m : ℕ
+  pub before : m < n
+  pub at : LabelAt ls m label
+  pub there : place + place_of ls m ≡ found
+
+found_later : (place : ℕ) (line : List (List ℕ)) (ls : List (List (List ℕ))) (n : ℕ) (label : List ℕ) (found : ℕ) (b : Bool) → has_body line ≡ b → IsFound (behind place b) ls n label found → IsFound place (line ∷ ls) (suc n) label found
+found_later place line ls n label found true e f = record { m = suc f.m; before = omega (arith, f.before); at = f.at; there = (let step = place_first line ls f.m in let t = f.there in let one : cond {A = ℕ} (has_body line) 1 0 ≡ 1 = ap (λ (b : Bool). cond {A = ℕ} b 1 0) e in omega arith) }
+found_later place line ls n label found false e f = record { m = suc f.m; before = omega (arith, f.before); at = f.at; there = (let step = place_first line ls f.m in let t = f.there in let one : cond {A = ℕ} (has_body line) 1 0 ≡ 0 = ap (λ (b : Bool). cond {A = ℕ} b 1 0) e in omega arith) }
+
+found_step : (place : ℕ) (line : List (List ℕ)) (ls : List (List (List ℕ))) (n : ℕ) (label : List ℕ) (found : ℕ) (b : Bool) → begins_with (label_of line) label ≡ b → (found_from (behind place (has_body line)) ls n label ≡ Some found → IsFound (behind place (has_body line)) ls n label found)
+    → cond b (Some place) (found_from (behind place (has_body line)) ls n label) ≡ Some found → IsFound place (line ∷ ls) (suc n) label found
+found_step place line ls n label found true is rest e = record { m = 0; before = omega arith; at = (line, refl, begun_with (label_of line) label is); there = (let same : place ≡ found = cc in let none = place_start (line ∷ ls) in omega arith) }
+found_step place line ls n label found false is rest e = found_later place line ls n label found (has_body line) refl (rest e)
+
+found_some : (place : ℕ) (ls : List (List (List ℕ))) (n : ℕ) (label : List ℕ) (found : ℕ) → found_from place ls n label ≡ Some found → IsFound place ls n label found
+found_some place [] n label found e = absurd (cc)
+found_some place (line ∷ ls) zero label found e = absurd (cc)
+found_some place (line ∷ ls) (suc n) label found e = found_step place line ls n label found (begins_with (label_of line) label) refl (found_some (behind place (has_body line)) ls n label found) e
+
+none_past : {A : Type 0} (m : ℕ) (x : A) → slice_get [] m ≡ Some x → ⊥
+none_past m x e = absurd (cc)
+
+missing_step : (place : ℕ) (line : List (List ℕ)) (ls : List (List (List ℕ))) (n : ℕ) (label : List ℕ) (b : Bool) → begins_with (label_of line) label ≡ b → cond b (Some place) (found_from (behind place (has_body line)) ls n label) ≡ None
+    → (found_from (behind place (has_body line)) ls n label ≡ None → (m : ℕ) → m < n → LabelAt ls m label → ⊥) → (m : ℕ) → m < suc n → LabelAt (line ∷ ls) m label → ⊥
+missing_step place line ls n label true is e rest m below at = absurd (cc)
+missing_step place line ls n label false is e rest zero below at =
+    let same : line ≡ at.0 = (let f = at.1 in cc) in
+    let own = begins_own (label_of line) label (ap label_of same ∙ at.2) in
+    absurd (cc)
+missing_step place line ls n label false is e rest (suc m) below at = rest e m (omega arith) at
+
+found_none : (place : ℕ) (ls : List (List (List ℕ))) (n : ℕ) (label : List ℕ) → found_from place ls n label ≡ None → (m : ℕ) → m < n → LabelAt ls m label → ⊥
+found_none place [] n label e m below at = none_past m at.0 at.1
+found_none place (line ∷ ls) zero label e m below at = omega arith
+found_none place (line ∷ ls) (suc n) label e m below at = missing_step place line ls n label (begins_with (label_of line) label) refl e (found_none (behind place (has_body line)) ls n label) m below at
+
+pub found_none_left : (place : ℕ) (ls : List (List (List ℕ))) (n : ℕ) (label : List ℕ) → n ≡ 0 → found_from place ls n label ≡ None
+found_none_left place [] n label e = refl
+found_none_left place (line ∷ ls) n label e = ap (λ (k : ℕ). found_from place (line ∷ ls) k label) e
+
+pub found_here : (place : ℕ) (line : List (List ℕ)) (ls : List (List (List ℕ))) (n k : ℕ) (label : List ℕ) → n ≡ k + 1 → begins_with (label_of line) label ≡ true → found_from place (line ∷ ls) n label ≡ Some place
+found_here place line ls n k label e is =
+    let same : n ≡ suc k = omega arith in
+    ap (λ (m : ℕ). found_from place (line ∷ ls) m label) same ∙ ap (λ (b : Bool). cond b (Some place) (found_from (behind place (has_body line)) ls k label)) is
+
+pub found_behind : (place : ℕ) (line : List (List ℕ)) (ls : List (List (List ℕ))) (n k : ℕ) (label : List ℕ) → n ≡ k + 1 → begins_with (label_of line) label ≡ false → found_from place (line ∷ ls) n label ≡ found_from (behind place (has_body line)) ls k label
+found_behind place line ls n k label e is =
+    let same : n ≡ suc k = omega arith in
+    ap (λ (m : ℕ). found_from place (line ∷ ls) m label) same ∙ ap (λ (b : Bool). cond b (Some place) (found_from (behind place (has_body line)) ls k label)) is
+
+-- the places that are found in the lines again, where no two lines begin with one label
+found_table : (ls : List (List (List ℕ))) (n : ℕ) → ((k m : ℕ) (label : List ℕ) → k < n → m < n → LabelAt ls k label → LabelAt ls m label → k ≡ m) → IsTable ls n (found_in ls n)
+found_table ls n unique = record {
+  found = λ label place e. (let f = found_some 0 ls n label place e in (f.m, f.before, f.at, (let t = f.there in omega arith)));
+  missing = λ label e. found_none 0 ls n label e;
+  unique = unique;
+}
+
+kept_unnamed : (ls : List (List (List ℕ))) (n : ℕ) (old new : Option Places) (line : List (List ℕ)) → slice_get ls n ≡ Some line → label_of line ≡ None → IsTable ls n (named_by old ls n) → new ≡ old → IsTable ls (n + 1) (named_by new ls (n + 1))
+kept_unnamed ls n (Some l) new line here named table e =
+    subst (λ (o : Option Places). IsTable ls (n + 1) (named_by o ls (n + 1))) (sym e) (table_with ls n (place_in l) (place_in l) line None here named table (λ other. refl))
+kept_unnamed ls n None new line here named table e =
+    let look = found_in ls n in
+    let all = table_with ls n look look line None here named table (λ other. refl) in
+    subst (λ (o : Option Places). IsTable ls (n + 1) (named_by o ls (n + 1))) (sym e) (found_table ls (n + 1) all.unique)
+
+kept_named : (ls : List (List (List ℕ))) (n : ℕ) (old new : Option Places) (line : List (List ℕ)) (label : List ℕ) → slice_get ls n ≡ Some line → label_of line ≡ Some label → IsTable ls n (named_by old ls n) → named_by old ls n label ≡ None
+    → IfSome new (λ m. IsSomeAnd old (λ l. (other : List ℕ) → place_in m other ≡ (if bytes_eq label other then Some (place_of ls n) else place_in l other))) → IsTable ls (n + 1) (named_by new ls (n + 1))
+kept_named ls n old None line label here named table fresh h =
+    let look = named_by old ls n in
+    let all = table_with ls n look (λ other. if bytes_eq label other then Some (place_of ls n) else look other) line (Some label) here named table (fresh, λ other. refl) in
+    found_table ls (n + 1) all.unique
+kept_named ls n None (Some m) line label here named table fresh h = absurd h
+kept_named ls n (Some l) (Some m) line label here named table fresh h = table_with ls n (place_in l) (place_in m) line (Some label) here named table (fresh, h)
+
+table_by : (ls : List (List (List ℕ))) (n : ℕ) (old new : Option Places) (line : List (List ℕ)) (o : Option (List ℕ)) → slice_get ls n ≡ Some line → label_of line ≡ o → IsTable ls n (named_by old ls n) → LabelKept (named_by old ls n) old new (place_of ls n) o → IsTable ls (n + 1) (named_by new ls (n + 1))
+table_by ls n old new line None here named table h = kept_unnamed ls n old new line here named table h
+table_by ls n old new line (Some label) here named table h = kept_named ls n old new line label here named table h.0 h.1
+
+pub table_more : (ls : List (List (List ℕ))) (n : ℕ) (old new : Option Places) (line : List (List ℕ)) → slice_get ls n ≡ Some line → IsTable ls n (named_by old ls n) → LabelKept (named_by old ls n) old new (place_of ls n) (label_of line) → IsTable ls (n + 1) (named_by new ls (n + 1))
+table_more ls n old new line here table h = table_by ls n old new line (label_of line) here refl table h
+
+pub empty_table : (ls : List (List (List ℕ))) (look : List ℕ → Option ℕ) → ((label : List ℕ) → look label ≡ None) → IsTable ls 0 look
+empty_table ls look none = record {
+  found = λ label place e. absurd (none_not_some (look label) place (none label) e);
+  missing = λ label e m below at. absurd (omega arith);
+  unique = λ k m label a b f g. absurd (omega arith);
+}
 
 -- ---- the body of a line
 
@@ -180,44 +289,33 @@ no_empty_fault line (faults.Operand k) h = h.1
 no_empty_fault line (faults.Number k) h = absurd (let e = h.1.3.spelled in cc)
 no_empty_fault line _ h = h
 
-drafted_fine : (old new : List Draft) (line : ℕ) (body : List (List ℕ)) (fault : AsmFault) → Drafted old new line body → BodyFault body line fault → ⊥
-drafted_fine old new line [] fault h f = no_empty_fault line fault f
-drafted_fine old new line (t ∷ ts) fault h f = no_body_fault (t ∷ ts) h.0 line fault h.2 f
+counted_fine : (place next line : ℕ) (body : List (List ℕ)) (fault : AsmFault) → Counted place next body → BodyFault body line fault → ⊥
+counted_fine place next line [] fault h f = no_empty_fault line fault f
+counted_fine place next line (t ∷ ts) fault h f = no_body_fault (t ∷ ts) h.2.0 line fault h.2.1 f
 
-pub after_body : (ls : List (List (List ℕ))) (n : ℕ) (old new : List Draft) (line : List (List ℕ)) → slice_get ls n ≡ Some line → Drafted old new (n + 1) (body_of line) → NoneBefore ls (3 * n + 1) → NoneBefore ls (3 * n + 2)
-after_body ls n old new line here h none =
-    raised ls (3 * n + 1) (3 * n + 2) (omega arith) none (λ other f. drafted_fine old new (n + 1) (body_of line) other h (body_at ls n line other here f))
+pub after_body : (ls : List (List (List ℕ))) (n place next : ℕ) (line : List (List ℕ)) → slice_get ls n ≡ Some line → Counted place next (body_of line) → NoneBefore ls (3 * n + 1) → NoneBefore ls (3 * n + 2)
+after_body ls n place next line here h none =
+    raised ls (3 * n + 1) (3 * n + 2) (omega arith) none (λ other f. counted_fine place next (n + 1) (body_of line) other h (body_at ls n line other here f))
 
-limit_kept : (ls : List (List (List ℕ))) (n : ℕ) (old new : List Draft) (line : List (List ℕ)) (body : List (List ℕ)) → body_of line ≡ body → length old ≡ place_of ls n → Drafted old new (n + 1) body → (has_body line ≡ true) × (most_insns ≤ place_of ls n) → ⊥
-limit_kept ls n old new line [] e count h f = absurd (let g = body_false line e in let k = f.0 in cc)
-limit_kept ls n old new line (t ∷ ts) e count h f = omega (arith, h.4, f.1)
+limit_kept : (ls : List (List (List ℕ))) (n next : ℕ) (line body : List (List ℕ)) → body_of line ≡ body → Counted (place_of ls n) next body → (has_body line ≡ true) × (most_insns ≤ place_of ls n) → ⊥
+limit_kept ls n next line [] e h f = absurd (let g = body_false line e in let k = f.0 in cc)
+limit_kept ls n next line (t ∷ ts) e h f = omega (arith, h.1, f.1)
 
-pub after_limit : (ls : List (List (List ℕ))) (n : ℕ) (old new : List Draft) (line : List (List ℕ)) → slice_get ls n ≡ Some line → AreDrafts ls n old → Drafted old new (n + 1) (body_of line) → NoneBefore ls (3 * n + 2) → NoneBefore ls (3 * (n + 1))
-after_limit ls n old new line here drafts h none =
-    raised ls (3 * n + 2) (3 * (n + 1)) (omega arith) none (λ other f. limit_kept ls n old new line (body_of line) refl drafts.count h (limit_at ls n line other here f))
+pub after_limit : (ls : List (List (List ℕ))) (n next : ℕ) (line : List (List ℕ)) → slice_get ls n ≡ Some line → Counted (place_of ls n) next (body_of line) → NoneBefore ls (3 * n + 2) → NoneBefore ls (3 * (n + 1))
+after_limit ls n next line here h none =
+    raised ls (3 * n + 2) (3 * (n + 1)) (omega arith) none (λ other f. limit_kept ls n next line (body_of line) refl h (limit_at ls n line other here f))
 
-drafts_with : (ls : List (List (List ℕ))) (n : ℕ) (old new : List Draft) (line body : List (List ℕ)) → slice_get ls n ≡ Some line → body_of line ≡ body → AreDrafts ls n old → Drafted old new (n + 1) body → AreDrafts ls (n + 1) new
-drafts_with ls n old new line [] here e drafts h =
-    let step = place_no ls n line here (body_false line e) in
-    rw h (record { count = drafts.count ∙ sym step; short = drafts.short; each = drafts.each })
-drafts_with ls n old new line (t ∷ ts) here e drafts h =
-    let step = place_yes ls n line here (body_true line t ts e) in
-    let long = length_push old h.0 in
-    rw h.1 (record {
-      count = (let c = drafts.count in omega arith);
-      short = omega (arith, h.4);
-      each = each_pushed (IsDraftAt ls) old h.0 drafts.each (record {
-        n = n;
-        line = line;
-        found = here;
-        here = sym drafts.count;
-        draft = rw e h.2;
-        numbered = h.3;
-      });
-    })
+-- the place behind a line
+pub record IsBehind (ls : List (List (List ℕ))) (n next : ℕ) : Type 0 where
+  pub here : next ≡ place_of ls (n + 1)
+  pub short : next ≤ most_insns
 
-pub drafts_more : (ls : List (List (List ℕ))) (n : ℕ) (old new : List Draft) (line : List (List ℕ)) → slice_get ls n ≡ Some line → AreDrafts ls n old → Drafted old new (n + 1) (body_of line) → AreDrafts ls (n + 1) new
-drafts_more ls n old new line here drafts h = drafts_with ls n old new line (body_of line) here refl drafts h
+behind_by : (ls : List (List (List ℕ))) (n next : ℕ) (line body : List (List ℕ)) → slice_get ls n ≡ Some line → body_of line ≡ body → place_of ls n ≤ most_insns → Counted (place_of ls n) next body → IsBehind ls n next
+behind_by ls n next line [] here e short h = let step = place_no ls n line here (body_false line e) in record { here = h ∙ sym step; short = omega arith }
+behind_by ls n next line (t ∷ ts) here e short h = let step = place_yes ls n line here (body_true line t ts e) in record { here = h.0 ∙ sym step; short = omega (arith, h.0, h.1) }
+
+pub place_behind : (ls : List (List (List ℕ))) (n next : ℕ) (line : List (List ℕ)) → slice_get ls n ≡ Some line → place_of ls n ≤ most_insns → Counted (place_of ls n) next (body_of line) → IsBehind ls n next
+place_behind ls n next line here short h = behind_by ls n next line (body_of line) here refl short h
 
 body_first : (ls : List (List (List ℕ))) (n : ℕ) (line : List (List ℕ)) (fault : AsmFault) → NoneBefore ls (3 * n + 1) → FaultAt ls (3 * n + 1) fault → IsFirstFault ls fault
 body_first ls n line fault none has = record { time = 3 * n + 1; has = has; first = none }
@@ -226,17 +324,16 @@ some_body : (line body : List (List ℕ)) → body_of line ≡ body → 0 < leng
 some_body line [] e h = absurd (omega arith)
 some_body line (t ∷ ts) e h = body_true line t ts e
 
-pub body_answer : (ls : List (List (List ℕ))) (n : ℕ) (old : List Draft) (line : List (List ℕ)) (fault : AsmFault) → slice_get ls n ≡ Some line → AreDrafts ls n old → NoneBefore ls (3 * n + 1) → BodyRefused old (n + 1) (body_of line) fault → IsAnswer ls fault
-body_answer ls n old line (faults.TooLong k) here drafts none h = record {
+pub body_answer : (ls : List (List (List ℕ))) (n : ℕ) (line : List (List ℕ)) (fault : AsmFault) → slice_get ls n ≡ Some line → NoneBefore ls (3 * n + 1) → CountRefused (place_of ls n) (n + 1) (body_of line) fault → IsFirstFault ls fault
+body_answer ls n line (faults.TooLong k) here none h = record {
   time = 3 * n + 2;
-  has = (n, line, here, inl (h.0, refl, some_body line (body_of line) refl h.2, (let c = drafts.count in omega (arith, h.1))));
+  has = (n, line, here, inl (h.0, refl, some_body line (body_of line) refl h.2, h.1));
   first = raised ls (3 * n + 1) (3 * n + 2) (omega arith) none (λ other f. no_body_fault (body_of line) h.3.0 (n + 1) other h.3.1 (body_at ls n line other here f));
 }
-body_answer ls n old line faults.NoMemory here drafts none h = tt
-body_answer ls n old line (faults.Mnemonic k) here drafts none h = body_first ls n line (faults.Mnemonic k) none (n, line, here, inl (refl, h))
-body_answer ls n old line (faults.Operand k) here drafts none h = body_first ls n line (faults.Operand k) none (n, line, here, inl (refl, h))
-body_answer ls n old line (faults.Number k) here drafts none h = body_first ls n line (faults.Number k) none (n, line, here, inl (refl, h))
-body_answer ls n old line _ here drafts none h = absurd h
+body_answer ls n line (faults.Mnemonic k) here none h = body_first ls n line (faults.Mnemonic k) none (n, line, here, inl (refl, h))
+body_answer ls n line (faults.Operand k) here none h = body_first ls n line (faults.Operand k) none (n, line, here, inl (refl, h))
+body_answer ls n line (faults.Number k) here none h = body_first ls n line (faults.Number k) none (n, line, here, inl (refl, h))
+body_answer ls n line _ here none h = absurd h
 
 pub none_at_start : (ls : List (List (List ℕ))) → NoneBefore ls 0
 none_at_start ls when other h = omega arith

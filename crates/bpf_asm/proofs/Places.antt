@@ -1,19 +1,18 @@
 -- The places of lines, and lists of what the code holds.
-use Rattle.std.proofs.Common.{◌≡◌, ℕ, zero, suc, ◌+◌, ◌<◌, ◌≤◌, ◌⊎◌, inl, inr, List, [], ◌∷◌, length, map, get_or, take, Bool, true, false, cond, Option, Some, refl, ap, sym, ◌∙◌, subst, arith, Bor}
+use Rattle.std.proofs.Common.{◌≡◌, ℕ, zero, suc, ◌+◌, ◌<◌, ◌≤◌, ◌⊎◌, inl, inr, List, [], ◌∷◌, length, map, get_or, take, Bool, true, false, cond, Option, Some, drop, refl, ap, sym, ◌∙◌, subst, arith}
 use Rattle.std.specs.Prelude.{slice_get, count_by}
 use Rattle.std.specs.Option.{option_map}
+use Rattle.std.specs.Str.Lines.{lines}
 use Rattle.std.proofs.lemmas.Option.{slice_get-map, slice_get-get_or, slice_get_within, get_or_from_slice_get}
+use Rattle.std.proofs.lemmas.List.{take_all as take_long}
+use Rattle.bpf_asm.specs.Labels.{behind}
 use Rattle.std.proofs.lemmas.List.Sums.{count_by_more_yes, count_by_more_no, sum_by-cons}
 use Rattle.bpf_asm.specs.Token.{tokens}
-use Rattle.bpf_asm.specs.Shown.{octets}
-use Rattle.bpf_asm.specs.Assembly.{body_of, some_token, has_body, place_of}
+use Rattle.bpf_asm.specs.Assembly.{token_lines, body_of, some_token, has_body, place_of}
 
 pub length_shown : {A B : Type 0} (f : A → B) (xs : List A) → length (map f xs) ≡ length xs
 length_shown f [] = refl
 length_shown f (x ∷ xs) = ap suc (length_shown f xs)
-
-pub shown_at : {A B : Type 0} (f : A → B) (xs : List A) (n : ℕ) (d : A) → n < length xs → slice_get (map f xs) n ≡ Some (f (get_or xs n d))
-shown_at f xs n d inside = slice_get-map f xs n ∙ ap (option_map f) (slice_get-get_or xs n d inside)
 
 pub some_same : {A : Type 0} (o : Option A) (x y : A) → o ≡ Some x → o ≡ Some y → x ≡ y
 some_same o x y p q = cc
@@ -45,8 +44,42 @@ count_mono p (x ∷ xs) (suc m) (suc n) h =
     let b : count_by p (take (suc n) (x ∷ xs)) ≡ cond (p x) 1 0 + count_by p (take n xs) = count_cons p x (take n xs) in
     omega arith
 
+-- no instruction stands before the first line
+pub place_start : (ls : List (List (List ℕ))) → place_of ls 0 ≡ 0
+place_start ls = refl
+
+-- a line in front, with an instruction or without
+pub place_first : (line : List (List ℕ)) (ls : List (List (List ℕ))) (m : ℕ) → place_of (line ∷ ls) (suc m) ≡ cond (has_body line) 1 0 + place_of ls m
+place_first line ls m = count_cons has_body line (take m ls)
+
 pub place_mono : (ls : List (List (List ℕ))) (m n : ℕ) → m ≤ n → place_of ls m ≤ place_of ls n
 place_mono ls m n h = count_mono has_body ls m n h
+
+some_or_past : {A : Type 0} (xs : List A) (n : ℕ) → ((x : A) × (slice_get xs n ≡ Some x)) ⊎ (length xs ≤ n)
+some_or_past [] n = inr (omega arith)
+some_or_past (x ∷ xs) zero = inl (x, refl)
+some_or_past (x ∷ xs) (suc n) = elim (some_or_past xs n) [ inl h ↦ inl h | inr h ↦ inr (omega arith) ]
+
+next_by : (ls : List (List (List ℕ))) (n : ℕ) (line : List (List ℕ)) (b : Bool) → slice_get ls n ≡ Some line → has_body line ≡ b → place_of ls (n + 1) ≤ place_of ls n + 1
+next_by ls n line true found h = let e = place_yes ls n line found h in omega arith
+next_by ls n line false found h = let e = place_no ls n line found h in omega arith
+
+past_all : (ls : List (List (List ℕ))) (n : ℕ) → length ls ≤ n → place_of ls (n + 1) ≡ place_of ls n
+past_all ls n h = ap (count_by has_body) (take_long (n + 1) ls (omega arith) ∙ sym (take_long n ls h))
+
+-- a line has at most one instruction
+pub place_next : (ls : List (List (List ℕ))) (n : ℕ) → place_of ls (n + 1) ≤ place_of ls n + 1
+place_next ls n = elim (some_or_past ls n) [
+  | inl line ↦ next_by ls n line.0 (has_body line.0) line.1 refl
+  | inr past ↦ (let e = past_all ls n past in omega arith)
+]
+
+behind_by : (ls : List (List (List ℕ))) (n : ℕ) (line : List (List ℕ)) (b : Bool) → slice_get ls n ≡ Some line → has_body line ≡ b → behind (place_of ls n) b ≡ place_of ls (n + 1)
+behind_by ls n line true found h = sym (place_yes ls n line found h)
+behind_by ls n line false found h = sym (place_no ls n line found h)
+
+pub place_behind_line : (ls : List (List (List ℕ))) (n : ℕ) (line : List (List ℕ)) → slice_get ls n ≡ Some line → behind (place_of ls n) (has_body line) ≡ place_of ls (n + 1)
+place_behind_line ls n line found = behind_by ls n line (has_body line) found refl
 
 pub place_less : (ls : List (List (List ℕ))) (m n : ℕ) (line : List (List ℕ)) → slice_get ls m ≡ Some line → has_body line ≡ true → m < n → place_of ls m < place_of ls n
 place_less ls m n line found h lt = let step = place_yes ls m line found h in let mono = place_mono ls (m + 1) n (omega arith) in omega arith
@@ -105,6 +138,28 @@ body_true line t ts e = ap some_token e
 pub body_false : (line : List (List ℕ)) → body_of line ≡ [] → has_body line ≡ false
 body_false line e = ap some_token e
 
--- the tokens of a line that lies in memory
-pub line_at : (xs : List (Bor (List ℕ))) (n : ℕ) (d : Bor (List ℕ)) → n < length xs → slice_get (map tokens (octets xs)) n ≡ Some (tokens (get_or xs n d).now)
-line_at xs n d inside = slice_get-map tokens (octets xs) n ∙ ap (option_map tokens) (shown_at (λ x. x.now) xs n d inside)
+-- ---- a text, line by line
+
+-- the lines from n on begin with this one
+next_is : {X : Type 0} (ls : List X) (n : ℕ) (l : X) (more : List X) → drop n ls ≡ l ∷ more → (slice_get ls n ≡ Some l) × (drop (suc n) ls ≡ more) × (n < length ls)
+next_is [] zero l more e = absurd (cc)
+next_is [] (suc n) l more e = absurd (cc)
+next_is (x ∷ ls) zero l more e = (cc, cc, omega arith)
+next_is (x ∷ ls) (suc n) l more e = let h = next_is ls n l more e in (h.0, h.1, omega (arith, h.2))
+
+none_left : {X : Type 0} (ls : List X) (n : ℕ) → drop n ls ≡ [] → length ls ≤ n
+none_left [] n e = omega arith
+none_left (x ∷ ls) zero e = absurd (cc)
+none_left (x ∷ ls) (suc n) e = omega (arith, none_left ls n e)
+
+-- what is left behind a line
+pub left_more : (text rest after : List ℕ) (n m : ℕ) (l : List ℕ) → drop n (lines text) ≡ lines rest → lines rest ≡ l ∷ lines after → m ≡ n + 1 → drop m (lines text) ≡ lines after
+left_more text rest after n m l left e next = (let same : m ≡ suc n = omega arith in ap (λ (k : ℕ). drop k (lines text)) same) ∙ (next_is (lines text) n l (lines after) (left ∙ e)).1
+
+-- the tokens of the next line
+pub line_at : (text rest after : List ℕ) (n : ℕ) (l : List ℕ) → drop n (lines text) ≡ lines rest → lines rest ≡ l ∷ lines after → slice_get (token_lines text) n ≡ Some (tokens l)
+line_at text rest after n l left e = slice_get-map tokens (lines text) n ∙ ap (option_map tokens) (next_is (lines text) n l (lines after) (left ∙ e)).0
+
+-- where no line is left, all were read
+pub all_read : (text rest : List ℕ) (n : ℕ) → drop n (lines text) ≡ lines rest → lines rest ≡ [] → length (token_lines text) ≤ n
+all_read text rest n left e = (let few = none_left (lines text) n (left ∙ e) in let same = length_shown tokens (lines text) in omega arith)

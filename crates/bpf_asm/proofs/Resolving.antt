@@ -7,7 +7,7 @@ use Rattle.bpf_check.specs.declared.operation.Operation.TheVariants.{Jump, Branc
 use Rattle.bpf_asm.specs.declared.fault.AsmFault.{AsmFault}
 use Rattle.bpf_asm.specs.declared.fault.AsmFault.TheVariants as faults
 use Rattle.bpf_asm.specs.Assembly.{IsBranch}
-use Rattle.bpf_asm.specs.Drafts.{Draft, Resolves, IsResolved, labels_kept, FineLabel, WrongLabel, Unresolved, FirstUnresolved, ResolveAnswer}
+use Rattle.bpf_asm.specs.Drafts.{Draft, Resolves, IsResolved, labels_kept, FineLabel, WrongLabel, Unresolved}
 
 pub jump_unresolved : (look : List ℕ → Option ℕ) (place : ℕ) (d : Draft) (fault : AsmFault) → d.operation ≡ Jump → WrongLabel look place d.operation d.first d.line fault → Unresolved look place d fault
 jump_unresolved look place d fault jump wrong = record {
@@ -63,10 +63,6 @@ branch_resolves look place d i _ b k jt jf t f = absurd b
 pub branch_resolved : (look : List ℕ → Option ℕ) (place : ℕ) (d : Draft) (i : Insn) → IsBranch d.operation → i.code ≡ d.code → i.k ≡ d.k → look d.first ≡ Some (place + 1 + i.jt) → look d.second ≡ Some (place + 1 + i.jf) → i.jt < 2 ^ 8 → i.jf < 2 ^ 8 → IsResolved look place d i
 branch_resolved look place d i b code k jt jf t f = (code, branch_resolves look place d i d.operation b k jt jf t f)
 
-pub unresolved_answer : (look : List ℕ → Option ℕ) (ds : List Draft) (fault : AsmFault) → FirstUnresolved look ds fault → ResolveAnswer look ds fault
-unresolved_answer look ds faults.NoMemory h = tt
-unresolved_answer look ds _ h = h
-
 push_cases : {A : Type 0} (p : List A) (new : A) (place : ℕ) (i : A) → slice_get (p ++ new ∷ []) place ≡ Some i → (slice_get p place ≡ Some i) ⊎ ((place ≡ length p) × (new ≡ i))
 push_cases [] new zero i e = inr (refl, cc)
 push_cases [] new (suc n) i e = absurd (cc)
@@ -78,14 +74,4 @@ each_pushed P p new each here q i e =
     elim (push_cases p new q i e) [
       | inl h ↦ each q i h
       | inr h ↦ subst (λ (n : ℕ). P n i) (sym h.0) (subst (P (length p)) h.1 here)
-    ]
-
-lt_cases : (a m : ℕ) → a < m + 1 → (a < m) ⊎ (a ≡ m)
-lt_cases a m h = grind arith
-
-pub before_more : {A : Type 0} (P : ℕ → A → Type 0) (xs : List A) (n : ℕ) (x : A) → ((q : ℕ) (e : A) → q < n → slice_get xs q ≡ Some e → P q e) → slice_get xs n ≡ Some x → P n x → (q : ℕ) (e : A) → q < n + 1 → slice_get xs q ≡ Some e → P q e
-before_more P xs n x before found here q e below there =
-    elim (lt_cases q n below) [
-      | inl h ↦ before q e h there
-      | inr h ↦ (let same : Some x ≡ Some e = sym found ∙ ap (slice_get xs) (sym h) ∙ there in let one : x ≡ e = cc in subst (λ (k : ℕ). P k e) (sym h) (subst (P n) one here))
     ]

@@ -15,32 +15,8 @@ use Rattle.bpf_asm.specs.Token.{is_word_octet, ended, mark, tokens_after, tokens
 use Rattle.bpf_asm.specs.Spelling.{kinds, spelled_with, AreOpen}
 use Rattle.bpf_asm.specs.Text.{label_text, targets_by, operands_text, mark_text}
 use Rattle.bpf_asm.specs.Assembly.{label_of, body_of}
-use Rattle.bpf_asm.proofs.Decimals.{both, decimal_words, decimal_numeral}
-
--- the text is at its end, or goes on with no octet of a word
-abbrev Breaks : List ℕ → Type 0
-Breaks [] = Unit {0}
-Breaks (c ∷ cs) = is_word_octet c ≡ false
-
-word_run : (w v text : List ℕ) → list_all is_word_octet v ≡ true → tokens_after w (v ++ text) ≡ tokens_after (w ++ v) text
-word_run w [] text h = ap (λ (x : List ℕ). tokens_after x text) (sym (append-nil w))
-word_run w (c ∷ v) text h =
-    let p = both (is_word_octet c) (list_all is_word_octet v) h in
-    ap (λ (b : Bool). cond b (tokens_after (w ++ c ∷ []) (v ++ text)) (cond (nat_eq c 59) (ended w) ((ended w ++ mark c) ++ tokens_after [] (v ++ text)))) p.0
-    ∙ word_run (w ++ c ∷ []) v text p.1
-    ∙ ap (λ (x : List ℕ). tokens_after x text) (append_assoc w (c ∷ []) v)
-
-parted : (b : Bool) (e m t : List (List ℕ)) → cond b e ((e ++ m) ++ t) ≡ e ++ cond b [] (m ++ t)
-parted true e m t = sym (append-nil e)
-parted false e m t = append_assoc e m t
-
-after_break : (w text : List ℕ) → Breaks text → tokens_after w text ≡ ended w ++ tokens_after [] text
-after_break w [] h = sym (append-nil (ended w))
-after_break w (c ∷ cs) h =
-    let rest = tokens_after [] cs in
-    let left = ap (λ (b : Bool). cond b (tokens_after (w ++ c ∷ []) cs) (cond (nat_eq c 59) (ended w) ((ended w ++ mark c) ++ rest))) h in
-    let right = ap (λ (b : Bool). cond b (tokens_after (c ∷ []) cs) (cond (nat_eq c 59) [] (mark c ++ rest))) h in
-    left ∙ parted (nat_eq c 59) (ended w) (mark c) rest ∙ ap (λ (x : List (List ℕ)). ended w ++ x) (sym right)
+use Rattle.bpf_asm.proofs.Decimals.{decimal_words, decimal_numeral}
+use Rattle.bpf_asm.proofs.TokenLemmas.{Breaks, word_run, after_break}
 
 number_run : (n : ℕ) (text : List ℕ) → n < 2 ^ 64 → Breaks text → tokens_after [] (decimal n ++ text) ≡ ended (decimal n) ++ tokens_after [] text
 number_run n text h b = word_run [] (decimal n) text (decimal_words n h) ∙ after_break (decimal n) text b

@@ -173,9 +173,9 @@ pub record IsFirstFault (ls : List (List (List ℕ))) (fault : AsmFault) : Type 
   pub has : FaultAt ls time fault
   pub first : (when : ℕ) (other : AsmFault) → FaultAt ls when other → time ≤ when
 
--- what an assembler may answer in place of a program: no memory, or the first fault
+-- what an assembler may answer in place of a program: the first fault, or no memory where the text has no fault
 abbrev pub IsAnswer : List (List (List ℕ)) → AsmFault → Type 0
-IsAnswer ls faults.NoMemory = Unit {0}
+IsAnswer ls faults.NoMemory = (time : ℕ) (fault : AsmFault) → FaultAt ls time fault → ⊥
 IsAnswer ls fault = IsFirstFault ls fault
 
 -- the number of a fault

@@ -1,6 +1,5 @@
 -- What the assembler keeps between its two passes. No public contract rests on it.
-use Rattle.std.specs.Prelude.{◌≡◌, ℕ, ◌+◌, ◌<◌, ◌≤◌, ◌^◌, List, [], ◌∷◌, ◌++◌, length, Option, Some, None, slice_get, if◌then◌else◌}
-use Rattle.std.specs.Str.{bytes_eq}
+use Rattle.std.specs.Prelude.{◌≡◌, ℕ, ◌+◌, ◌<◌, ◌≤◌, ◌^◌, ◌⊎◌, List, [], ◌∷◌, length, Option, Some, None, slice_get}
 use Rattle.bpf_check.specs.declared.insn.Insn.{Insn}
 use Rattle.bpf_check.specs.declared.operation.Operand.TheVariants.{Constant, Index}
 use Rattle.bpf_check.specs.declared.operation.Operation.{Operation}
@@ -10,7 +9,7 @@ use Rattle.bpf_asm.specs.declared.draft.Draft as code
 use Rattle.bpf_asm.specs.declared.fault.AsmFault.{AsmFault}
 use Rattle.bpf_asm.specs.declared.fault.AsmFault.TheVariants as faults
 use Rattle.bpf_asm.specs.Number.{IsNumber}
-use Rattle.bpf_asm.specs.Assembly.{LabelAt, place_of, body_of, IsBody, BodyFault, IsBranch, FaultAt}
+use Rattle.bpf_asm.specs.Assembly.{LabelAt, place_of, body_of, IsBody, IsInsn, BodyFault, IsBranch, FaultAt}
 
 -- an instruction whose labels are not resolved yet
 pub record Draft : Type 0 where
@@ -40,52 +39,26 @@ pub record IsDraft (body : List (List ℕ)) (d : Draft) : Type 0 where
   pub written : IsBody body d.code d.operation ws
   pub kept : Keeps d d.operation ws
 
--- why a body gives no draft
-abbrev pub DraftFault : List (List ℕ) → ℕ → AsmFault → Type 0
-DraftFault body line faults.NoMemory = Unit {0}
-DraftFault body line fault = BodyFault body line fault
-
--- what the label of a line does to the places of labels
-abbrev pub Labelled : (List ℕ → Option ℕ) → (List ℕ → Option ℕ) → ℕ → Option (List ℕ) → Type 0
-Labelled old new place None = (other : List ℕ) → new other ≡ old other
-Labelled old new place (Some label) = (old label ≡ None) × ((other : List ℕ) → new other ≡ (if bytes_eq label other then Some place else old other))
-
 -- why the label of a line is refused
 abbrev pub LabelRefused : (List ℕ → Option ℕ) → ℕ → Option (List ℕ) → AsmFault → Type 0
 LabelRefused old line label (faults.DoubleLabel n) = (n ≡ line) × ((l : List ℕ) × (label ≡ Some l) × (place : ℕ) × (old l ≡ Some place))
-LabelRefused old line label faults.NoMemory = Unit {0}
 LabelRefused old line label fault = ⊥
 
--- what the body of a line does to the drafts
-abbrev pub Drafted : List Draft → List Draft → ℕ → List (List ℕ) → Type 0
-Drafted old new line [] = new ≡ old
-Drafted old new line (t ∷ ts) = (d : Draft) × (new ≡ old ++ d ∷ []) × IsDraft (t ∷ ts) d × (d.line ≡ line) × (length old < most_insns)
+-- the place behind a line with this body
+abbrev pub Counted : ℕ → ℕ → List (List ℕ) → Type 0
+Counted place next [] = next ≡ place
+Counted place next (t ∷ ts) = (next ≡ place + 1) × (place < most_insns) × ((d : Draft) × IsDraft (t ∷ ts) d)
 
 -- why the body of a line is refused
-abbrev pub BodyRefused : List Draft → ℕ → List (List ℕ) → AsmFault → Type 0
-BodyRefused old line body (faults.TooLong n) = (n ≡ line) × (most_insns ≤ length old) × (0 < length body) × ((d : Draft) × IsDraft body d)
-BodyRefused old line body fault = DraftFault body line fault
+abbrev pub CountRefused : ℕ → ℕ → List (List ℕ) → AsmFault → Type 0
+CountRefused place line body (faults.TooLong n) = (n ≡ line) × (most_insns ≤ place) × (0 < length body) × ((d : Draft) × IsDraft body d)
+CountRefused place line body fault = BodyFault body line fault
 
 -- the places of the labels of the lines before n, no two of them the same
 pub record IsTable (ls : List (List (List ℕ))) (n : ℕ) (look : List ℕ → Option ℕ) : Type 0 where
   pub found : (label : List ℕ) (place : ℕ) → look label ≡ Some place → (m : ℕ) × (m < n) × LabelAt ls m label × (place_of ls m ≡ place)
   pub missing : (label : List ℕ) → look label ≡ None → (m : ℕ) → m < n → LabelAt ls m label → ⊥
   pub unique : (k m : ℕ) (label : List ℕ) → k < n → m < n → LabelAt ls k label → LabelAt ls m label → k ≡ m
-
--- the draft is of a line, which lies at this place
-pub record IsDraftAt (ls : List (List (List ℕ))) (place : ℕ) (d : Draft) : Type 0 where
-  pub n : ℕ
-  pub line : List (List ℕ)
-  pub found : slice_get ls n ≡ Some line
-  pub here : place_of ls n ≡ place
-  pub draft : IsDraft (body_of line) d
-  pub numbered : d.line ≡ n + 1
-
--- the drafts of the lines before n
-pub record AreDrafts (ls : List (List (List ℕ))) (n : ℕ) (ds : List Draft) : Type 0 where
-  pub count : length ds ≡ place_of ls n
-  pub short : length ds ≤ most_insns
-  pub each : (place : ℕ) (d : Draft) → slice_get ds place ≡ Some d → IsDraftAt ls place d
 
 -- each fault comes at this time or later
 abbrev pub NoneBefore : List (List (List ℕ)) → ℕ → Type 0
@@ -127,20 +100,20 @@ pub record Unresolved (look : List ℕ → Option ℕ) (place : ℕ) (d : Draft)
   pub wrong : WrongLabel look place d.operation label d.line fault
   pub before : (i : ℕ) (l : List ℕ) → i < j → slice_get (labels_kept d d.operation) i ≡ Some l → FineLabel look place d.operation l
 
--- the instructions are those of the drafts
-pub record AreResolved (look : List ℕ → Option ℕ) (ds : List Draft) (p : List Insn) : Type 0 where
-  pub count : length p ≡ length ds
-  pub each : (place : ℕ) (i : Insn) → slice_get p place ≡ Some i → (d : Draft) × (slice_get ds place ≡ Some d) × IsResolved look place d i
-
--- the first draft with a wrong label
-pub record FirstUnresolved (look : List ℕ → Option ℕ) (ds : List Draft) (fault : AsmFault) : Type 0 where
-  pub place : ℕ
+-- the body is this instruction at a place, once its labels are resolved
+pub record HasInsn (look : List ℕ → Option ℕ) (place : ℕ) (body : List (List ℕ)) (i : Insn) : Type 0 where
   pub d : Draft
-  pub found : slice_get ds place ≡ Some d
-  pub wrong : Unresolved look place d fault
-  pub before : (q : ℕ) (e : Draft) → q < place → slice_get ds q ≡ Some e → (i : Insn) × IsResolved look q e i
+  pub draft : IsDraft body d
+  pub resolved : IsResolved look place d i
 
--- what the second pass may answer in place of instructions
-abbrev pub ResolveAnswer : (List ℕ → Option ℕ) → List Draft → AsmFault → Type 0
-ResolveAnswer look ds faults.NoMemory = Unit {0}
-ResolveAnswer look ds fault = FirstUnresolved look ds fault
+-- the body is no instruction, or one with a label that is wrong
+abbrev pub InsnRefused : (List ℕ → Option ℕ) → ℕ → ℕ → List (List ℕ) → AsmFault → Type 0
+InsnRefused look place line body fault = BodyFault body line fault ⊎ ((d : Draft) × IsDraft body d × (d.line ≡ line) × Unresolved look place d fault)
+
+-- the instruction is that of a line, at this place
+pub record IsInsnAt (ls : List (List (List ℕ))) (place : ℕ) (i : Insn) : Type 0 where
+  pub n : ℕ
+  pub line : List (List ℕ)
+  pub found : slice_get ls n ≡ Some line
+  pub here : place_of ls n ≡ place
+  pub insn : IsInsn ls place (body_of line) i

@@ -1,11 +1,15 @@
 -- The reading of tokens, step by step as the code does it. No public contract rests on it.
-use Rattle.std.specs.Prelude.{◌≡◌, ℕ, List, [], ◌∷◌, ◌++◌, Bool, true, false, Option, Some, None, option_and_then, if◌then◌else◌}
+use Rattle.std.specs.Prelude.{ℕ, ◌+◌, List, [], ◌∷◌, Bool, true, false, not, Option, Some, None, option_and_then, if◌then◌else◌}
 use Rattle.std.specs.Option.{option_map}
 use Rattle.std.specs.Str.{bytes_eq}
 use Rattle.bpf_check.specs.declared.operation.Operation.{Operation}
 use Rattle.bpf_asm.specs.Form.{mnemonic}
-use Rattle.bpf_asm.specs.Token.{is_numeral, starts_word, is_label}
+use Rattle.bpf_asm.specs.Token.{is_word_octet, is_numeral, starts_word, is_label}
 use Rattle.bpf_asm.specs.Spelling.{Kind, a_number, a_label, exactly, kinds}
+
+-- an octet that is in no word
+abbrev pub ends_word : ℕ → Bool
+ends_word c = not (is_word_octet c)
 
 -- the word of an open place, and the tokens behind it
 pub record Front : Type 0 where
@@ -42,10 +46,12 @@ fill (a_number ∷ ks) ts = option_and_then (λ x. option_map (λ ws. x.word ∷
 fill (a_label ∷ ks) ts = option_and_then (λ x. option_map (λ ws. x.word ∷ ws) (fill ks x.left)) (label_front ts)
 fill (exactly token ∷ ks) ts = option_and_then (λ left. fill ks left) (left_of token ts)
 
--- whether the tokens were read, and then their words stand behind the older ones
-abbrev pub Fills : Bool → List (List ℕ) → List (List ℕ) → Option (List (List ℕ)) → Type 0
-Fills true old new read = option_map (λ ws. old ++ ws) read ≡ Some new
-Fills false old new read = read ≡ None
+-- how many of the places are open
+abbrev pub open_places : List Kind → ℕ
+open_places [] = 0
+open_places (a_number ∷ ks) = 1 + open_places ks
+open_places (a_label ∷ ks) = 1 + open_places ks
+open_places (exactly token ∷ ks) = open_places ks
 
 -- a row of the table of codes, and the words in its open places
 pub record Row : Type 0 where

@@ -1,18 +1,23 @@
 -- What the code has read, without where its octets lie. No public contract rests on it.
-use Rattle.std.specs.Prelude.{List, ℕ, map}
-use Rattle.std.specs.Borrow.{Bor}
+use Rattle.std.specs.Prelude.{List, [], ◌∷◌, ℕ}
 use Rattle.bpf_asm.specs.declared.spelling.Front as front
+use Rattle.bpf_asm.specs.declared.spelling.Words.{Words}
+use Rattle.bpf_asm.specs.declared.spelling.Words.TheVariants.{Empty, One, Two, Three}
 use Rattle.bpf_asm.specs.declared.rows.Row as row
+use Rattle.bpf_asm.specs.Token.{tokens}
 use Rattle.bpf_asm.specs.Reading.{Front, Row}
 
--- the octets of each word
-abbrev pub octets : List (Bor (List ℕ)) → List (List ℕ)
-octets words = map (λ x. x.now) words
-
--- the word and the tokens behind it
+-- the word, and the tokens behind it
 abbrev pub shown_front : front.Front → Front
-shown_front f = record { word = f.word.now; left = octets f.left.now }
+shown_front f = record { word = f.word.now; left = tokens f.left.now }
+
+-- the words as a list
+abbrev pub shown_words : Words → List (List ℕ)
+shown_words Empty = []
+shown_words (One first) = first.now ∷ []
+shown_words (Two first second) = first.now ∷ second.now ∷ []
+shown_words (Three first second third) = first.now ∷ second.now ∷ third.now ∷ []
 
 -- the row and its words
 abbrev pub shown_row : row.Row → Row
-shown_row r = record { code = r.code; operation = r.operation; words = octets r.words.items }
+shown_row r = record { code = r.code; operation = r.operation; words = shown_words r.words }

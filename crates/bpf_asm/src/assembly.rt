@@ -1,142 +1,119 @@
-//! Assembler text to instructions, in two passes over its lines.
+//! Assembler text to instructions, in two passes over its lines. Neither needs memory to find a fault.
 
-ghost use Rattle.std.specs.Prelude.{◌≡◌, ◌+◌, ◌*◌, ℕ, List, Option, map, length, IfOk, IfErr, MatchResult};
-ghost use Rattle.std.specs.Option.{option_map};
+ghost use Rattle.std.specs.Prelude.{◌≡◌, ◌+◌, ◌*◌, ◌<◌, ◌≤◌, ℕ, List, [], length, IfOk, IfErr, MatchOption, MatchResult};
 ghost use Rattle.bpf_check.specs.declared.insn.Insn.{Insn};
-ghost use Rattle.bpf_asm.specs.Shown.{octets};
+ghost use Rattle.bpf_check.specs.Accepted.{most_insns};
 ghost use Rattle.bpf_asm.specs.Token.{tokens};
-ghost use Rattle.bpf_asm.specs.Labels.{place_in};
-ghost use Rattle.bpf_asm.specs.Assembly.{label_of, body_of, token_lines, Assembles, IsAnswer};
-ghost use Rattle.bpf_asm.specs.Drafts.{Labelled, LabelRefused, Drafted, BodyRefused, IsTable, AreDrafts, NoneBefore, shown_draft};
+ghost use Rattle.bpf_asm.specs.Labels.{named};
+ghost use Rattle.bpf_asm.specs.Assembly.{body_of, place_of, token_lines, Assembles, IsFirstFault, IsAnswer};
+ghost use Rattle.bpf_asm.specs.Drafts.{Counted, CountRefused, IsTable, NoneBefore, HasInsn, InsnRefused};
 
-use crate::draft::{Draft, draft_of};
+use crate::draft::draft_in;
 use crate::fault::AsmFault;
-use crate::labels::{Labels, name_place, no_labels, place_of};
-use crate::resolve::resolve_all;
-use crate::token::{is_label_of, tokens_of};
+use crate::labels::{name_line, no_names};
+use crate::line::body_in;
+use crate::names::Names;
+use crate::resolve::resolve;
 use bpf_check::Insn;
 use bpf_check::checked::MOST_INSNS;
-use bpf_check::listing::lines_of;
+use bpf_check::listing::{keep, next_line};
 use std::alloc::Global;
 
-/// What the first pass gathers: the places of labels, and the instructions in order.
-#[derive(Drop)]
-struct Gathered<'a> {
-    labels: Labels<'a>,
-    drafts: Vec<Draft<'a>>,
-}
-
-// The label that a line begins with.
-fn label_in<'a>(tokens: &[&'a [u8]]) -> Option<&'a [u8]>
-    ensures { option_map (λ x. x.now) result ≡ label_of (octets tokens.now) }
-{
-    let (first, rest) = tokens.split_first()?;
-    let (second, _) = rest.split_first()?;
-    if is_label_of(*first) && *second == b":".as_slice() {
-        Some(*first)
-    } else {
-        None
-    }
-}
-
-// The tokens behind the label.
-fn body_in<'a, 'b>(tokens: &'b [&'a [u8]]) -> &'b [&'a [u8]]
-    ensures { octets result.now ≡ body_of (octets tokens.now) }
-{
-    let Some((first, rest)) = tokens.split_first() else {
-        return tokens;
-    };
-    let Some((second, body)) = rest.split_first() else {
-        return tokens;
-    };
-    if !is_label_of(*first) {
-        return tokens;
-    }
-    if *second != b":".as_slice() {
-        return tokens;
-    }
-    body
-}
-
-// Lets the label that a line begins with name a place.
-fn take_label<'a>(
-    labels: &mut Labels<'a>,
-    place: u32,
-    line: usize,
-    tokens: &[&'a [u8]],
-) -> Result<(), AsmFault>
+// The place behind a line with this body.
+fn place_behind(place: u32, line: usize, body: &[u8]) -> Result<u32, AsmFault>
+    requires { place ≤ most_insns }
     ensures { MatchResult result
-        (λ _. Labelled (place_in labels.old) (place_in labels.new) place (label_of (octets tokens.now)))
-        (λ fault. LabelRefused (place_in labels.old) line (label_of (octets tokens.now)) fault) }
+        (λ next. Counted place next (tokens body.now))
+        (λ fault. CountRefused place line (tokens body.now) fault) }
 {
-    let Some(label) = label_in(tokens) else {
-        return Ok(());
+    let Some(_) = draft_in(line, body)? else {
+        return Ok(place);
     };
-    if place_of(labels, label).is_some() {
-        return Err(AsmFault::DoubleLabel(line));
-    }
-    name_place(labels, label, place)?;
-    Ok(())
-}
-
-// Puts the instruction of a line behind the others.
-fn take_body<'a>(
-    alloc: Global,
-    drafts: &mut Vec<Draft<'a>>,
-    line: usize,
-    body: &[&'a [u8]],
-) -> Result<(), AsmFault>
-    ensures { MatchResult result
-        (λ _. Drafted (map shown_draft drafts.old.items) (map shown_draft drafts.new.items) line (octets body.now))
-        (λ fault. BodyRefused (map shown_draft drafts.old.items) line (octets body.now) fault) }
-{
-    let Some((word, operands)) = body.split_first() else {
-        return Ok(());
-    };
-    let draft = draft_of(alloc, line, *word, operands)?;
-    if drafts.len() >= MOST_INSNS {
+    if place >= MOST_INSNS as u32 {
         return Err(AsmFault::TooLong(line));
     }
-    drafts.push(draft)?;
-    Ok(())
+    Ok(place + 1)
 }
 
-// The first pass, over all lines.
-fn gather<'a>(alloc: Global, lines: &[&'a [u8]]) -> Result<Gathered<'a>, AsmFault>
-    ensures { let ls = map tokens (octets lines.now) in MatchResult result
-        (λ g. IsTable ls (length ls) (place_in g.labels) × AreDrafts ls (length ls) (map shown_draft g.drafts.items) × NoneBefore ls (3 * length ls))
-        (λ fault. IsAnswer ls fault) }
+// The first pass: the places of all labels.
+fn names_of(alloc: Global, text: &[u8]) -> Result<Names<'_>, AsmFault>
+    ensures { let ls = token_lines text.now in MatchResult result
+        (λ names. IsTable ls (length ls) (named names)
+        × (place_of ls (length ls) ≤ most_insns) × NoneBefore ls (3 * length ls))
+        (λ fault. IsFirstFault ls fault) }
 {
-    let mut labels = no_labels(alloc);
-    let mut drafts = Vec::new(alloc);
-    for (n, line) in lines.iter().enumerate() {
-        let tokens = tokens_of(alloc, *line)?;
-        take_label(&mut labels, drafts.len() as u32, n + 1, tokens.as_slice())?;
-        take_body(alloc, &mut drafts, n + 1, body_in(tokens.as_slice()))?;
+    let mut names = no_names(alloc, text);
+    let mut rest = text;
+    let mut place = 0;
+    while let Some((line, after)) = next_line(rest) {
+        names = name_line(names, place, line)?;
+        place = place_behind(place, names.lines, body_in(line))?;
+        rest = after;
     }
-    Ok(Gathered { labels, drafts })
+    Ok(names)
 }
 
-// What the lines stand for.
-fn assemble_lines(alloc: Global, lines: &[&[u8]]) -> Result<Vec<Insn>, AsmFault>
-    ensures { let ls = map tokens (octets lines.now) in MatchResult result
+// The instruction of a line, if it has one.
+fn insn_in(names: &Names<'_>, place: u32, at: usize, line: &[u8]) -> Result<Option<Insn>, AsmFault>
+    requires { place ≤ 65536 }
+    ensures { MatchResult result
+        (λ found. MatchOption found (body_of (tokens line.now) ≡ [])
+        (λ i. HasInsn (named names.now) place (body_of (tokens line.now)) i))
+        (λ fault. InsnRefused (named names.now) place at (body_of (tokens line.now)) fault) }
+{
+    let Some(draft) = draft_in(at, body_in(line))? else {
+        return Ok(None);
+    };
+    Ok(Some(resolve(names, place, &draft)?))
+}
+
+// The second pass: the instructions, as long as there is memory for all of them.
+fn insns_of(alloc: Global, text: &[u8], names: &Names<'_>) -> Result<Vec<Insn>, AsmFault>
+    requires table { let ls = token_lines text.now in IsTable ls (length ls) (named names.now) }
+    requires short { let ls = token_lines text.now in place_of ls (length ls) ≤ most_insns }
+    requires none { let ls = token_lines text.now in NoneBefore ls (3 * length ls) }
+    ensures { let ls = token_lines text.now in MatchResult result
         (λ v. Assembles ls v.items) (λ fault. IsAnswer ls fault) }
 {
-    let gathered = gather(alloc, lines)?;
-    resolve_all(alloc, &gathered.labels, gathered.drafts.as_slice())
+    let mut kept = Some(Vec::new(alloc));
+    let mut rest = text;
+    let mut place = 0;
+    let mut at = 0;
+    while let Some((line, after)) = next_line(rest) {
+        at += 1;
+        rest = after;
+        let Some(insn) = insn_in(names, place, at, line)? else {
+            continue;
+        };
+        kept = keep(kept, insn);
+        place += 1;
+    }
+    match kept {
+        Some(insns) => Ok(insns),
+        None => Err(AsmFault::NoMemory),
+    }
+}
+
+// What a text stands for.
+fn read(alloc: Global, text: &[u8]) -> Result<Vec<Insn>, AsmFault>
+    ensures { let ls = token_lines text.now in MatchResult result
+        (λ v. Assembles ls v.items) (λ fault. IsAnswer ls fault) }
+{
+    let names = names_of(alloc, text)?;
+    insns_of(alloc, text, &names)
 }
 
 /// The instructions of an assembler text, or its first fault.
 ///
 /// Of each line come first the faults of its label, then of its mnemonic, the form behind it and its
 /// number, then the limit of 4,096 instructions. When all lines were read, the labels of jumps come in
-/// their order. A label behind the last instruction names the place past the end.
+/// their order. A label behind the last instruction names the place past the end. `NoMemory` comes
+/// only where the text has no fault.
 pub fn assemble(alloc: Global, text: &[u8]) -> Result<Vec<Insn>, AsmFault>
     ensures program { IfOk result (λ v. Assembles (token_lines text.now) v.items) }
     ensures only { (p : List Insn) → Assembles (token_lines text.now) p
         → MatchResult result (λ v. v.items ≡ p) (λ fault. fault ≡ AsmFault.NoMemory) }
     ensures fault { IfErr result (λ fault. IsAnswer (token_lines text.now) fault) }
 {
-    let lines = lines_of(alloc, text)?;
-    assemble_lines(alloc, lines.as_slice())
+    read(alloc, text)
 }

@@ -1,16 +1,18 @@
 //! The instruction of one line, its labels not resolved yet.
 
-ghost use Rattle.std.specs.Prelude.{◌≡◌, ◌∷◌, ℕ, MatchOption, MatchResult};
-ghost use Rattle.bpf_asm.specs.Shown.{octets};
+ghost use Rattle.std.specs.Prelude.{◌≡◌, ◌∷◌, [], MatchOption, MatchResult};
+ghost use Rattle.bpf_asm.specs.Shown.{shown_words};
+ghost use Rattle.bpf_asm.specs.Token.{tokens};
 ghost use Rattle.bpf_asm.specs.Spelling.{kinds, AreOpen};
-ghost use Rattle.bpf_asm.specs.Assembly.{WrongNumber};
-ghost use Rattle.bpf_asm.specs.Drafts.{Keeps, IsDraft, DraftFault, shown_draft};
+ghost use Rattle.bpf_asm.specs.Assembly.{WrongNumber, BodyFault};
+ghost use Rattle.bpf_asm.specs.Drafts.{Keeps, IsDraft, shown_draft};
 
 use crate::fault::AsmFault;
 use crate::number::number_of;
 use crate::rows::{is_mnemonic, row_of};
+use crate::spelling::Words;
+use crate::token::next_token;
 use bpf_check::operation::{Operand, Operation};
-use std::alloc::Global;
 
 /// An instruction whose labels are not resolved yet; what it doesn't have is 0 or empty.
 #[derive(Clone, Copy)]
@@ -24,10 +26,10 @@ pub(crate) struct Draft<'a> {
 }
 
 // Keeps the words of a row, unless its number is wrong.
-fn keep<'a>(line: usize, code: u16, operation: Operation, words: &[&'a [u8]]) -> Option<Draft<'a>>
-    requires { AreOpen (kinds operation) (octets words.now) }
-    ensures { MatchOption result (WrongNumber (octets words.now) operation)
-        (λ d. (d.line ≡ line) × (d.code ≡ code) × (d.operation ≡ operation) × Keeps (shown_draft d) operation (octets words.now)) }
+fn keep<'a>(line: usize, code: u16, operation: Operation, words: Words<'a>) -> Option<Draft<'a>>
+    requires { AreOpen (kinds operation) (shown_words words) }
+    ensures { MatchOption result (WrongNumber (shown_words words.entry) operation)
+        (λ d. (d.line ≡ line) × (d.code ≡ code) × (d.operation ≡ operation) × Keeps (shown_draft d) operation (shown_words words.entry)) }
 {
     let draft = Draft {
         line,
@@ -37,58 +39,60 @@ fn keep<'a>(line: usize, code: u16, operation: Operation, words: &[&'a [u8]]) ->
         first: &[],
         second: &[],
     };
-    match operation {
-        Operation::Jump => Some(Draft {
-            first: words[0],
-            ..draft
-        }),
-        Operation::Branch(_, Operand::Constant) => {
-            let k = number_of(words[0])?;
+    match (operation, words) {
+        (Operation::Jump, Words::One(first)) => Some(Draft { first, ..draft }),
+        (Operation::Branch(_, Operand::Constant), Words::Three(number, first, second)) => {
             Some(Draft {
-                k,
-                first: words[1],
-                second: words[2],
+                k: number_of(number)?,
+                first,
+                second,
                 ..draft
             })
         }
-        Operation::Branch(_, Operand::Index) => {
+        (Operation::Branch(_, Operand::Index), Words::Two(first, second)) => {
             Some(Draft {
-                first: words[0],
-                second: words[1],
+                first,
+                second,
                 ..draft
             })
         }
-        _ => {
-            let Some((word, _)) = words.split_first() else {
-                return Some(draft);
-            };
+        (_, Words::One(number)) => {
             Some(Draft {
-                k: number_of(*word)?,
+                k: number_of(number)?,
                 ..draft
             })
         }
+        _ => Some(draft),
     }
 }
 
-/// The draft of an instruction's tokens.
-pub(crate) fn draft_of<'a>(
-    alloc: Global,
-    line: usize,
-    word: &'a [u8],
-    operands: &[&'a [u8]],
-) -> Result<Draft<'a>, AsmFault>
+// The draft of a mnemonic, and of what stands behind it.
+fn draft_of<'a>(line: usize, word: &'a [u8], operands: &'a [u8]) -> Result<Draft<'a>, AsmFault>
     ensures { MatchResult result
-        (λ d. (d.line ≡ line) × IsDraft (word.now ∷ octets operands.now) (shown_draft d))
-        (λ fault. DraftFault (word.now ∷ octets operands.now) line fault) }
+        (λ d. (d.line ≡ line) × IsDraft (word.now ∷ tokens operands.now) (shown_draft d))
+        (λ fault. BodyFault (word.now ∷ tokens operands.now) line fault) }
 {
     if !is_mnemonic(word) {
         return Err(AsmFault::Mnemonic(line));
     }
-    let Some(row) = row_of(alloc, word, operands)? else {
+    let Some(row) = row_of(word, operands) else {
         return Err(AsmFault::Operand(line));
     };
-    match keep(line, row.code, row.operation, row.words.as_slice()) {
+    match keep(line, row.code, row.operation, row.words) {
         Some(draft) => Ok(draft),
         None => Err(AsmFault::Number(line)),
     }
+}
+
+/// The draft of a line's instruction, if it has one; `body` is what stands behind the line's label.
+pub(crate) fn draft_in(line: usize, body: &[u8]) -> Result<Option<Draft<'_>>, AsmFault>
+    ensures { MatchResult result
+        (λ found. MatchOption found (tokens body.now ≡ [])
+        (λ d. (d.line ≡ line) × IsDraft (tokens body.now) (shown_draft d)))
+        (λ fault. BodyFault (tokens body.now) line fault) }
+{
+    let Some((word, operands)) = next_token(body) else {
+        return Ok(None);
+    };
+    Ok(Some(draft_of(line, word, operands)?))
 }

@@ -3,7 +3,6 @@
 ghost use Rattle.std.specs.Prelude.{◌≡◌};
 ghost use Rattle.bpf_asm.specs.Assembly.{fault_number, fault_line};
 
-use std::alloc::{AllocError, AllocFailed};
 use thiserror::Error;
 
 /// Why an assembler text is refused. A number is a line's, counted from 1.
@@ -71,27 +70,5 @@ impl AsmFault {
             | AsmFault::TooLong(line) => Some(*line),
             AsmFault::NoMemory => None,
         }
-    }
-}
-
-impl From<AllocError> for AsmFault {
-    ghost use Rattle.std.specs.Prelude.{◌≡◌};
-    ghost use Rattle.bpf_asm.specs.declared.fault.AsmFault.TheVariants.{NoMemory};
-
-    ghost from_gives = { λ _ e. e ≡ NoMemory };
-
-    fn from(_: AllocError) -> Self {
-        AsmFault::NoMemory
-    }
-}
-
-impl<T: Drop> From<AllocFailed<T>> for AsmFault {
-    ghost use Rattle.std.specs.Prelude.{◌≡◌};
-    ghost use Rattle.bpf_asm.specs.declared.fault.AsmFault.TheVariants.{NoMemory};
-
-    ghost from_gives = { λ _ e. e ≡ NoMemory };
-
-    fn from(_: AllocFailed<T>) -> Self {
-        AsmFault::NoMemory
     }
 }

@@ -10,6 +10,8 @@ mod fault;
 mod form;
 mod labels;
 pub mod laws;
+mod line;
+mod names;
 mod number;
 mod resolve;
 mod rows;

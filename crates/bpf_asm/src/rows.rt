@@ -1,22 +1,22 @@
 //! The table of codes, searched by the tokens of a line.
 
-ghost use Rattle.std.specs.Prelude.{◌≡◌, map, IfOk};
+ghost use Rattle.std.specs.Prelude.{◌≡◌};
 ghost use Rattle.std.specs.Option.{option_map};
 ghost use Rattle.bpf_check.specs.Operation.{table};
-ghost use Rattle.bpf_asm.specs.Shown.{shown_row, octets};
+ghost use Rattle.bpf_asm.specs.Shown.{shown_row, shown_words};
+ghost use Rattle.bpf_asm.specs.Token.{tokens};
 ghost use Rattle.bpf_asm.specs.Reading.{row_words, find_row, has_mnemonic};
 
 use crate::form::{mnemonic_of, pieces_of};
-use crate::spelling::words_in;
+use crate::spelling::{Words, words_in};
 use bpf_check::operation::{Arithmetic, Comparison, Operand, Operation, Width};
-use std::alloc::{AllocError, Global};
 
 /// The row that a line is written in, and the words in its open places.
-#[derive(Drop)]
+#[derive(Clone, Copy)]
 pub(crate) struct Row<'a> {
     pub code: u16,
     pub operation: Operation,
-    pub words: Vec<&'a [u8]>,
+    pub words: Words<'a>,
 }
 
 // Each code with its operation.
@@ -128,50 +128,36 @@ fn rows() -> &'static [(u16, Operation)]
 }
 
 // The words in the open places of an operation, where the line is written in it.
-fn words_of_row<'a>(
-    alloc: Global,
-    operation: Operation,
-    word: &[u8],
-    tokens: &[&'a [u8]],
-) -> Result<Option<Vec<&'a [u8]>>, AllocError>
-    ensures { IfOk result (λ found. option_map (λ v. octets v.items) found ≡ row_words operation word.now (octets tokens.now)) }
+fn words_of_row<'a>(operation: Operation, word: &[u8], operands: &'a [u8]) -> Option<Words<'a>>
+    ensures { option_map shown_words result ≡ row_words operation word.now (tokens operands.now) }
 {
     if word != mnemonic_of(operation).as_bytes() {
-        return Ok(None);
+        return None;
     }
-    words_in(alloc, pieces_of(operation), tokens)
+    words_in(pieces_of(operation), operands)
 }
 
 // The first of the rows that the tokens are written in.
-fn find_in<'a>(
-    alloc: Global,
-    rows: &[(u16, Operation)],
-    word: &[u8],
-    tokens: &[&'a [u8]],
-) -> Result<Option<Row<'a>>, AllocError>
-    ensures { IfOk result (λ found. option_map shown_row found ≡ find_row rows.now word.now (octets tokens.now)) }
+fn find_in<'a>(rows: &[(u16, Operation)], word: &[u8], operands: &'a [u8]) -> Option<Row<'a>>
+    ensures { option_map shown_row result ≡ find_row rows.now word.now (tokens operands.now) }
 {
     for row in rows {
-        if let Some(words) = words_of_row(alloc, row.1, word, tokens)? {
-            return Ok(Some(Row {
+        if let Some(words) = words_of_row(row.1, word, operands) {
+            return Some(Row {
                 code: row.0,
                 operation: row.1,
                 words,
-            }));
+            });
         }
     }
-    Ok(None)
+    None
 }
 
 /// The first row of the table that the tokens are written in.
-pub(crate) fn row_of<'a>(
-    alloc: Global,
-    word: &[u8],
-    tokens: &[&'a [u8]],
-) -> Result<Option<Row<'a>>, AllocError>
-    ensures { IfOk result (λ found. option_map shown_row found ≡ find_row table word.now (octets tokens.now)) }
+pub(crate) fn row_of<'a>(word: &[u8], operands: &'a [u8]) -> Option<Row<'a>>
+    ensures { option_map shown_row result ≡ find_row table word.now (tokens operands.now) }
 {
-    find_in(alloc, rows(), word, tokens)
+    find_in(rows(), word, operands)
 }
 
 // Whether one of the rows has the mnemonic.

@@ -1,115 +1,114 @@
 //! How the tokens of a line fit an operation's pieces.
 
-ghost use Rattle.std.specs.Prelude.{◌≡◌, map, IfOk};
+ghost use Rattle.std.specs.Prelude.{◌≡◌, ◌<◌, ◌≤◌, ◌∷◌, length, map};
 ghost use Rattle.std.specs.Option.{option_map};
-ghost use Rattle.bpf_asm.specs.Shown.{shown_front, octets};
+ghost use Rattle.bpf_asm.specs.Shown.{shown_front, shown_words};
 ghost use Rattle.bpf_asm.specs.Spelling.{kind};
-ghost use Rattle.bpf_asm.specs.Reading.{number_front, label_front, left_of, fill, Fills};
+ghost use Rattle.bpf_asm.specs.Token.{tokens};
+ghost use Rattle.bpf_asm.specs.Reading.{number_front, label_front, left_of, fill, open_places};
 
 use crate::form::{Piece, fixed_of};
-use crate::token::{is_label_of, is_numeral_of, starts_word_of};
-use std::alloc::{AllocError, Global};
+use crate::token::{is_label_of, is_numeral_of, next_token, starts_word_of};
 
-/// The word of an open place, and the tokens that are left behind it.
+/// The word of an open place, and what is left behind it.
 #[derive(Clone, Copy)]
-pub(crate) struct Front<'a, 'b> {
+pub(crate) struct Front<'a> {
     pub word: &'a [u8],
-    pub left: &'b [&'a [u8]],
+    pub left: &'a [u8],
+}
+
+/// The words in the open places of a line, in order. No operation has more than three.
+#[derive(Clone, Copy)]
+pub(crate) enum Words<'a> {
+    Empty,
+    One(&'a [u8]),
+    Two(&'a [u8], &'a [u8]),
+    Three(&'a [u8], &'a [u8], &'a [u8]),
 }
 
 // The number at the front, the empty word where there is none.
-fn number_at<'a, 'b>(tokens: &'b [&'a [u8]]) -> Option<Front<'a, 'b>>
-    ensures { option_map shown_front result ≡ number_front (octets tokens.now) }
+fn number_at(text: &[u8]) -> Option<Front<'_>>
+    ensures { option_map shown_front result ≡ number_front (tokens text.now) }
 {
-    let Some((token, left)) = tokens.split_first() else {
+    let Some((token, left)) = next_token(text) else {
         return Some(Front {
             word: &[],
-            left: tokens,
+            left: text,
         });
     };
     if token.is_empty() {
         return None;
     }
-    if is_numeral_of(*token) {
-        return Some(Front { word: *token, left });
+    if is_numeral_of(token) {
+        return Some(Front { word: token, left });
     }
-    if starts_word_of(*token) {
+    if starts_word_of(token) {
         return None;
     }
     Some(Front {
         word: &[],
-        left: tokens,
+        left: text,
     })
 }
 
 // The label at the front.
-fn label_at<'a, 'b>(tokens: &'b [&'a [u8]]) -> Option<Front<'a, 'b>>
-    ensures { option_map shown_front result ≡ label_front (octets tokens.now) }
+fn label_at(text: &[u8]) -> Option<Front<'_>>
+    ensures { option_map shown_front result ≡ label_front (tokens text.now) }
 {
-    let (token, left) = tokens.split_first()?;
-    if !is_label_of(*token) {
+    let (token, left) = next_token(text)?;
+    if !is_label_of(token) {
         return None;
     }
-    Some(Front { word: *token, left })
+    Some(Front { word: token, left })
 }
 
-// The tokens behind this one.
-fn after_token<'a, 'b>(text: &str, tokens: &'b [&'a [u8]]) -> Option<&'b [&'a [u8]]>
-    ensures { option_map (λ x. octets x.now) result ≡ left_of text.now (octets tokens.now) }
+// What stands behind this token.
+fn after_token<'a>(expected: &str, text: &'a [u8]) -> Option<&'a [u8]>
+    ensures { option_map (λ x. tokens x.now) result ≡ left_of expected.now (tokens text.now) }
 {
-    let (token, left) = tokens.split_first()?;
-    if *token != text.as_bytes() {
+    let (token, left) = next_token(text)?;
+    if token != expected.as_bytes() {
         return None;
     }
     Some(left)
 }
 
-// Reads the tokens as these pieces, and puts the words of the open places behind `words`.
-fn fill_more<'a>(
-    words: &mut Vec<&'a [u8]>,
-    pieces: &[Piece],
-    tokens: &[&'a [u8]],
-) -> Result<bool, AllocError>
-    ensures { IfOk result (λ fits. Fills fits (octets words.old.items) (octets words.new.items) (fill (map kind pieces.now) (octets tokens.now))) }
+// The words behind this one.
+fn put_first<'a>(word: &'a [u8], words: Words<'a>) -> Words<'a>
+    requires { length (shown_words words) < 3 }
+    ensures { shown_words result ≡ word.now ∷ shown_words words.entry }
 {
-    let Some((piece, rest)) = pieces.split_first() else {
-        return Ok(tokens.is_empty());
-    };
-    match *piece {
-        Piece::Number => {
-            let Some(front) = number_at(tokens) else {
-                return Ok(false);
-            };
-            words.push(front.word)?;
-            fill_more(words, rest, front.left)
-        }
-        Piece::Label => {
-            let Some(front) = label_at(tokens) else {
-                return Ok(false);
-            };
-            words.push(front.word)?;
-            fill_more(words, rest, front.left)
-        }
-        piece => {
-            let Some(left) = after_token(fixed_of(piece), tokens) else {
-                return Ok(false);
-            };
-            fill_more(words, rest, left)
-        }
+    match words {
+        Words::Empty => Words::One(word),
+        Words::One(second) => Words::Two(word, second),
+        Words::Two(second, third) => Words::Three(word, second, third),
+        Words::Three(_, _, _) => unreachable!(),
     }
 }
 
-/// The words in the open places of the pieces, where the tokens fit them.
-pub(crate) fn words_in<'a>(
-    alloc: Global,
-    pieces: &[Piece],
-    tokens: &[&'a [u8]],
-) -> Result<Option<Vec<&'a [u8]>>, AllocError>
-    ensures { IfOk result (λ found. option_map (λ v. octets v.items) found ≡ fill (map kind pieces.now) (octets tokens.now)) }
+/// The words in the open places of the pieces, where the tokens of the text fit them.
+pub(crate) fn words_in<'a>(pieces: &[Piece], text: &'a [u8]) -> Option<Words<'a>>
+    requires { open_places (map kind pieces.now) ≤ 3 }
+    ensures { option_map shown_words result ≡ fill (map kind pieces.now) (tokens text.now) }
 {
-    let mut words = Vec::new(alloc);
-    if fill_more(&mut words, pieces, tokens)? {
-        return Ok(Some(words));
+    let Some((piece, rest)) = pieces.split_first() else {
+        return if next_token(text).is_none() {
+            Some(Words::Empty)
+        } else {
+            None
+        };
+    };
+    match *piece {
+        Piece::Number => {
+            let front = number_at(text)?;
+            let words = words_in(rest, front.left)?;
+            Some(put_first(front.word, words))
+        }
+        Piece::Label => {
+            let front = label_at(text)?;
+            let words = words_in(rest, front.left)?;
+            Some(put_first(front.word, words))
+        }
+        piece => words_in(rest, after_token(fixed_of(piece), text)?),
     }
-    Ok(None)
 }

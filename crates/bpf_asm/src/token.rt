@@ -1,11 +1,10 @@
 //! The tokens of a line.
 
-ghost use Rattle.std.specs.Prelude.{◌≡◌, ◌++◌, map, IfOk, OnOk, List, [], ◌∷◌, length, true, false};
-ghost use Rattle.std.specs.List.{list_all};
+ghost use Rattle.std.specs.Prelude.{◌≡◌, true, MatchOption, [], ◌∷◌};
+ghost use Rattle.std.specs.List.{list_all, position};
 ghost use Rattle.std.specs.Char.{is_ascii_digit, is_ascii_hexdigit};
-ghost use Rattle.bpf_asm.specs.Token.{is_word_octet, is_blank, ended, mark, tokens, is_numeral, starts_word, is_label};
-
-use std::alloc::{AllocError, Global};
+ghost use Rattle.bpf_asm.specs.Token.{is_word_octet, is_text, tokens, is_numeral, starts_word, is_label};
+ghost use Rattle.bpf_asm.specs.Reading.{ends_word};
 
 fn is_word_octet_of(c: u8) -> bool
     ensures { result ≡ is_word_octet c }
@@ -13,46 +12,50 @@ fn is_word_octet_of(c: u8) -> bool
     c.is_ascii_alphanumeric() || c == b'_'
 }
 
-fn push_word<'a>(tokens: &mut Vec<&'a [u8]>, word: &'a [u8]) -> Result<(), AllocError>
-    ensures { OnOk result (map (λ x. x.now) tokens.new.items
-        ≡ map (λ x. x.now) tokens.old.items ++ ended word.now) }
+// Where the first octet lies that is no blank.
+fn text_in(line: &[u8]) -> Option<usize>
+    ensures { result ≡ position is_text line.now }
 {
-    if !word.is_empty() {
-        tokens.push(word)?;
-    }
-    Ok(())
+    line.iter().position(|c| !(*c == b' ' || *c == b'\t'))
 }
 
-fn push_mark<'a>(tokens: &mut Vec<&'a [u8]>, c: u8, text: &'a [u8]) -> Result<(), AllocError>
-    requires { text.now ≡ c ∷ [] }
-    ensures { OnOk result (map (λ x. x.now) tokens.new.items
-        ≡ map (λ x. x.now) tokens.old.items ++ mark c) }
+// Where the first octet lies that is in no word.
+fn word_end_in(text: &[u8]) -> Option<usize>
+    ensures { result ≡ position ends_word text.now }
 {
-    if c != b' ' && c != b'\t' {
-        tokens.push(text)?;
-    }
-    Ok(())
+    text.iter().position(|c| !is_word_octet_of(*c))
 }
 
-/// The tokens of a line.
-pub(crate) fn tokens_of(alloc: Global, line: &[u8]) -> Result<Vec<&[u8]>, AllocError>
-    ensures { IfOk result (λ v. map (λ x. x.now) v.items ≡ tokens line.now) }
+// The word at the front of a text, and what stands behind it.
+fn split_word(text: &[u8]) -> (&[u8], &[u8])
+    requires { starts_word text.now ≡ true }
+    ensures { tokens text.now ≡ result.0.now ∷ tokens result.1.now }
 {
-    let mut tokens = Vec::new(alloc);
-    let mut start = 0;
-    for (at, c) in line.iter().enumerate() {
-        if is_word_octet_of(*c) {
-            continue;
-        }
-        push_word(&mut tokens, &line[start..at])?;
-        if *c == b';' {
-            return Ok(tokens);
-        }
-        push_mark(&mut tokens, *c, &line[at..at + 1])?;
-        start = at + 1;
+    let Some(end) = word_end_in(text) else {
+        return (text, &[]);
+    };
+    (&text[..end], &text[end..])
+}
+
+/// The first token of a line, if it has one, and what stands behind it.
+pub(crate) fn next_token(line: &[u8]) -> Option<(&[u8], &[u8])>
+    ensures { MatchOption result (tokens line.now ≡ [])
+        (λ split. tokens line.now ≡ split.0.now ∷ tokens split.1.now) }
+{
+    let Some(start) = text_in(line) else {
+        return None;
+    };
+    let text = &line[start..];
+    let Some((first, rest)) = text.split_first() else {
+        return None;
+    };
+    if *first == b';' {
+        return None;
     }
-    push_word(&mut tokens, &line[start..])?;
-    Ok(tokens)
+    if is_word_octet_of(*first) {
+        return Some(split_word(text));
+    }
+    Some((&text[..1], rest))
 }
 
 fn all_digits(text: &[u8]) -> bool

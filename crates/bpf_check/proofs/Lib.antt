@@ -1,5 +1,6 @@
 pub mod Faults
 mod RefusalLemmas
+mod Decided
 pub mod ListingNumbers
 pub mod ListingFaults
 pub mod ListingText

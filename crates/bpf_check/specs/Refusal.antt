@@ -1,6 +1,6 @@
 -- The first fault of a program as a function, for definitions that speak of many programs: the faults of each place in order.
--- The checker's contract says that it is the fault that it answers.
-use Rattle.std.specs.Prelude.{ℕ, suc, ◌+◌, ◌-◌, Bool, true, false, ◌||◌, nat_lt, nat_le, List, [], ◌∷◌, length, Option, Some, None, slice_get, ◌==◌, if◌then◌else◌}
+-- The checker's contract says that it is the fault that it answers, and a law that it is the first one.
+use Rattle.std.specs.Prelude.{◌≡◌, ◌↔◌, ℕ, suc, ◌+◌, ◌-◌, Bool, true, false, ◌||◌, nat_lt, nat_le, List, [], ◌∷◌, length, Option, Some, None, slice_get, ◌==◌, if◌then◌else◌}
 use Rattle.bpf_check.specs.declared.insn.Insn.{Insn}
 use Rattle.bpf_check.specs.declared.checked.CheckFault.{CheckFault}
 use Rattle.bpf_check.specs.declared.checked.CheckFault.TheVariants.{Empty, TooLong, UnknownCode, ZeroDivisor, BadScratch, BadJump, NoReturn}
@@ -9,7 +9,7 @@ use Rattle.bpf_check.specs.declared.operation.Arithmetic.TheVariants.{Divide, Mo
 use Rattle.bpf_check.specs.declared.operation.Operation.{Operation}
 use Rattle.bpf_check.specs.declared.operation.Operation.TheVariants.{LoadScratch, IndexScratch, StoreAccumulator, StoreIndex, Compute, Jump, Branch, ReturnConstant, ReturnAccumulator}
 use Rattle.bpf_check.specs.Operation.{operation_of}
-use Rattle.bpf_check.specs.Accepted.{most_insns}
+use Rattle.bpf_check.specs.Accepted.{most_insns, IsAccepted, IsFirstFault}
 
 -- a fault, where the test holds
 abbrev pub fault_if : Bool → CheckFault → Option CheckFault
@@ -59,3 +59,11 @@ refusal p =
     if length p == 0 then Some Empty
     else if nat_lt most_insns (length p) then Some TooLong
     else first_of (fault_from (length p) 0 p) (fault_of_last (slice_get p (length p - 1)))
+
+-- it gives a fault exactly where this is the first fault
+abbrev pub RefusesFirstFault : Type 0
+RefusesFirstFault = (p : List Insn) (fault : CheckFault) → (refusal p ≡ Some fault) ↔ IsFirstFault p fault
+
+-- it gives none exactly where the program is accepted
+abbrev pub RefusesUnaccepted : Type 0
+RefusesUnaccepted = (p : List Insn) → (refusal p ≡ None) ↔ IsAccepted p

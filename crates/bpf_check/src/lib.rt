@@ -4,6 +4,7 @@
 
 pub mod checked;
 pub mod insn;
+pub mod laws;
 pub mod listing;
 pub mod operation;
 

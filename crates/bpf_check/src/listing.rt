@@ -2,7 +2,7 @@
 //! with its code, its two distances and its constant. All numbers are decimal; spaces and tabs part
 //! them, and may begin and end a line.
 
-ghost use Rattle.std.specs.Prelude.{◌≡◌, ℕ, ◌+◌, ◌<◌, ◌≤◌, List, [], ◌∷◌, ◌++◌, length, map, true, false, IfOk, IfErr, IfSome, IsSomeAnd, MatchResult, MatchOption, IsTrue, ◌↔◌};
+ghost use Rattle.std.specs.Prelude.{◌≡◌, ℕ, ◌+◌, ◌<◌, ◌≤◌, List, [], ◌∷◌, ◌++◌, length, true, false, IfOk, IfErr, IfSome, IsSomeAnd, MatchResult, MatchOption, IsTrue, ◌↔◌};
 ghost use Rattle.std.specs.List.{position};
 ghost use Rattle.std.specs.Str.Lines.{lines, strip_carriage_return};
 ghost use Rattle.bpf_check.specs.declared.insn.Insn.{Insn};
@@ -13,7 +13,7 @@ ghost use Rattle.bpf_check.specs.Listing.{is_blank, words, is_numeral, Says, fie
 
 use crate::checked::MOST_INSNS;
 use crate::insn::Insn;
-use std::alloc::{AllocError, Global};
+use std::alloc::Global;
 use thiserror::Error;
 
 /// Why a listing is refused. A number is a line's, counted from 1.
@@ -88,9 +88,9 @@ fn stripped(line: &[u8]) -> &[u8]
     }
 }
 
-// The first line of a text, if it has one, and the text behind it: a line ends with LF, which the
-// last one may lack, and a CR before LF is dropped.
-fn next_line(text: &[u8]) -> Option<(&[u8], &[u8])>
+/// The first line of a text, if it has one, and the text behind it: a line ends with LF, which the
+/// last one may lack, and a CR before LF is dropped.
+pub fn next_line(text: &[u8]) -> Option<(&[u8], &[u8])>
     ensures lines { MatchOption result (lines text.now ≡ [])
         (λ split. lines text.now ≡ split.0.now ∷ lines split.1.now) }
     ensures shorter { IfSome result (λ split. length split.1.now < length text.now) }
@@ -102,19 +102,6 @@ fn next_line(text: &[u8]) -> Option<(&[u8], &[u8])>
         return Some((text, &[]));
     };
     Some((stripped(&text[..end]), &text[end + 1..]))
-}
-
-/// The lines of a text: each ends with LF, which the last one may lack, and a CR before LF is dropped.
-pub fn lines_of(alloc: Global, text: &[u8]) -> Result<Vec<&[u8]>, AllocError>
-    ensures { IfOk result (λ v. map (λ x. x.now) v.items ≡ lines text.now) }
-{
-    let mut lines = Vec::new(alloc);
-    let mut rest = text;
-    while let Some((line, after)) = next_line(rest) {
-        lines.push(line)?;
-        rest = after;
-    }
-    Ok(lines)
 }
 
 // Where the first octet of a word lies.
@@ -240,8 +227,8 @@ fn insn_of(line: &[u8], at: usize) -> Result<Insn, ListingFault>
     }
 }
 
-// Puts an instruction behind the others, as long as there is memory for all of them.
-fn keep(kept: Option<Vec<Insn>>, insn: Insn) -> Option<Vec<Insn>>
+/// Puts an instruction behind the others, as long as there is memory for all of them.
+pub fn keep(kept: Option<Vec<Insn>>, insn: Insn) -> Option<Vec<Insn>>
     ensures { IfSome result (λ new. IsSomeAnd kept (λ old. new.items ≡ old.items ++ insn ∷ [])) }
 {
     let mut insns = kept?;

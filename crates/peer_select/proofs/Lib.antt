@@ -5,3 +5,4 @@ pub mod Members
 pub mod Shapes
 pub mod Keeps
 pub mod Bits
+pub mod PlaceByPlace

@@ -2,3 +2,4 @@ pub mod Poll
 pub mod Choice
 pub mod Best
 pub mod Kept
+pub mod Laws

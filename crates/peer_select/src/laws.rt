@@ -5,6 +5,7 @@ ghost use Rattle.neighbours.specs.Rows.{Rows};
 ghost use Rattle.peer_select.specs.declared.reply.Reply.{Reply};
 ghost use Rattle.peer_select.specs.Poll.{Poll, IsPoll, begun, decided, has_reply, replied, ended, matches};
 ghost use Rattle.peer_select.specs.Choice.{parent_of, is_parent_miss, IsFirstParent};
+ghost use Rattle.peer_select.specs.Laws.{PeersAreCounted, PeersAreNeighbours, EachUpReplied, LeftAreParents, LeftAreInOrder};
 
 use neighbours::{one_way_law, through_law};
 
@@ -32,4 +33,13 @@ pub fn matching_law()
     ensures ended { (poll : Poll) → (ended poll).peers ≡ poll.peers }
     ensures start_replied { (poll : Poll) (reply : Reply) → (replied poll reply).start ≡ poll.start }
     ensures start_ended { (poll : Poll) → (ended poll).start ≡ poll.start }
+{}
+
+/// What the peers of a table are, when all of them have replied, and which parents are left: place by place.
+pub fn place_law()
+    ensures counted { PeersAreCounted }
+    ensures neighbours { PeersAreNeighbours }
+    ensures replied { EachUpReplied }
+    ensures left { LeftAreParents }
+    ensures in_order { LeftAreInOrder }
 {}

@@ -14,6 +14,7 @@ use crate::core_node::Core;
 use crate::messages::is_awaited;
 use filter_slots::{End, Moment, Socket};
 use htcp_packet::HtcpView;
+use htcp_packet::codes::{FOUND, NOT_FOUND, TST};
 use peer_select::Kind;
 
 impl Core {
@@ -102,7 +103,7 @@ impl Core {
 fn kind_of(view: &HtcpView<'_>) -> Option<Kind>
     ensures { result ≡ response_kind (shown view.now) }
 {
-    if view.opcode != 1 {
+    if view.opcode != TST {
         return None;
     }
     Some(answer_kind(view.response, view.f1))
@@ -113,8 +114,8 @@ fn answer_kind(code: u8, mo: bool) -> Kind
     ensures { result ≡ answer_kind code mo }
 {
     match (mo, code) {
-        (false, 0) => Kind::Hit,
-        (false, 1) => Kind::Miss,
+        (false, FOUND) => Kind::Hit,
+        (false, NOT_FOUND) => Kind::Miss,
         _ => Kind::Refused,
     }
 }

@@ -19,6 +19,9 @@ use crate::core_node::Core;
 use crate::finding::Finding;
 use crate::signatures::{Judgement, Signer};
 use filter_slots::{Datagram, End, Moment, Socket};
+use htcp_packet::codes::{
+    AUTHENTICATION_FAILED, AUTHENTICATION_REQUIRED, CLR, NOP, NOT_ALLOWED, NOT_IMPLEMENTED, TST,
+};
 use htcp_packet::{HtcpAuth, HtcpBody, HtcpView, decode};
 use neighbours::Octets;
 use std::alloc::Global;
@@ -186,16 +189,16 @@ impl Core {
         ensures { (clock : ℕ) → result ≡ refusal (record self.now { clock = clock }) from opcode (shown_standing judgement.now) }
     {
         if !self.rules.allows(from.addr) {
-            return Some(5);
+            return Some(NOT_ALLOWED);
         }
-        if opcode != 0 && opcode != 1 && opcode != 4 {
-            return Some(2);
+        if opcode != NOP && opcode != TST && opcode != CLR {
+            return Some(NOT_IMPLEMENTED);
         }
         if judgement.is_bad() {
-            return Some(1);
+            return Some(AUTHENTICATION_FAILED);
         }
-        if opcode == 4 && judgement.is_absent() {
-            return Some(0);
+        if opcode == CLR && judgement.is_absent() {
+            return Some(AUTHENTICATION_REQUIRED);
         }
         None
     }
@@ -224,7 +227,7 @@ impl Core {
                 Finding::NotCleared
             }
             HtcpBody::Detail(_) | HtcpBody::CacheHeaders(_) | HtcpBody::Opaque(_) => {
-                Finding::Refused(2)
+                Finding::Refused(NOT_IMPLEMENTED)
             }
         }
     }

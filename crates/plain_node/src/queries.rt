@@ -12,6 +12,7 @@ use crate::NoMemory;
 use crate::action::{Action, Out, Payload};
 use crate::core_node::Core;
 use filter_slots::Moment;
+use htcp_packet::codes::TST;
 use htcp_packet::{HtcpAuth, HtcpBody, HtcpView, Specifier};
 use icp_packet::{EncodeFault, IcpBody, IcpView, Opcode, encode};
 use neighbours::{Neighbour, Socket};
@@ -166,7 +167,7 @@ fn tested(number: u32, key: &[u8]) -> HtcpView<'_>
 {
     HtcpView {
         minor: 0,
-        opcode: 1,
+        opcode: TST,
         response: 0,
         f1: true,
         rr: false,

@@ -1,6 +1,7 @@
 use Rattle.std.proofs.Common.{◌≡◌, true, refl, sym, ap, ◌∷◌}
 use Rattle.bpf_check.specs.Operation.{table}
-use Rattle.bpf_asm.specs.Shown.{octets, shown_row}
+use Rattle.bpf_asm.specs.Shown.{shown_words, shown_row}
+use Rattle.bpf_asm.specs.Token.{tokens}
 use Rattle.bpf_asm.specs.Spelling.{kinds}
 use Rattle.bpf_asm.specs.Reading.{has_mnemonic}
 use Rattle.bpf_asm.specs.Drafts.{shown_draft}
@@ -12,31 +13,31 @@ use Rattle.bpf_asm.proofs.draft.draft_of.Goals as goal
 pub returns-in_default : goal.returns-in_default
 returns-in_default c =
     let w = c.args.word.now in
-    let ts = octets c.args.operands.now in
+    let ts = tokens c.args.operands.now in
     let m : has_mnemonic table w ≡ true = (let e = c.is_mnemonic.ensures in cc) in
-    (refl, table_mnemonic w m, no_form w ts (sym (rw c.in_default.is at c.in_ok-row.ensures)))
+    (refl, table_mnemonic w m, no_form w ts (sym (rw c.in_default.is at c.row_of.ensures)))
 
 pub keep-requires : goal.keep-requires
 keep-requires c =
     let w = c.args.word.now in
-    let ts = octets c.args.operands.now in
+    let ts = tokens c.args.operands.now in
     let r = shown_row c.in-Some.row in
-    let f = table_found w ts r (sym (rw c.in-Some.is at c.in_ok-row.ensures)) in
-    rw c.as_slice.ensures.value (read_open (kinds r.operation) ts r.words f.filled)
+    let f = table_found w ts r (sym (rw c.in-Some.is at c.row_of.ensures)) in
+    read_open (kinds r.operation) ts r.words f.filled
 
 pub returns-in-Some-keep : goal.returns-in-Some-keep
 returns-in-Some-keep c =
     let w = c.args.word.now in
-    let ts = octets c.args.operands.now in
+    let ts = tokens c.args.operands.now in
     let r = shown_row c.in-Some.row in
-    let f = table_found w ts r (sym (rw c.in-Some.is at c.in_ok-row.ensures)) in
+    let f = table_found w ts r (sym (rw c.in-Some.is at c.row_of.ensures)) in
     let k = c.in-Some-keep.ensures in
-    (k.0, draft_made (w ∷ ts) (shown_draft c.in-Some-keep.draft) r (octets c.as_slice.result.now) (found_body w ts r f) k.1 k.2 (ap octets c.as_slice.ensures.value) k.3)
+    (k.0, draft_made (w ∷ ts) (shown_draft c.in-Some-keep.draft) r (shown_words c.in-Some.row.words) (found_body w ts r f) k.1 k.2 refl k.3)
 
-pub returns : goal.returns
-returns c =
+pub returns-in-None : goal.returns-in-None
+returns-in-None c =
     let w = c.args.word.now in
-    let ts = octets c.args.operands.now in
+    let ts = tokens c.args.operands.now in
     let r = shown_row c.in-Some.row in
-    let f = table_found w ts r (sym (rw c.in-Some.is at c.in_ok-row.ensures)) in
-    (refl, (r.code, r.operation, r.words, found_body w ts r f, rw c.as_slice.ensures.value at c.in-None.ensures))
+    let f = table_found w ts r (sym (rw c.in-Some.is at c.row_of.ensures)) in
+    (refl, (r.code, r.operation, r.words, found_body w ts r f, c.in-None.ensures))
