@@ -5,14 +5,17 @@
 #   make build   proves and builds the program, with every crate that it stands on
 #   make test    proves every crate from nothing, tries the must-fail edits, runs all tests, script cases and documents
 #   make edits   tries every must-fail edit there is, also those of more-edits/
-#   make bench   measures (it needs valgrind)
+#   make slow    what a running proxy does with who is silent for a minute (80 s)
+#   make interop the proxy beside a real squid (it needs squid and curl, and says so)
+#   make load    a mixed load for eleven minutes (it needs wrk, curl and a C compiler)
+#   make bench   measures (it needs valgrind; wrk, nginx and squid where they are)
 
 PROGRAM = crates/cache_main/out/cache_main
 SCRIPT ?= examples/first_path.script
 
 CONFIG ?= examples/serve.json
 
-.PHONY: serve group feed build test cases documents loopback edits bench
+.PHONY: serve group feed build test cases documents loopback slow interop load edits bench
 
 feed:
 	@tools/feed $(SCRIPT)
@@ -42,9 +45,19 @@ documents:
 loopback:
 	@tests/serve $(PROGRAM)
 
+slow:
+	@tests/serve_slow $(PROGRAM)
+
+interop:
+	@tools/interop $(PROGRAM)
+
+load:
+	@tools/load $(PROGRAM)
+
 edits:
 	@tools/edits
 
 bench: build
 	@bench/feed_ir $(PROGRAM)
 	@bench/node_ir $(PROGRAM)
+	@bench/proxy_side_by_side $(PROGRAM)

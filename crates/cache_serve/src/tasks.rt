@@ -133,8 +133,8 @@ pub struct LookUps {
     pub lanes: Vec<mpsc::UnboundedSender<Job>>,
 }
 
-/// The fetches of one thread at the same time.
-const FETCHES_AT_ONCE: usize = 64;
+/// The fetches of one thread at the same time: as many as a node has, so that none waits for another of its thread.
+const FETCHES_AT_ONCE: usize = 256;
 
 /// The life of one thread of a proxy.
 pub fn run_task<R, L>(rt: R, task: Task<L>) -> Ending<L>

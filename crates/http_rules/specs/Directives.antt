@@ -2,8 +2,8 @@
 -- within double quotes separate nothing, and a backslash there hides the octet after it. Each directive
 -- is a name, compared without case, and the argument after it.
 -- 9 is a tab, 32 a space, 34 a double quote, 44 a comma, 61 an equals sign, 92 a backslash.
-use Rattle.std.specs.Prelude.{ℕ, List, [], ◌∷◌, map, find, flat_map, take, drop, bytes_eq, codes, ◌==◌, Bool, false, ◌||◌, Option, None, is_some, option_map, if◌then◌else◌}
-use Rattle.std.specs.List.{position_or_len}
+use Rattle.std.specs.Prelude.{ℕ, List, [], ◌∷◌, map, find, flat_map, take, drop, bytes_eq, codes, ◌==◌, Bool, false, ◌||◌, true, Option, None, is_some, option_map, if◌then◌else◌}
+use Rattle.std.specs.List.{position_or_len, list_any}
 use Rattle.http_header.specs.Token.{lowercase}
 use Rattle.http_rules.specs.declared.directives.Place.{Place}
 use Rattle.http_rules.specs.declared.directives.Place.TheVariants.{Plain, Quoted, Escaped}
@@ -21,6 +21,21 @@ abbrev pub is_separator : Place → ℕ → Bool
 is_separator Plain c = c == 44
 is_separator Quoted c = false
 is_separator Escaped c = false
+
+-- where the octet after a text stands, by where its first octet stands
+abbrev pub place_behind : Place → List ℕ → Place
+place_behind place [] = place
+place_behind place (c ∷ cs) = place_behind (place_after place c) cs
+
+-- whether an octet that stands there is within double quotes
+abbrev pub is_quoted : Place → Bool
+is_quoted Plain = false
+is_quoted Quoted = true
+is_quoted Escaped = true
+
+-- whether a double quote of a value is never closed
+abbrev pub is_unclosed : List ℕ → Bool
+is_unclosed value = is_quoted (place_behind Plain value)
 
 -- an octet before the first element
 abbrev pub onto_first : ℕ → List (List ℕ) → List (List ℕ)
@@ -69,3 +84,7 @@ asks name fields = is_some (argument name fields)
 abbrev pub argument_seconds : List ℕ → Option ℕ
 argument_seconds [] = None
 argument_seconds (c ∷ text) = if c == 61 then seconds (unquoted text) else None
+
+-- whether a head has a value of which a double quote is never closed, so that what follows the quote can't be told
+abbrev pub has_unclosed : List Field → Bool
+has_unclosed fields = list_any is_unclosed (values_of (codes "cache-control") fields)

@@ -4,7 +4,7 @@ use Rattle.std.specs.Prelude.{ℕ, ◌-◌, List, codes, nat_lt, ◌==◌, not, 
 use Rattle.plain_node.specs.declared.event.Mode.{Mode}
 use Rattle.plain_node.specs.declared.event.Mode.TheVariants.{Shared, Cached, Private}
 use Rattle.http_rules.specs.Fields.{Field, first_value, has_field}
-use Rattle.http_rules.specs.Directives.{argument, argument_seconds, asks}
+use Rattle.http_rules.specs.Directives.{argument, argument_seconds, asks, has_unclosed}
 use Rattle.http_rules.specs.Text.{seconds}
 
 -- how many seconds old a response was when it came: an Age that is missing or no number is 0, and the
@@ -22,11 +22,11 @@ first_seconds None None = None
 abbrev pub lifetime : List Field → Option ℕ
 lifetime fields = first_seconds (argument (codes "s-maxage") fields) (argument (codes "max-age") fields)
 
--- whether something forbids a shared cache to store a response
+-- whether something forbids a shared cache to store a response, or may stand where it can't be read
 abbrev pub is_forbidden : List Field → Bool
 is_forbidden fields =
     asks (codes "no-store") fields || asks (codes "no-cache") fields || asks (codes "private") fields
-    || has_field (codes "vary") fields || has_field (codes "set-cookie") fields
+    || has_field (codes "vary") fields || has_field (codes "set-cookie") fields || has_unclosed fields
 
 -- what is left of a lifetime at an age, if anything is
 abbrev pub left_of : Option ℕ → ℕ → Option ℕ

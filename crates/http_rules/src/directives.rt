@@ -1,10 +1,10 @@
 //! The directives of Cache-Control fields.
 ghost use Rattle.std.specs.Prelude.{◌≡◌, ◌≤◌, ◌∷◌, [], length, codes, IfSome};
 ghost use Rattle.std.specs.Option.{option_copied};
-ghost use Rattle.std.specs.List.{position_or_len};
+ghost use Rattle.std.specs.List.{position_or_len, list_any};
 ghost use Rattle.http_header.specs.Token.{lowercase};
 ghost use Rattle.http_rules.specs.Fields.{fields_of, values_of};
-ghost use Rattle.http_rules.specs.Directives.{place_after, is_separator, ends_name, directive_of, directives_in, first_argument, argument, asks, argument_seconds};
+ghost use Rattle.http_rules.specs.Directives.{place_after, is_separator, ends_name, directive_of, directives_in, first_argument, argument, asks, argument_seconds, place_behind, is_quoted, is_unclosed, has_unclosed};
 ghost use Rattle.http_rules.specs.Elements.{element_len, directives_left, octets_left, argument_among};
 
 use crate::fields;
@@ -54,6 +54,27 @@ impl Place {
             Place::Quoted | Place::Escaped => false,
         }
     }
+
+    /// Whether an octet that stands there is within double quotes.
+    fn is_quoted(self) -> bool
+        ensures { result ≡ is_quoted self }
+    {
+        match self {
+            Place::Plain => false,
+            Place::Quoted | Place::Escaped => true,
+        }
+    }
+}
+
+// Whether a double quote of a value is never closed.
+fn is_unclosed(value: &[u8]) -> bool
+    ensures { result ≡ is_unclosed value.now }
+{
+    let mut place = Place::Plain;
+    for i in 0..value.len() {
+        place = place.after(value[i]);
+    }
+    place.is_quoted()
 }
 
 // How many octets the first element of a text has.
@@ -175,4 +196,17 @@ pub(crate) fn argument_seconds(argument: &[u8]) -> Option<u32>
         [b'=', text @ ..] => seconds(unquoted(text)),
         _ => None,
     }
+}
+
+/// Whether a head has a Cache-Control value of which a double quote is never closed: no directive can
+/// be told from what follows the quote.
+pub(crate) fn has_unclosed(head: &HeaderMap) -> bool
+    ensures { result ≡ has_unclosed (fields_of head.now) }
+{
+    for value in fields::values_of(head, "cache-control") {
+        if is_unclosed(value.as_bytes()) {
+            return true;
+        }
+    }
+    false
 }

@@ -4,7 +4,7 @@ ghost use Rattle.http_rules.specs.Fields.{fields_of};
 ghost use Rattle.http_rules.specs.Responses.{life_of, lifetime, is_forbidden};
 
 use crate::age_of;
-use crate::directives::{argument, argument_seconds, asks};
+use crate::directives::{argument, argument_seconds, asks, has_unclosed};
 use crate::fields::has_field;
 use http_header::HeaderMap;
 use node_core::Mode;
@@ -36,7 +36,7 @@ fn lifetime(head: &HeaderMap) -> Option<u32>
     }
 }
 
-// Whether something forbids a shared cache to store a response.
+// Whether something forbids a shared cache to store a response, or may stand where it can't be read.
 fn is_forbidden(head: &HeaderMap) -> bool
     ensures { result ≡ is_forbidden (fields_of head.now) }
 {
@@ -45,4 +45,5 @@ fn is_forbidden(head: &HeaderMap) -> bool
         || asks(head, "private")
         || has_field(head, "vary")
         || has_field(head, "set-cookie")
+        || has_unclosed(head)
 }

@@ -51,7 +51,7 @@ fn modes(rt: HostRuntime) -> Result<(), Fail> {
 
 #[test]
 fn lives(rt: HostRuntime) -> Result<(), Fail> {
-    let table: [(&str, Option<u32>); 20] = [
+    let table: [(&str, Option<u32>); 23] = [
         ("Cache-Control: max-age=60, s-maxage=30\nAge: 10", Some(20)),
         ("Cache-Control: max-age=10\nAge: 10", None),
         ("Cache-Control: private, max-age=60", None),
@@ -74,6 +74,9 @@ fn lives(rt: HostRuntime) -> Result<(), Fail> {
         ("Cache-Control: private=\"a, b\", max-age=60", None),
         ("Cache-Control: max-age=60\nVary: accept", None),
         ("Cache-Control: max-age=60\nSet-Cookie: a=b", None),
+        ("Cache-Control: max-age=60, x=\"a, private", None),
+        ("Cache-Control: max-age=60, x=\"a\\\", private", None),
+        ("Cache-Control: max-age=60, x=\"a\\\"\"", Some(60)),
         ("Expires: 0", None),
     ];
     for (lines, wanted) in table {

@@ -1,0 +1,344 @@
+"""What the tests over loopback, the loads and the measurements share: origins, proxies, clients' answers, datagrams.
+
+A proxy is a process of its own on ports that were free. Whoever starts one ends it: by its last answer (`end`), by as many requests as
+it still answers (`finish`), or by its process id (`kill`). What a test leaves running is ended after it.
+"""
+import json
+import os
+import resource
+import socket
+import struct
+import subprocess
+import sys
+import tempfile
+import threading
+import time
+
+# The program, and the tests of a file in their order.
+PROGRAM = os.path.abspath(sys.argv[1]) if len(sys.argv) > 1 else None
+TESTS = []
+# What the test of each thread has started.
+STARTED = threading.local()
+
+
+class Skipped(Exception):
+    """What a test needs is not here."""
+
+
+def test(function):
+    TESTS.append(function)
+    return function
+
+
+def check(seen, wanted, what=""):
+    if seen != wanted:
+        raise AssertionError(f"{what}: {seen!r}, wanted {wanted!r}")
+
+
+def holds(truth, what):
+    if not truth:
+        raise AssertionError(what)
+
+
+def until(truth, seconds=10.0, what="it did not come about"):
+    """Waits for something to hold. Answers after how many seconds it did."""
+    began = time.monotonic()
+    while not truth():
+        holds(time.monotonic() - began < seconds, f"{what} within {seconds} s")
+        time.sleep(0.02)
+    return time.monotonic() - began
+
+
+def at_once(count, function):
+    """Calls a function of a number in so many threads, and answers what they answered."""
+    seen = [None] * count
+
+    def ask(n):
+        seen[n] = function(n)
+
+    threads = [threading.Thread(target=ask, args=(n,)) for n in range(count)]
+    for it in threads:
+        it.start()
+    for it in threads:
+        it.join()
+    return seen
+
+
+def free_port(kind=socket.SOCK_STREAM, address="127.0.0.1"):
+    with socket.socket(socket.AF_INET, kind) as s:
+        s.bind((address, 0))
+        return s.getsockname()[1]
+
+
+# ---- an origin
+
+class Origin:
+    """Answers each connection once, by a table of paths. It counts what it was asked for, and who went away from a silent path."""
+
+    def __init__(self, pages, delay=0.0):
+        self.pages, self.delay, self.asked, self.heads, self.left = pages, delay, [], [], []
+        self.socket = socket.create_server(("127.0.0.1", 0), backlog=512)
+        self.port = self.socket.getsockname()[1]
+        threading.Thread(target=self.run, daemon=True).start()
+
+    def run(self):
+        while True:
+            try:
+                connection, _ = self.socket.accept()
+            except OSError:
+                return
+            threading.Thread(target=self.answer, args=(connection,), daemon=True).start()
+
+    def answer(self, connection):
+        try:
+            head = b""
+            while b"\r\n\r\n" not in head:
+                piece = connection.recv(65536)
+                if not piece:
+                    return
+                head += piece
+            path = head.split(b" ")[1].decode()
+            self.heads.append(head)
+            self.asked.append(path)
+            self.give(connection, path)
+        except OSError:
+            pass
+        finally:
+            connection.close()
+
+    def give(self, connection, path):
+        page = self.pages.get(path, self.pages.get("*"))
+        if page is None:
+            connection.recv(1)          # silent until the other side goes
+            self.left.append(path)
+            return
+        if self.delay:
+            time.sleep(self.delay)
+        if callable(page):
+            page(connection)
+        else:
+            connection.sendall(page)
+
+    def url(self, path):
+        return f"http://127.0.0.1:{self.port}{path}"
+
+
+def page(body, *fields, status="200 OK"):
+    head = "".join(f"{field}\r\n" for field in fields)
+    return f"HTTP/1.1 {status}\r\nContent-Length: {len(body)}\r\n{head}\r\n".encode() + body
+
+
+# ---- a proxy
+
+def written(settings, folder):
+    path = os.path.join(folder, "config.json")
+    with open(path, "w") as it:
+        json.dump(settings, it)
+    return path
+
+
+class Proxy:
+    """A proxy that gives so many answers and then ends. `files` is the most files that it may have open."""
+
+    def __init__(self, stop_after, address="127.0.0.1", files=None, **settings):
+        self.address, self.folder = address, tempfile.TemporaryDirectory()
+        for _ in range(5):
+            self.ports = {key: free_port(kind, address) for key, kind in [
+                ("icp_port", socket.SOCK_DGRAM), ("htcp_port", socket.SOCK_DGRAM),
+                ("http_port", socket.SOCK_STREAM), ("admin_port", socket.SOCK_STREAM)]}
+            self.settings = {
+                "address": address, **self.ports, "name": "edge", "allowed": ["127.0.0.0/8"], "miss_nofetch": False, "origin": True,
+                "entries": 1000, "octets": 67108864, "body_limit": 4194304, "volume": 4096, "stop_after": stop_after, "keys": [],
+                "neighbours": [], **settings}
+            said = self.start(files)
+            if said is None:
+                return
+            if "config fault 4" not in said or "http_port" in settings:
+                break
+        raise AssertionError(f"not ready: {said!r}")
+
+    def start(self, files):
+        """Starts the process. Answers what it said where it is not ready."""
+        limit = None if files is None else (lambda: resource.setrlimit(resource.RLIMIT_NOFILE, (files, files)))
+        self.process = subprocess.Popen([PROGRAM, "serve", written(self.settings, self.folder.name)], stdin=subprocess.DEVNULL,
+                                        stdout=subprocess.PIPE, stderr=subprocess.PIPE, text=True, preexec_fn=limit)
+        line = self.process.stdout.readline()
+        if line == "ready\n":
+            STARTED.__dict__.setdefault("proxies", []).append(self)
+            return None
+        self.process.wait(10)
+        return line + self.process.stderr.read()
+
+    def end(self, wanted=0, seconds=20):
+        """Waits for its end after the last answer: the book settles, so the status is 0."""
+        try:
+            status = self.process.wait(seconds)
+        except subprocess.TimeoutExpired:
+            self.process.kill()
+            raise AssertionError("it had not ended")
+        said = self.process.stderr.read()
+        check((status, said), (wanted, ""), "status and standard error")
+
+    def finish(self, seconds=60):
+        """Has it give the answers that are left, to requests that ask for nothing, and waits for its end."""
+        asks = b"GET https://a/ HTTP/1.1\r\nHost: a\r\n\r\n" * 50
+        began = time.monotonic()
+        while self.process.poll() is None and time.monotonic() - began < seconds:
+            try:
+                with socket.create_connection((self.address, self.ports["http_port"]), timeout=1) as s:
+                    s.sendall(asks)
+                    octets = b""
+                    while octets.count(b"HTTP/1.1 ") < 50:
+                        piece = s.recv(65536)
+                        if not piece:
+                            break
+                        octets += piece
+            except OSError:
+                time.sleep(0.05)
+        self.end()
+
+    def kill(self):
+        if self.process.poll() is None:
+            self.process.kill()
+        self.process.wait()
+
+    def connect(self, seconds=10):
+        return socket.create_connection((self.address, self.ports["http_port"]), timeout=seconds)
+
+    def raw(self, octets, seconds=10):
+        with self.connect(seconds) as s:
+            s.sendall(octets)
+            return whole(s)
+
+    def get(self, url, *fields, method="GET", seconds=10):
+        host = url.split("/")[2] if "//" in url else "x"
+        head = "".join(f"{field}\r\n" for field in fields)
+        return self.raw(f"{method} {url} HTTP/1.1\r\nHost: {host}\r\nConnection: close\r\n{head}\r\n".encode(), seconds)
+
+    def admin(self, method, path, body=b""):
+        with socket.create_connection(("127.0.0.1", self.ports["admin_port"]), timeout=10) as s:
+            s.sendall(f"{method} {path} HTTP/1.1\r\nHost: x\r\nConnection: close\r\nContent-Length: {len(body)}\r\n\r\n".encode() + body)
+            return whole(s)
+
+    def udp(self, port, payload, seconds=2.0):
+        with socket.socket(socket.AF_INET, socket.SOCK_DGRAM) as s:
+            s.bind((self.address, 0))
+            s.settimeout(seconds)
+            s.sendto(payload, (self.address, self.ports[port]))
+            try:
+                return s.recv(65536)
+            except socket.timeout:
+                return None
+
+    def resident(self):
+        """The octets of its resident memory."""
+        with open(f"/proc/{self.process.pid}/statm") as it:
+            return int(it.read().split()[1]) * resource.getpagesize()
+
+    def sockets(self):
+        """How many files it has open."""
+        return len(os.listdir(f"/proc/{self.process.pid}/fd"))
+
+    def processor_seconds(self):
+        with open(f"/proc/{self.process.pid}/stat") as it:
+            fields = it.read().rsplit(")", 1)[1].split()
+        return (int(fields[11]) + int(fields[12])) / os.sysconf("SC_CLK_TCK")
+
+
+class Answer:
+    def __init__(self, octets):
+        head, _, self.body = octets.partition(b"\r\n\r\n")
+        lines = head.decode("latin1").split("\r\n")
+        self.status = int(lines[0].split(" ")[1]) if lines[0].startswith("HTTP/1.1 ") else None
+        self.fields = {}
+        for line in lines[1:]:
+            name, _, value = line.partition(":")
+            self.fields.setdefault(name.lower(), []).append(value.strip())
+
+    def field(self, name):
+        return ", ".join(self.fields[name]) if name in self.fields else None
+
+
+def rest(s):
+    """All that still comes of a connection."""
+    pieces = []
+    while True:
+        piece = s.recv(65536)
+        if not piece:
+            return b"".join(pieces)
+        pieces.append(piece)
+
+
+def whole(s):
+    return Answer(rest(s))
+
+
+def closed(s):
+    """Waits for the other side to close the connection: after how many seconds, or None where its time limit came first."""
+    began = time.monotonic()
+    try:
+        while s.recv(65536):
+            pass
+    except ConnectionError:
+        pass
+    except socket.timeout:
+        return None
+    return time.monotonic() - began
+
+
+# ---- datagrams
+
+def icp(opcode, number, url, front=b""):
+    payload = front + url.encode() + b"\0"
+    return struct.pack(">BBHIII4s", opcode, 2, 20 + len(payload), number, 0, 0, bytes(4)) + payload
+
+
+def query(number, url):
+    return icp(1, number, url, bytes(4))
+
+
+def htcp_tst(number, url):
+    """An HTCP TST request of a GET, with no signature."""
+    def counted(text):
+        return struct.pack(">H", len(text)) + text
+    specifier = counted(b"GET") + counted(url.encode()) + counted(b"HTTP/1.1") + counted(b"")
+    data = struct.pack(">HBBI", 8 + len(specifier), 0x10, 2, number) + specifier
+    return struct.pack(">HBB", 4 + len(data) + 2, 0, 0) + data + struct.pack(">H", 2)
+
+
+# ---- running tests
+
+def run_one(function):
+    """Runs one test, and ends what it leaves. Answers whether it passed, with the line to print."""
+    began = time.monotonic()
+    try:
+        function()
+        return True, f"{function.__name__}: ok, {time.monotonic() - began:.1f} s"
+    except Skipped as why:
+        return True, f"{function.__name__}: skipped, {why}"
+    except Exception as fault:  # noqa: BLE001
+        return False, f"FAILED: {function.__name__}: {type(fault).__name__}: {fault}"
+    finally:
+        for proxy in STARTED.__dict__.pop("proxies", []):
+            proxy.kill()
+
+
+def run_tests(side_by_side=False):
+    """Runs the file's tests, or those that are named, one after the other or all at the same time. The last line has their numbers."""
+    names = sys.argv[2:]
+    chosen = [it for it in TESTS if not names or it.__name__ in names]
+    verdicts = []
+
+    def run(function):
+        passed, line = run_one(function)
+        verdicts.append(passed)
+        print(line, flush=True)
+
+    if side_by_side:
+        at_once(len(chosen), lambda n: run(chosen[n]))
+    else:
+        for function in chosen:
+            run(function)
+    failed = len(verdicts) - sum(verdicts)
+    print(f"{sum(verdicts)} passed, {failed} failed")
+    sys.exit(1 if failed or not verdicts else 0)
