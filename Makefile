@@ -6,13 +6,18 @@
 #   make test    proves every crate from nothing, tries the must-fail edits, runs all tests, script cases and documents
 #   make edits   tries every must-fail edit there is, also those of more-edits/
 #   make bench   measures (it needs valgrind)
+#   make sweep   refuses each request for memory of each script case once; `make test` does a part of them
+#   make storm   has two nodes take 100,000,000 events by chance, one with filters and one without; `make test` 300,000
 
 PROGRAM = crates/cache_main/out/cache_main
 SCRIPT ?= examples/first_path.script
 
 CONFIG ?= examples/serve.json
 
-.PHONY: serve group feed build test cases documents loopback edits bench
+SEED := $(or $(SEED),$(shell shuf -n 1 -i 1-1000000000))
+EVENTS ?= 100000000
+
+.PHONY: serve group feed build test cases documents loopback hostile edits bench sweep storm
 
 feed:
 	@tools/feed $(SCRIPT)
@@ -39,6 +44,17 @@ documents:
 # The proxy over loopback.
 loopback:
 	@tests/serve $(PROGRAM)
+
+# The proxy over loopback while memory or descriptors are refused.
+hostile:
+	@tests/serve_hostile $(PROGRAM)
+
+sweep:
+	@tools/sweep $(PROGRAM) cases
+
+storm: build
+	@echo "seed $(SEED)"
+	@time crates/storm/out/storm $(SEED) $(EVENTS)
 
 edits:
 	@tools/edits
