@@ -14,7 +14,7 @@ SCRIPT ?= examples/first_path.script
 
 CONFIG ?= examples/serve.json
 
-SEED := $(or $(SEED),$(shell shuf -n 1 -i 1-1000000000))
+SEED ?=
 EVENTS ?= 100000000
 
 .PHONY: serve group feed build test cases documents loopback hostile edits bench sweep storm
@@ -53,8 +53,7 @@ sweep:
 	@tools/sweep $(PROGRAM) cases
 
 storm: build
-	@echo "seed $(SEED)"
-	@time crates/storm/out/storm $(SEED) $(EVENTS)
+	@tools/storm $(EVENTS) $(SEED)
 
 edits:
 	@tools/edits

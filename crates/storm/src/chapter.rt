@@ -1,10 +1,11 @@
 //! A stretch of events that a node with filters, at a desk with two seats, and its twin without filters take both.
 ghost use Rattle.std.specs.Prelude.{◌≡◌};
 
+use crate::draws::Draws;
 use crate::happenings::Weather;
+use crate::packets;
 use crate::sums::Sums;
 use crate::twin::Twin;
-use crate::{draws::Draws, packets};
 use filter_slots::{End, Socket};
 use neighbours::{Key, Neighbour, Octets, Role};
 use node_book::{Booked, Desk, Seat};
@@ -126,7 +127,11 @@ fn take<L: Ledger, R: Wait>(
 ) -> Result<(), StormFault> {
     both.out.clear();
     let shared = Arc::try_clone(&event)?;
-    let seat = if is_first { &mut both.first } else { &mut both.second };
+    let seat = if is_first {
+        &mut both.first
+    } else {
+        &mut both.second
+    };
     if both
         .desk
         .submit(rt, alloc, seat, shared, &mut both.out)

@@ -82,7 +82,11 @@ impl Weather {
             _ => self.draws.below(40),
         };
         self.clock = self.clock.saturating_add(passed);
-        let back = if self.draws.one_in(20) { self.draws.below(5_000) } else { 0 };
+        let back = if self.draws.one_in(20) {
+            self.draws.below(5_000)
+        } else {
+            0
+        };
         Moment::new(self.clock.saturating_sub(back))
     }
 
@@ -148,7 +152,11 @@ impl Weather {
     }
 
     fn swap(&mut self, alloc: Global) -> Result<Option<Event>, AllocError> {
-        let socket = if self.draws.one_in(2) { Socket::Icp } else { Socket::Htcp };
+        let socket = if self.draws.one_in(2) {
+            Socket::Icp
+        } else {
+            Socket::Htcp
+        };
         if self.draws.one_in(2) {
             return Ok(Some(Event::Swap {
                 socket,
@@ -176,7 +184,11 @@ fn object(alloc: Global, draws: &mut Draws) -> Result<SharedObject, AllocError> 
     if draws.one_in(4) {
         head.push((b"x-name".to_vec(alloc)?, b"value".to_vec(alloc)?))?;
     }
-    let len = if draws.one_in(40) { 12_000 } else { draws.below(200) };
+    let len = if draws.one_in(40) {
+        12_000
+    } else {
+        draws.below(200)
+    };
     let body = vec![in alloc; draws.octet(); len as usize]?;
     let age = draws.below(30) as u32;
     SharedObject::new(alloc, Object::new(status, head, body, age, life))

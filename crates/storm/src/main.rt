@@ -62,13 +62,23 @@ fn run<R: Wait + AllocGlobal>(
 fn tell(rt: &HostRuntime, sums: &Sums) -> bool {
     println!(rt;
         "{} events: {} datagrams ({} rejected, {} cut, {} malformed), {} requests, {} ticks, {} results, {} lost clients, {} swaps",
-        sums.events, sums.datagrams, sums.rejected, sums.cut, sums.malformed, sums.requests, sums.ticks, sums.results, sums.gone,
+        sums.events,
+        sums.datagrams,
+        sums.rejected,
+        sums.cut,
+        sums.malformed,
+        sums.requests,
+        sums.ticks,
+        sums.results,
+        sums.gone,
         sums.swaps
-    ).is_ok()
+    )
+    .is_ok()
         && println!(rt;
             "{} sends, {} fetches, {} hits, {} objects, {} failures",
             sums.sends, sums.fetches, sums.hits, sums.gots, sums.fails
-        ).is_ok()
+        )
+        .is_ok()
 }
 
 fn main(rt: HostRuntime) -> ExitCode {

@@ -1,7 +1,6 @@
 //! Datagrams by chance: messages of both protocols, whole and spoilt.
 use crate::draws::Draws;
-use filter_slots::{Datagram, End, Socket};
-use filter_slots::both_ends;
+use filter_slots::{Datagram, End, Socket, both_ends};
 use htcp_packet::{Detail, Form, HtcpAuth, HtcpBody, HtcpView, Specifier, encode, sign};
 use std::alloc::{AllocError, Global};
 
@@ -117,7 +116,11 @@ fn htcp(
     let key = key(alloc, draws)?;
     let opcode = draws.of(&OPCODES) as u8;
     let rr = draws.one_in(2);
-    let f1 = if rr { draws.one_in(6) } else { !draws.one_in(6) };
+    let f1 = if rr {
+        draws.one_in(6)
+    } else {
+        !draws.one_in(6)
+    };
     let response = if rr { draws.below(3) as u8 } else { 0 };
     let view = HtcpView {
         minor: 0,
@@ -136,18 +139,22 @@ fn htcp(
     if draws.one_in(2) {
         return Ok(encode(alloc, &view).ok());
     }
-    let name = if draws.one_in(12) { b"other".as_slice() } else { KEY };
-    let secret = if draws.one_in(6) { b"wrong".as_slice() } else { SECRET };
+    let name = if draws.one_in(12) {
+        b"other".as_slice()
+    } else {
+        KEY
+    };
+    let secret = if draws.one_in(6) {
+        b"wrong".as_slice()
+    } else {
+        SECRET
+    };
     let then = seconds.saturating_sub(draws.of(&[0, 0, 0, 0, 5, 59, 60, 1_000]));
     Ok(sign(alloc, &view, &both_ends(from, HTCP), name, secret, then).ok())
 }
 
 /// What is left of a message by chance: all of it, a front, with a bit turned, with more behind it, or something else.
-fn spoilt(
-    alloc: Global,
-    draws: &mut Draws,
-    mut octets: Vec<u8>,
-) -> Result<Vec<u8>, AllocError> {
+fn spoilt(alloc: Global, draws: &mut Draws, mut octets: Vec<u8>) -> Result<Vec<u8>, AllocError> {
     let place = draws.below(octets.len() as u64) as usize;
     match draws.below(24) {
         0 => octets.truncate(place),

@@ -5,9 +5,9 @@ use std::alloc::{AllocError, Global};
 
 /// Codes of instructions that do something before the last.
 const CODES: [u32; 43] = [
-    0x20, 0x28, 0x30, 0x40, 0x48, 0x50, 0x00, 0x60, 0x80, 0x01, 0x61, 0x81, 0xb1, 0x02, 0x03, 0x04, 0x14,
-    0x24, 0x34, 0x44, 0x54, 0x64, 0x74, 0x0c, 0x1c, 0x3c, 0x4c, 0x5c, 0x6c, 0x7c, 0x84, 0x05, 0x15, 0x35,
-    0x25, 0x45, 0x1d, 0x3d, 0x2d, 0x4d, 0x07, 0x87, 0x30,
+    0x20, 0x28, 0x30, 0x40, 0x48, 0x50, 0x00, 0x60, 0x80, 0x01, 0x61, 0x81, 0xb1, 0x02, 0x03, 0x04,
+    0x14, 0x24, 0x34, 0x44, 0x54, 0x64, 0x74, 0x0c, 0x1c, 0x3c, 0x4c, 0x5c, 0x6c, 0x7c, 0x84, 0x05,
+    0x15, 0x35, 0x25, 0x45, 0x1d, 0x3d, 0x2d, 0x4d, 0x07, 0x87, 0x30,
 ];
 
 /// What a program returns that returns a constant: nothing, no octet, a few, and all of them.
@@ -15,7 +15,22 @@ const RESULTS: [u32; 10] = [0, 0, 28, 40, 48, 60, 62, 100, 65_535, 4_294_967_295
 
 /// Constants, among them places in the header and in messages.
 const CONSTANTS: [u32; 16] = [
-    0, 1, 2, 4, 9, 12, 20, 22, 28, 29, 30, 36, 48, 62, 255, 4_294_967_295,
+    0,
+    1,
+    2,
+    4,
+    9,
+    12,
+    20,
+    22,
+    28,
+    29,
+    30,
+    36,
+    48,
+    62,
+    255,
+    4_294_967_295,
 ];
 
 /// An instruction by chance, with so many behind it.
@@ -51,7 +66,11 @@ fn last(draws: &mut Draws) -> Insn {
 
 /// A program that the checker accepts. None where it refuses it.
 pub fn program(alloc: Global, draws: &mut Draws) -> Result<Option<Checked>, AllocError> {
-    let count = if draws.one_in(3) { draws.below(40) } else { draws.below(4) };
+    let count = if draws.one_in(3) {
+        draws.below(40)
+    } else {
+        draws.below(4)
+    };
     let mut insns = Vec::new(alloc);
     for place in 0..count {
         insns.push(insn(draws, count.saturating_sub(place)))?;

@@ -62,11 +62,7 @@ impl Twin {
         }
     }
 
-    fn swap(
-        &mut self,
-        socket: Socket,
-        program: &Option<Arc<Checked>>,
-    ) -> Result<(), AllocError> {
+    fn swap(&mut self, socket: Socket, program: &Option<Arc<Checked>>) -> Result<(), AllocError> {
         let program = match program {
             Some(program) => Some(Arc::try_clone(program)?),
             None => None,
@@ -95,7 +91,8 @@ impl Twin {
                 let Ok(datagram) = Arc::new(alloc, datagram) else {
                     return Err(AllocError);
                 };
-                self.node.step(alloc, &Event::Datagram { datagram, now }, out)
+                self.node
+                    .step(alloc, &Event::Datagram { datagram, now }, out)
             }
         }
     }
@@ -118,7 +115,9 @@ impl Twin {
         if value == 0 {
             return Ok(Kept::Nothing);
         }
-        let left = value.min(payload.len().saturating_add(28)).saturating_sub(28);
+        let left = value
+            .min(payload.len().saturating_add(28))
+            .saturating_sub(28);
         if left == payload.len() {
             return Ok(Kept::All);
         }
