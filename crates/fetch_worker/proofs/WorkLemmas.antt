@@ -1,0 +1,36 @@
+-- Jobs and actions one after another.
+use Rattle.std.proofs.Common.{◌≡◌, ◌<◌, ◌⊎◌, inl, inr, ℕ, ◌+◌, length, take, drop, get_or, filter, option_map, List, [], ◌∷◌, ◌++◌, Option, Some, None, refl, ap, sym, ◌∙◌, subst, append_assoc, arith}
+use Rattle.std.proofs.lemmas.List.{take_more, take-append-drop}
+use Rattle.std.proofs.lemmas.List.Elements.{filter-append}
+use Rattle.plain_node.specs.declared.action.Action.{Action}
+use Rattle.plain_node.specs.Memory.{is_no_send}
+use Rattle.node_book.specs.Told.{Told, passing}
+use Rattle.fetch_worker.specs.Working.{AnswersJob, AnswersJobs, Breaks, Stops}
+
+-- one more job
+pub jobs-more : (a b c : Option Told) (jobs : List Action) (job : Action) → AnswersJobs a b jobs → AnswersJob b c job [] → AnswersJobs a c (jobs ++ job ∷ [])
+jobs-more a b c [] job p q = (c, subst (λ (x : Option Told). AnswersJob x c job []) p q, refl)
+jobs-more a b c (first ∷ jobs) job p q = (p.1, p.2.1, jobs-more p.1 b c jobs job p.2.2 q)
+
+passing-twice : (a b c : Option Told) (xs ys : List Action) → b ≡ option_map (passing xs) a → c ≡ option_map (passing ys) b → c ≡ option_map (passing (xs ++ ys)) a
+passing-twice None b c xs ys p q = q ∙ ap (option_map (passing ys)) p
+passing-twice (Some told) b c xs ys p q =
+    q ∙ ap (option_map (passing ys)) p ∙ ap (λ (l : List Action). Some (record told { passed = l })) (append_assoc told.passed xs ys)
+
+-- a front with one more
+pub passes-more : (a b c : Option Told) (actions : List Action) (action : Action) (n : ℕ) → n < length actions → action ≡ get_or actions n action →
+    b ≡ option_map (passing (filter is_no_send (take n actions))) a → c ≡ option_map (passing (filter is_no_send (action ∷ []))) b →
+    c ≡ option_map (passing (filter is_no_send (take (n + 1) actions))) a
+passes-more a b c actions action n lt is p q =
+    let front : take (n + 1) actions ≡ take n actions ++ action ∷ [] = take_more actions n action lt ∙ ap (λ (x : Action). take n actions ++ x ∷ []) (sym is) in
+    let kept : filter is_no_send (take (n + 1) actions) ≡ filter is_no_send (take n actions) ++ filter is_no_send (action ∷ []) = ap (filter is_no_send) front ∙ filter-append is_no_send (take n actions) (action ∷ []) in
+    passing-twice a b c (filter is_no_send (take n actions)) (filter is_no_send (action ∷ [])) p q ∙ ap (λ (l : List Action). option_map (passing l) a) (sym kept)
+
+-- what is left behind a front
+pub front-left : (actions : List Action) (n : ℕ) → filter is_no_send actions ≡ filter is_no_send (take n actions) ++ filter is_no_send (drop n actions)
+front-left actions n = ap (filter is_no_send) (sym (take-append-drop n actions)) ∙ filter-append is_no_send (take n actions) (drop n actions)
+
+-- a job that was not answered whole is some job
+pub breaks-stops : (a b : Option Told) (job : Action) → Breaks a b job → Stops a b
+breaks-stops a b job (inl same) = inl same
+breaks-stops a b job (inr some) = inr (job, some.1, some.2)

@@ -1,0 +1,9 @@
+//! Tests of the fetch worker over desks and nodes by themselves, with fetchers in memory.
+#![tactic(auto)]
+
+#[cfg(test)]
+mod nodes;
+#[cfg(test)]
+mod overlapping;
+#[cfg(test)]
+mod refusals;
