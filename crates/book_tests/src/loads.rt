@@ -1,0 +1,95 @@
+//! What the threads at the seats of a desk submit.
+
+use crate::events::{QUERY, arrival, fetched, request, swap};
+use bpf_check::Checked;
+use filter_slots::{Moment, Socket};
+use node_core::{Event, Mode, Outcome};
+use std::alloc::Global;
+use std::sync::Arc;
+
+/// An HTCP request NOP.
+const NOP: &[u8] = b"\x00\x0e\x00\x00\x00\x08\x00\x02\x00\x00\x00\x07\x00\x02";
+
+/// What the threads at the seats submit.
+#[derive(Clone, Copy, PartialEq, Eq)]
+pub(crate) enum Load {
+    Timers,
+    Mixed,
+}
+
+/// The event that the thread at a seat submits as its i-th.
+pub(crate) fn event_of(alloc: Global, load: Load, place: u64, i: u32) -> Option<Event> {
+    let now = Moment::new(i as u64)?;
+    match load {
+        Load::Timers => Some(Event::Timer { now }),
+        Load::Mixed => mixed(alloc, place, i, now),
+    }
+}
+
+/// Of sixteen events in turn some are a client's, some a filter's, and most datagrams.
+fn mixed(alloc: Global, place: u64, i: u32, now: Moment) -> Option<Event> {
+    let client = place.wrapping_mul(65_536).wrapping_add((i / 16) as u64);
+    match i % 16 {
+        0 | 8 => Some(Event::Timer { now }),
+        1 => request(alloc, client, Mode::Shared, now),
+        2 => fetched(alloc, i % 64, now),
+        3 => request(alloc, client, Mode::Private, now),
+        4 => Some(Event::Gone { client }),
+        5 => swap(alloc, 65_535 - i % 3),
+        6 => arrival(alloc, Socket::Htcp, NOP, now),
+        7 => swap(alloc, i % 60),
+        _ => arrival(alloc, Socket::Icp, QUERY, now),
+    }
+}
+
+/// Another outcome that says the same.
+fn outcome_again(outcome: &Outcome) -> Option<Outcome> {
+    match outcome {
+        Outcome::Object(object) => Some(Outcome::Object(object.share().ok()?)),
+        Outcome::Failed => Some(Outcome::Failed),
+    }
+}
+
+/// Another event that says the same.
+pub(crate) fn again(event: &Event) -> Option<Event> {
+    match event {
+        Event::Datagram { datagram, now } => Some(Event::Datagram {
+            datagram: Arc::try_clone(datagram).ok()?,
+            now: *now,
+        }),
+        Event::Request {
+            client,
+            key,
+            mode,
+            now,
+        } => Some(Event::Request {
+            client: *client,
+            key: key.share().ok()?,
+            mode: *mode,
+            now: *now,
+        }),
+        Event::Timer { now } => Some(Event::Timer { now: *now }),
+        Event::Fetched {
+            fetch,
+            attempt,
+            result,
+            now,
+        } => Some(Event::Fetched {
+            fetch: *fetch,
+            attempt: *attempt,
+            result: outcome_again(result)?,
+            now: *now,
+        }),
+        Event::Gone { client } => Some(Event::Gone { client: *client }),
+        Event::Swap { socket, program } => swap_again(*socket, program),
+    }
+}
+
+/// The same program for the same socket once more.
+fn swap_again(socket: Socket, program: &Option<Arc<Checked>>) -> Option<Event> {
+    let program = match program {
+        Some(program) => Some(Arc::try_clone(program).ok()?),
+        None => None,
+    };
+    Some(Event::Swap { socket, program })
+}

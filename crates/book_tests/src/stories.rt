@@ -1,0 +1,211 @@
+//! A client's fetch, what is stored of it and who is told: by a node alone, by two clerks, and over a turn.
+ghost use Rattle.std.specs.Prelude.{◌≡◌};
+
+use crate::desks::{book_of, desk_of};
+use crate::events::{QUERY, arrival, fetched, node_of, request};
+use filter_slots::{Moment, Socket};
+use node_book::{
+    BookFault, Booked, Clerk, Desk, Lone, Report, Seat, Seated, SettleFault, TakeFault,
+};
+use node_core::{Action, Answer, Event, Mode, Out};
+use object_store::SharedObject;
+use std::alloc::Global;
+use std::marker::Brand;
+use std::sync::ledger::{Blank, Ledger};
+use std::sync::{Arc, Wait};
+use std::test::Fail;
+
+/// The HIT that answers a query from 10.0.0.1.
+const HIT: &[u8] =
+    b"\x02\x02\x00\x1e\x00\x00\x00\x01\x00\x00\x00\x00\x00\x00\x00\x00\x0a\x00\x00\x01http://a/\x00";
+
+/// What an event has a node do, in short.
+#[derive(Clone, Copy, Debug, PartialEq, Eq)]
+enum Said {
+    Nothing,
+    FetchesFrom { fetch: u32 },
+    Got { client: u64 },
+    Hit { client: u64, age: u32 },
+    Sends,
+    Else,
+}
+
+/// Whether an object has the body that was fetched.
+fn is_greeting(object: &SharedObject) -> bool {
+    object.get().body() == b"hi".as_slice()
+}
+
+/// What a client is told, in short.
+fn answer_in_short(client: u64, answer: &Answer) -> Said {
+    match answer {
+        Answer::Got(object) if is_greeting(object) => Said::Got { client },
+        Answer::Hit { object, age } if is_greeting(object) => Said::Hit { client, age: *age },
+        _ => Said::Else,
+    }
+}
+
+/// The one action of an event.
+fn in_short(out: &Out) -> Said {
+    match out.actions() {
+        [] => Said::Nothing,
+        [Action::Fetch { fetch, .. }] => Said::FetchesFrom { fetch: *fetch },
+        [Action::Serve { client, answer }] => answer_in_short(*client, answer),
+        [Action::Send { payload, .. }] if payload.as_slice() == HIT => Said::Sends,
+        _ => Said::Else,
+    }
+}
+
+/// What is said to the events of the story.
+const SAID: [Said; 6] = [
+    Said::FetchesFrom { fetch: 1 },
+    Said::Got { client: 1 },
+    Said::Hit { client: 2, age: 0 },
+    Said::Sends,
+    Said::Hit { client: 3, age: 59 },
+    Said::FetchesFrom { fetch: 2 },
+];
+
+/// The i-th event of a client's fetch, what is stored of it, and a neighbour's query.
+fn story(alloc: Global, i: usize) -> Option<Event> {
+    match i {
+        0 => request(alloc, 1, Mode::Shared, Moment::new(1_000)?),
+        1 => fetched(alloc, 1, Moment::new(1_010)?),
+        2 => request(alloc, 2, Mode::Shared, Moment::new(1_020)?),
+        3 => arrival(alloc, Socket::Icp, QUERY, Moment::new(1_030)?),
+        4 => request(alloc, 3, Mode::Shared, Moment::new(61_009)?),
+        _ => request(alloc, 4, Mode::Shared, Moment::new(61_010)?),
+    }
+}
+
+/// A clerk is given the actions that are no datagrams.
+fn pass_on<C: Clerk>(alloc: Global, clerk: &mut C, out: &Out) -> Option<()> {
+    for action in out.actions() {
+        if !matches!(action, Action::Send { .. }) {
+            clerk.pass(alloc, action).ok()?;
+        }
+    }
+    Some(())
+}
+
+/// A clerk takes the i-th event of the story, and is given the actions that are no datagrams. Answers the event's number, and
+/// what was said.
+fn tell<C: Clerk>(alloc: Global, clerk: &mut C, i: usize) -> Option<(u64, Said)> {
+    let event = Arc::new(alloc, story(alloc, i)?).ok()?;
+    let mut out = Out::new(alloc).ok()?;
+    let number = clerk.submit(alloc, event, &mut out).ok()?;
+    let said = in_short(&out);
+    pass_on(alloc, clerk, &out)?;
+    Some((number, said))
+}
+
+/// Whether a clerk that takes the i-th event of the story has its number, and says what it is to say.
+fn is_told<C: Clerk>(alloc: Global, clerk: &mut C, i: usize) -> bool {
+    i < 6 && tell(alloc, clerk, i) == Some((i as u64, SAID[i]))
+}
+
+#[test]
+fn a_node_by_itself_tells_the_story(rt: HostRuntime) -> Result<(), Fail> {
+    let alloc = rt.alloc();
+    let mut clerk = Lone::new(alloc, node_of(alloc).ok_or("a node")?);
+    for i in 0..6 {
+        assert!(rt; is_told(alloc, &mut clerk, i));
+    }
+    assert_eq!(rt; clerk.passed().len(), 5);
+    assert!(rt; clerk.key_of(alloc, 2)?.is_some());
+    Ok(())
+}
+
+/// Two clerks take turns at the events of the story.
+fn turns_told<C: Clerk>(alloc: Global, first: &mut C, second: &mut C) -> bool {
+    let mut well = true;
+    for i in 0..3 {
+        well = well && is_told(alloc, first, 2 * i) && is_told(alloc, second, 2 * i + 1);
+    }
+    well
+}
+
+/// Whether a clerk knows the key of the second fetch, and of no first one.
+fn knows_second<C: Clerk>(alloc: Global, clerk: &mut C) -> Option<bool> {
+    let key = clerk.key_of(alloc, 2).ok()??;
+    let none = clerk.key_of(alloc, 1).ok()?;
+    Some(key.as_slice() == b"http://a/".as_slice() && none.is_none())
+}
+
+/// Two clerks at seats of a desk take turns at submitting the events of the story, and hand the seats back. None says that one
+/// of them was told something else.
+fn clerks<L: Ledger, R: Wait>(
+    rt: &R,
+    alloc: Global,
+    desk: &Desk<L>,
+    one: Seat<L>,
+    other: Seat<L>,
+) -> Option<Vec<Seat<L>>> {
+    let mut first = Seated::new(alloc, rt, desk, one);
+    let mut second = Seated::new(alloc, rt, desk, other);
+    let told = turns_told(alloc, &mut first, &mut second);
+    let passed = first.passed().len() == 3 && second.passed().len() == 2;
+    let knows = knows_second(alloc, &mut first)? && knows_second(alloc, &mut second)?;
+    if !told || !passed || !knows || desk.stats(rt).icp.judged != 1 {
+        return None;
+    }
+    let mut seats = Vec::new(alloc);
+    seats.push(second.into_seat()).ok()?;
+    seats.push(first.into_seat()).ok()?;
+    Some(seats)
+}
+
+/// What a desk tells of two clerks who took turns.
+fn told<L: Ledger, R: Wait>(rt: &R, alloc: Global, blank: Blank) -> Option<Report>
+    requires name { blank.name ≡ L.name }
+    requires parts { blank.parts ≡ L.parts }
+    requires two { blank.parts ≡ 2 }
+{
+    let (desk, mut seats) = desk_of::<L>(alloc, blank, 4, 2)?;
+    let other = seats.pop()?;
+    let one = seats.pop()?;
+    let seats = clerks(rt, alloc, &desk, one, other)?;
+    desk.settle(seats).ok()
+}
+
+#[test]
+fn two_seats_tell_one_story(rt: HostRuntime) {
+    let wanted = Report {
+        count: 6,
+        base: 4,
+        matched: 2,
+    };
+    let report = told::<Brand, _>(&rt, rt.alloc(), Blank::new(2));
+    assert!(rt; report == Some(wanted));
+}
+
+/// What a book says to the i-th event of the story: the number that it has, and its actions in short.
+fn taken(alloc: Global, booked: &mut Booked, i: usize) -> Option<Result<(u64, Said), TakeFault>> {
+    let event = Arc::new(alloc, story(alloc, i)?).ok()?;
+    let mut out = Out::new(alloc).ok()?;
+    Some(match booked.take(alloc, event, &mut out) {
+        Ok(receipt) => Ok((receipt.number, in_short(&out))),
+        Err(fault) => Err(fault),
+    })
+}
+
+#[test]
+fn a_full_volume_is_turned(rt: HostRuntime) -> Result<(), Fail> {
+    let alloc = rt.alloc();
+    let mut booked = book_of(alloc, 2).ok_or("a book")?;
+    assert!(rt; taken(alloc, &mut booked, 0) == Some(Ok((0, SAID[0]))));
+    assert!(rt; taken(alloc, &mut booked, 1) == Some(Ok((1, SAID[1]))));
+    assert!(rt; taken(alloc, &mut booked, 2) == Some(Err(TakeFault::VolumeFull)));
+    drop(booked.turn(alloc));
+    assert!(rt; taken(alloc, &mut booked, 2) == Some(Ok((2, SAID[2]))));
+    Ok(())
+}
+
+#[test]
+fn volumes_beyond_the_limits_are_refused(rt: HostRuntime) -> Result<(), Fail> {
+    let alloc = rt.alloc();
+    for volume in [0, 1_048_577] {
+        let booked = Booked::new(alloc, node_of(alloc).ok_or("a node")?, volume);
+        assert!(rt; booked.err() == Some(BookFault::Limits));
+    }
+    Ok(())
+}
