@@ -24,6 +24,19 @@ struct Limited {
     passes: u32,
 }
 
+impl Limited {
+    /// Counts an event, if one more can be submitted.
+    fn count(&mut self) -> Result<(), SubmitFault>
+        ensures { self.new.lone ≡ self.old.lone }
+    {
+        let Some(left) = self.events.checked_sub(1) else {
+            return Err(self.fault);
+        };
+        self.events = left;
+        Ok(())
+    }
+}
+
 impl Clerk for Limited {
     ghost use Rattle.std.specs.Prelude.{None};
 
@@ -37,10 +50,7 @@ impl Clerk for Limited {
         event: Arc<Event>,
         out: &mut Out,
     ) -> Result<u64, SubmitFault> {
-        if self.events == 0 {
-            return Err(self.fault);
-        }
-        self.events -= 1;
+        self.count()?;
         self.lone.submit(alloc, event, out)
     }
 
