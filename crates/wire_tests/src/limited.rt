@@ -91,7 +91,7 @@ fn refuses(
         passes: 0,
     };
     let gives = pumped(alloc, &mut wire, &mut clerk, 5);
-    let one_more = wire.taken() == replied.len() + 1;
+    let one_more = wire.taken().checked_sub(1) == Some(replied.len());
     Ok((gives.err(), one_more && has_replied(&wire, replied)))
 }
 
