@@ -1,8 +1,9 @@
 -- Turns that follow one another.
-use Rattle.std.proofs.Common.{◌≡◌, ◌<◌, ◌≤◌, ◌⊎◌, inl, inr, ℕ, ◌+◌, Bool, true, false, not, length, take, drop, map, filter, get_or, option_map, List, [], ◌∷◌, ◌++◌, Option, Some, None, refl, ap, sym, ◌∙◌, subst, append_assoc, append-nil, arith}
+use Rattle.std.proofs.Common.{◌≡◌, ◌<◌, ◌≤◌, ◌⊎◌, inl, inr, ℕ, ◌+◌, ◌*◌, Bool, true, false, not, length, take, drop, map, filter, get_or, option_map, List, [], ◌∷◌, ◌++◌, Option, Some, None, refl, ap, sym, ◌∙◌, subst, append_assoc, append-nil, arith}
 use Rattle.std.proofs.lemmas.Bool.Decides.{nat_tests}
-use Rattle.std.proofs.lemmas.List.{map-append, length-append, take_more, take-append-drop}
+use Rattle.std.proofs.lemmas.List.{map-append, length-append, length-map, take_more, take-append-drop}
 use Rattle.std.proofs.lemmas.List.Elements.{filter-append}
+use Rattle.std.proofs.lemmas.List.Filters.{length-filter_both}
 use Rattle.plain_node.specs.declared.action.Action.{Action}
 use Rattle.plain_node.specs.declared.action.Action.TheVariants.{Send, Fetch, Serve}
 use Rattle.node_core.specs.Counters.{plus}
@@ -13,7 +14,7 @@ use Rattle.mio_queries.specs.declared.pumped.Pumped.{Pumped}
 use Rattle.mio_queries.specs.declared.traffic.Sending.{Sending}
 use Rattle.node_book.specs.Told.{Told, passing}
 use Rattle.mio_queries.specs.Traffic.{Receipt, came, idled, Traffic, grown}
-use Rattle.mio_queries.specs.Pumping.{event_of, is_datagram, sendings, others, joined, Try, tried, gone, failures, Serves, HasServed, Runs, Counts, nothing, Carries, Pumps, LosesWire, AllButLast, Breaks}
+use Rattle.mio_queries.specs.Pumping.{event_of, is_datagram, sendings, others, joined, Try, tried, gone, failures, Serves, HasServed, Runs, Counts, nothing, Carries, Pumps, CountsAll, Makes, LosesWire, AllButLast, Breaks}
 
 -- what a whole list does is what its parts do, one after the other
 abbrev pub Appends : Type 0
@@ -178,10 +179,23 @@ runs-none old new told n p q r =
 
 -- one turn
 
+-- a turn tries at most as many sends as there are actions
+sendings-few : (actions : List Action) → length (sendings actions) ≤ length actions
+sendings-few [] = omega arith
+sendings-few (Send socket to payload ∷ actions) = omega (arith, sendings-few actions)
+sendings-few (Fetch fetch attempt source only_if_cached owner ∷ actions) = omega (arith, sendings-few actions)
+sendings-few (Serve client answer ∷ actions) = omega (arith, sendings-few actions)
+
+tries-few : (tries : List Try) (actions : List Action) → tried tries ≡ sendings actions → length actions ≤ 1344 → length tries ≤ 1 * 1344
+tries-few tries actions p few =
+    let same : length (tried tries) ≡ length tries = length-map tries (λ (t : Try). t.sending) in
+    let sent : length (tried tries) ≡ length (sendings actions) = ap length p in
+    omega (arith, same, sent, sendings-few actions, few)
+
 turn-made-of : (old mid new : Traffic) (a b c : Option Told) (from via to : Pumped) (receipt : Receipt) (actions : List Action)
     → mid.received ≡ grown old.received (receipt ∷ []) → mid.sent ≡ old.sent → mid.faults ≡ old.faults → Counts from via (receipt ∷ []) []
-    → HasServed a b (event_of receipt ∷ []) (actions ∷ []) [] → Carries mid new b c via to actions → Pumps old new a c from to 1
-turn-made-of old mid new a b c from via to receipt actions p q r k s t =
+    → HasServed a b (event_of receipt ∷ []) (actions ∷ []) [] → length actions ≤ 1344 → Carries mid new b c via to actions → Pumps old new a c from to 1
+turn-made-of old mid new a b c from via to receipt actions p q r k s few t =
     let none : failures t.tries ≡ failures t.tries + 0 = omega arith in
     record {
       receipts = receipt ∷ [];
@@ -196,14 +210,15 @@ turn-made-of old mid new a b c from via to receipt actions p q r k s t =
       };
       made = refl;
       counts = counts-append from via to (receipt ∷ []) [] [] t.tries k t.counts;
+      few = tries-few t.tries actions t.sends few;
     }
 
 pub turn-made : (old mid new : Traffic) (a b c : Option Told) (from via to : Pumped) (receipt : Receipt) (actions shown : List Action)
     → mid.received ≡ grown old.received (receipt ∷ []) → mid.sent ≡ old.sent → mid.faults ≡ old.faults → Counts from via (receipt ∷ []) []
-    → HasServed a b (event_of receipt ∷ []) (actions ∷ []) [] → shown ≡ actions → Carries mid new b c via to shown → Pumps old new a c from to 1
-turn-made old mid new a b c from via to receipt actions shown p q r k s view t =
+    → HasServed a b (event_of receipt ∷ []) (actions ∷ []) [] → length actions ≤ 1344 → shown ≡ actions → Carries mid new b c via to shown → Pumps old new a c from to 1
+turn-made old mid new a b c from via to receipt actions shown p q r k s few view t =
     let P : List Action → Type 0 = λ l. Carries mid new b c via to l in
-    turn-made-of old mid new a b c from via to receipt actions p q r k s (subst P view t)
+    turn-made-of old mid new a b c from via to receipt actions p q r k s few (subst P view t)
 
 turn-broken-of : (old mid new : Traffic) (a b c : Option Told) (from to : Pumped) (receipt : Receipt) (actions : List Action) (n : ℕ)
     → mid.received ≡ grown old.received (receipt ∷ []) → mid.sent ≡ old.sent → mid.faults ≡ old.faults
@@ -289,6 +304,7 @@ pumps-none traffic told pumped = record {
   runs = runs-none traffic traffic told 0 refl refl refl;
   made = refl;
   counts = counts-none pumped pumped refl;
+  few = omega arith;
 }
 
 pub broken-none : (traffic : Traffic) (told : Option Told) (turns : ℕ) → Breaks traffic traffic told told turns
@@ -316,6 +332,7 @@ pumps-more law a b c d e f g h i n p q = record {
       (runs-append law a b c d e f p.receipts q.receipts q.receipts p.outs q.outs (joined p.outs) (joined q.outs) p.tries q.tries 0 p.runs q.runs);
   made = omega (arith, length-append p.receipts q.receipts, p.made, q.made);
   counts = counts-append g h i p.receipts q.receipts p.tries q.tries p.counts q.counts;
+  few = omega (arith, length-append p.tries q.tries, p.few, q.few);
 }
 
 pub pumps-lost : Appends → (a b c : Traffic) (d e f : Option Told) (g h : Pumped) (n turns : ℕ) → n < turns → Pumps a b d e g h n → LosesWire b c e f 1 → LosesWire a c d f turns
@@ -364,3 +381,30 @@ turns-counted old new before after pumped made turns all lt p =
     let datagrams = p.counts.datagrams ∙ plus-small (length (filter is_datagram p.receipts)) (omega (arith, both, p.made, lt, all)) in
     let idles = p.counts.idles ∙ plus-small (length (filter (λ r. not (is_datagram r)) p.receipts)) (omega (arith, both, p.made, lt, all)) in
     omega (arith, datagrams, idles, both, p.made, all)
+
+-- each try went or failed
+tries-both : (tries : List Try) → length (gone tries) + failures tries ≡ length tries
+tries-both tries =
+    let same : length (gone tries) ≡ length (filter (λ (t : Try). t.went) tries) = length-map (filter (λ (t : Try). t.went) tries) (λ (t : Try). t.sending) in
+    let both : length (filter (λ (t : Try). t.went) tries) + failures tries ≡ length tries = length-filter_both (λ (t : Try). t.went) (λ (t : Try). not t.went) (λ t. refl) tries in
+    omega (arith, same, both)
+
+plus-from-none : (n : ℕ) → n < 18446744073709551615 → plus 0 n ≡ n
+plus-from-none n lt = grind (arith, nat_tests)
+
+counted-exactly : (old new : Traffic) (before after : Option Told) (pumped : Pumped) (turns : ℕ) → turns < 4294967296 → (p : Pumps old new before after nothing pumped turns) → CountsAll pumped p.receipts p.tries
+counted-exactly old new before after pumped turns lt p =
+    let both = filter-both p.receipts in
+    let tries = tries-both p.tries in
+    record {
+      datagrams = p.counts.datagrams ∙ plus-from-none (length (filter is_datagram p.receipts)) (omega (arith, both, p.made, lt));
+      idles = p.counts.idles ∙ plus-from-none (length (filter (λ r. not (is_datagram r)) p.receipts)) (omega (arith, both, p.made, lt));
+      sends = p.counts.sends ∙ plus-from-none (length (gone p.tries)) (omega (arith, tries, p.few, lt));
+      fails = p.counts.fails ∙ plus-from-none (failures p.tries) (omega (arith, tries, p.few, lt));
+    }
+
+pub all-counted : (old new : Traffic) (before after : Option Told) (pumped : Pumped) (made turns : ℕ) → made ≡ turns → turns < 4294967296 → Pumps old new before after nothing pumped made → Makes old new before after pumped turns
+all-counted old new before after pumped made turns all lt p =
+    let P : ℕ → Type 0 = λ n. Pumps old new before after nothing pumped n in
+    let q = subst P all p in
+    (q, counted-exactly old new before after pumped turns lt q)

@@ -1,5 +1,5 @@
 -- What it is to pump: to take what a wire receives to a clerk, and to carry out what the node answers.
-use Rattle.std.specs.Prelude.{◌≡◌, ◌≤◌, ◌⊎◌, ℕ, ◌+◌, Bool, true, false, not, length, map, filter, take, List, [], ◌∷◌, ◌++◌, Option, Some, None}
+use Rattle.std.specs.Prelude.{◌≡◌, ◌≤◌, ◌⊎◌, ℕ, ◌+◌, ◌*◌, Bool, true, false, not, length, map, filter, take, List, [], ◌∷◌, ◌++◌, Option, Some, None}
 use Rattle.std.specs.Option.{option_map}
 use Rattle.plain_node.specs.declared.action.Action.{Action}
 use Rattle.plain_node.specs.declared.action.Action.TheVariants.{Send, Fetch, Serve}
@@ -99,7 +99,7 @@ pub record Carries (old new : Traffic) (before after : Option Told) (from to : P
   pub passed : after ≡ option_map (passing (others actions)) before
   pub counts : Counts from to [] tries
 
--- so many turns were made: all events were taken, and all their actions were carried out
+-- so many turns were made: all events were taken, and all their actions were carried out; at most 1,344 sends were tried in each
 pub record Pumps (old new : Traffic) (before after : Option Told) (from to : Pumped) (turns : ℕ) : Type 0 where
   pub receipts : List Receipt
   pub outs : List (List Action)
@@ -107,6 +107,18 @@ pub record Pumps (old new : Traffic) (before after : Option Told) (from to : Pum
   pub runs : Runs old new before after receipts receipts outs (joined outs) tries 0
   pub made : length receipts ≡ turns
   pub counts : Counts from to receipts tries
+  pub few : length tries ≤ turns * 1344
+
+-- what was counted from nothing on: no count stays at its greatest number
+pub record CountsAll (pumped : Pumped) (receipts : List Receipt) (tries : List Try) : Type 0 where
+  pub datagrams : pumped.received ≡ length (filter is_datagram receipts)
+  pub idles : pumped.idle ≡ length (filter (λ r. not (is_datagram r)) receipts)
+  pub sends : pumped.sent ≡ length (gone tries)
+  pub fails : pumped.failed ≡ failures tries
+
+-- so many turns were made, and all that was done in them was counted
+abbrev pub Makes : (old new : Traffic) (before after : Option Told) (pumped : Pumped) (turns : ℕ) → Type 0
+Makes old new before after pumped turns = (p : Pumps old new before after nothing pumped turns) × CountsAll pumped p.receipts p.tries
 
 -- the wire failed to receive, after fewer turns: all events before were taken, and all their actions were carried out
 pub record LosesWire (old new : Traffic) (before after : Option Told) (turns : ℕ) : Type 0 where

@@ -30,7 +30,11 @@ impl MemoryWire {
         alloc: Global,
         answers: Vec<Result<Received, WireFault>>,
         failing: Vec<bool>,
-    ) -> MemoryWire {
+    ) -> MemoryWire
+        ensures answers { (result.answers.items ≡ answers.items) × (result.taken ≡ 0) }
+        ensures failing { (result.failing.items ≡ failing.items) × (result.tried ≡ 0) }
+        ensures unused { (result.sent.items ≡ []) × (result.faults ≡ 0) }
+    {
         MemoryWire {
             alloc,
             answers,
@@ -43,17 +47,23 @@ impl MemoryWire {
     }
 
     /// What was sent, in order.
-    pub fn sent(&self) -> &[Sending] {
+    pub fn sent(&self) -> &[Sending]
+        ensures { result.now ≡ self.now.sent.items }
+    {
         self.sent.as_slice()
     }
 
     /// How many answers were given.
-    pub fn taken(&self) -> usize {
+    pub fn taken(&self) -> usize
+        ensures { result ≡ self.now.taken }
+    {
         self.taken
     }
 
     /// How often the wire failed.
-    pub fn faults(&self) -> u64 {
+    pub fn faults(&self) -> u64
+        ensures { result ≡ self.now.faults }
+    {
         self.faults
     }
 }

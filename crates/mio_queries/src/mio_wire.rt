@@ -1,5 +1,5 @@
 //! The wire over the system's sockets.
-ghost use Rattle.std.specs.Prelude.{◌≡◌, None};
+ghost use Rattle.std.specs.Prelude.{◌≡◌, None, IfOk};
 ghost use Rattle.node_core.specs.Counters.{plus};
 ghost use Rattle.mio_queries.specs.Traffic.{Traffic};
 
@@ -27,7 +27,9 @@ pub struct MioWire<R> {
 impl<R: Net + Clock + AllocGlobal + Drop> MioWire<R> {
     /// Binds both sockets. At port 0 the system chooses one. Errors: an end can't be had, the system refused, or there was
     /// no memory.
-    pub fn bind(rt: R, icp: End, htcp: End) -> Result<MioWire<R>, BindFault> {
+    pub fn bind(rt: R, icp: End, htcp: End) -> Result<MioWire<R>, BindFault>
+        ensures { IfOk result (λ wire. wire.faults ≡ 0) }
+    {
         Ok(MioWire {
             sockets: Sockets::bind(rt, icp, htcp)?,
             faults: 0,

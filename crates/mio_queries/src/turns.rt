@@ -3,7 +3,7 @@ ghost use Rattle.std.specs.Prelude.{◌≡◌, ◌+◌, ◌∷◌, [], ℕ, take
 ghost use Rattle.node_core.specs.Counters.{plus};
 ghost use Rattle.node_core.specs.Happening.{happening};
 ghost use Rattle.mio_queries.specs.Traffic.{receipt_of, grown};
-ghost use Rattle.mio_queries.specs.Pumping.{event_of, HasServed, Try, gone, failures, Counts, nothing, Carries, Pumps, LosesWire, Breaks};
+ghost use Rattle.mio_queries.specs.Pumping.{event_of, HasServed, Try, gone, failures, Counts, Carries, Pumps, Makes, LosesWire, Breaks};
 
 use crate::NoMemory;
 use crate::pumped::{PumpFault, Pumped};
@@ -24,7 +24,7 @@ pub fn pump<W: Wire, C: Clerk>(
     clerk: &mut C,
     turns: u32,
 ) -> Result<Pumped, PumpFault>
-    ensures all { IfOk result (λ pumped. Pumps (W.traffic wire.old) (W.traffic wire.new) (C.told clerk.old) (C.told clerk.new) nothing pumped turns) }
+    ensures all { IfOk result (λ pumped. Makes (W.traffic wire.old) (W.traffic wire.new) (C.told clerk.old) (C.told clerk.new) pumped turns) }
     ensures turns { IfOk result (λ pumped. pumped.received + pumped.idle ≡ turns) }
     ensures receive { IsErrOf result PumpFault.Receive → LosesWire (W.traffic wire.old) (W.traffic wire.new) (C.told clerk.old) (C.told clerk.new) turns }
     ensures no_memory { IsErrOf result PumpFault.NoMemory → Breaks (W.traffic wire.old) (W.traffic wire.new) (C.told clerk.old) (C.told clerk.new) turns }
@@ -44,7 +44,7 @@ pub fn pump_with<W: Wire, C: Clerk>(
     out: &mut Out,
     turns: u32,
 ) -> Result<Pumped, PumpFault>
-    ensures all { IfOk result (λ pumped. Pumps (W.traffic wire.old) (W.traffic wire.new) (C.told clerk.old) (C.told clerk.new) nothing pumped turns) }
+    ensures all { IfOk result (λ pumped. Makes (W.traffic wire.old) (W.traffic wire.new) (C.told clerk.old) (C.told clerk.new) pumped turns) }
     ensures turns { IfOk result (λ pumped. pumped.received + pumped.idle ≡ turns) }
     ensures receive { IsErrOf result PumpFault.Receive → LosesWire (W.traffic wire.old) (W.traffic wire.new) (C.told clerk.old) (C.told clerk.new) turns }
     ensures no_memory { IsErrOf result PumpFault.NoMemory → Breaks (W.traffic wire.old) (W.traffic wire.new) (C.told clerk.old) (C.told clerk.new) turns }
@@ -73,6 +73,7 @@ fn turn<W: Wire, C: Clerk>(
 {
     let received = receive_one(alloc, wire, pumped)?;
     submit_one(alloc, clerk, received, out)?;
+    out.facts();
     match carry_out(alloc, wire, clerk, out.actions(), pumped) {
         Ok(()) => Ok(()),
         Err(_) => Err(PumpFault::NoMemory),

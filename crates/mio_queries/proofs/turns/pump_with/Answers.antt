@@ -2,7 +2,7 @@ use Rattle.std.proofs.Common.{IsErrOf, arith}
 use Rattle.std.proofs.lemmas.Result.{err_from_is_err_and}
 use Rattle.mio_queries.specs.declared.pumped.PumpFault.TheVariants.{Receive, NoMemory, Ended}
 use Rattle.mio_queries.specs.Pumping.{nothing}
-use Rattle.mio_queries.proofs.PumpLemmas.{pumps-none, pumps-more, pumps-lost, pumps-broken, turns-counted}
+use Rattle.mio_queries.proofs.PumpLemmas.{pumps-none, pumps-more, pumps-lost, pumps-broken, turns-counted, all-counted}
 use Rattle.mio_queries.proofs.turns.pump_with.Goals as goal
 
 pub loop-made-init : goal.loop-made-init
@@ -41,4 +41,9 @@ loop-made-preserved g c =
 pub returns-clause-turns : goal.returns-clause-turns
 returns-clause-turns g c =
     turns-counted (g.W.Wire.traffic c.args.wire.now) (g.W.Wire.traffic c.loop-made.wire) (g.C.Clerk.told c.args.clerk.now) (g.C.Clerk.told c.loop-made.clerk)
+    c.loop-made.pumped c.loop-made.made c.args.turns (omega arith) (omega arith) c.loop-made.invariant
+
+pub returns-clause-all : goal.returns-clause-all
+returns-clause-all g c =
+    all-counted (g.W.Wire.traffic c.args.wire.now) (g.W.Wire.traffic c.loop-made.wire) (g.C.Clerk.told c.args.clerk.now) (g.C.Clerk.told c.loop-made.clerk)
     c.loop-made.pumped c.loop-made.made c.args.turns (omega arith) (omega arith) c.loop-made.invariant

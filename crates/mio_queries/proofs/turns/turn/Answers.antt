@@ -35,7 +35,7 @@ returns-in-Ok-clause-made g c =
     (g.C.Clerk.told c.args.clerk.now) (g.C.Clerk.told c.submit_one.new.clerk) (g.C.Clerk.told c.carry_out.new.clerk)
     c.args.pumped.now c.receive_one.new.pumped c.carry_out.new.pumped (receipt_of c.in_ok-received.received) c.submit_one.new.out c.actions.result.now
     c.in_ok-received.ensures.received c.receive_one.ensures.sent c.in_ok-received.ensures.right c.in_ok-received.ensures.counts
-    c.in_ok-submit_one.ensures.taken c.actions.ensures c.in-Ok.ensures.all
+    c.in_ok-submit_one.ensures.taken c.facts.ensures c.actions.ensures c.in-Ok.ensures.all
 
 pub returns-in-Err-clause-no_memory : goal.returns-in-Err-clause-no_memory
 returns-in-Err-clause-no_memory g c = λ e.
