@@ -1,6 +1,6 @@
 //! All pending fetches.
 
-ghost use Rattle.std.specs.Prelude.{◌≡◌, ◌<◌, ◌≤◌, ◌↔◌, ◌&&◌, [], ◌∷◌, length, slice_get, Some, None, IfOk, IfErr, OnOk, OnErr, IsTrue, true, false, nat_le, option_map, if◌then◌else◌};
+ghost use Rattle.std.specs.Prelude.{◌≡◌, ◌<◌, ◌≤◌, ◌↔◌, ◌&&◌, [], ◌∷◌, length, Some, None, IfOk, IfErr, OnOk, OnErr, IsTrue, true, false, nat_le, option_map, if◌then◌else◌};
 ghost use Rattle.std.specs.List.{list_all, list_any};
 ghost use Rattle.pending_fetch.specs.Numbers.{IsNext};
 ghost use Rattle.pending_fetch.specs.Fetches.{changed, with_reply, with_end, with_next, numbers, starts, fetch_of, has_number, shared_number, all_waiters, waits, waiters_of, left, without, first_due, next_number, opened, fresh, owner_of};
@@ -15,7 +15,7 @@ use crate::slot::Slot;
 use crate::slots::{
     advance_in, are_crowded, are_many, close_in, copies_of, copy_of_clients, expire_in,
     free_number, has_client, join_at, leave_in, open_in, place_of, place_of_shared, reply_in,
-    waiter_in,
+    waiters_in,
 };
 use crate::undecided::Undecided;
 use neighbours::{Moment, Table};
@@ -189,11 +189,11 @@ impl Pending {
         leave_in(&mut self.slots, &mut self.clients, client);
     }
 
-    /// The i-th client that waits for the fetch of this number, in order of joining, from 0 on.
-    pub fn waiter(&self, number: u32, i: usize) -> Option<u64>
-        ensures { result ≡ slice_get (waiters_of number self.now.list) i }
+    /// The clients that wait for the fetch of this number, in order of joining.
+    pub fn waiters(&self, number: u32) -> &[u64]
+        ensures { result.now ≡ waiters_of number self.now.list }
     {
-        waiter_in(&self.slots, &self.clients, number, i)
+        waiters_in(&self.slots, &self.clients, number)
     }
 
     /// Removes the fetch of this number with its waiters.

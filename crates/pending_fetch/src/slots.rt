@@ -1,6 +1,6 @@
 //! Slots, and the clients of all slots in one list: what is read off them and what is done to them.
 
-ghost use Rattle.std.specs.Prelude.{◌≡◌, ◌+◌, ◌%◌, ◌^◌, ◌<◌, ◌≤◌, ◌==◌, ◌&&◌, ◌++◌, ◌∷◌, [], ℕ, List, nat_eq, is_some, length, map, filter, not, position, option_map, slice_get, sum_by, take, drop, Some, OnOk, OnErr, IfOk, true, vec_capacity, slice_index_or, nat_le, nat_lt, if◌then◌else◌};
+ghost use Rattle.std.specs.Prelude.{◌≡◌, ◌+◌, ◌%◌, ◌^◌, ◌<◌, ◌≤◌, ◌==◌, ◌&&◌, ◌++◌, ◌∷◌, [], ℕ, List, nat_eq, is_some, length, map, filter, not, position, option_map, sum_by, take, drop, Some, OnOk, OnErr, IfOk, true, vec_capacity, slice_index_or, nat_le, nat_lt, if◌then◌else◌};
 ghost use Rattle.std.specs.List.{list_any, IsDistinct};
 ghost use Rattle.std.specs.Str.{bytes_eq};
 ghost use Rattle.peer_select.specs.Poll.{decided, replied, ended, matches};
@@ -90,18 +90,17 @@ fn has_number(slots: &[Slot], n: u32) -> bool
     slots.iter().map(|slot| slot.number).any(|m| n == m)
 }
 
-/// The i-th client of the fetch of this number.
-pub fn waiter_in(slots: &[Slot], clients: &[u64], number: u32, i: usize) -> Option<u64>
+/// The clients of the fetch of this number.
+pub fn waiters_in<'a>(slots: &[Slot], clients: &'a [u64], number: u32) -> &'a [u64]
     requires counted { waiting_in slots.now ≡ length clients.now }
     requires few { length clients.now ≤ 1024 }
-    ensures { result ≡ slice_get (waiters_of number (held slots.now clients.now)) i }
+    ensures { result.now ≡ waiters_of number (held slots.now clients.now) }
 {
     let Some(place) = place_of(slots, number) else {
-        return None;
+        return run_of(clients, 0, 0);
     };
     let first = waiting_for(&slots[..place]);
-    let own = run_of(clients, first, slots[place].waiting);
-    client_at(own, i)
+    run_of(clients, first, slots[place].waiting)
 }
 
 fn run_of(clients: &[u64], first: usize, count: usize) -> &[u64]
@@ -109,12 +108,6 @@ fn run_of(clients: &[u64], first: usize, count: usize) -> &[u64]
     ensures { result.now ≡ take count (drop first clients.now) }
 {
     &clients[first..first + count]
-}
-
-fn client_at(clients: &[u64], i: usize) -> Option<u64>
-    ensures { result ≡ slice_get clients.now i }
-{
-    clients.get(i).copied()
 }
 
 /// Whether the client is one of these.
