@@ -4,6 +4,7 @@
 mod fault;
 mod fetch;
 mod laws;
+mod order;
 mod pending;
 mod queue;
 mod slot;
