@@ -3,6 +3,7 @@
 
 mod fault;
 mod fetch;
+mod kept;
 mod laws;
 mod order;
 mod pending;

@@ -10,6 +10,7 @@ ghost use Rattle.pending_fetch.specs.Slots.{as_fetch, slot_told};
 
 use crate::fault::{JoinFault, OpenFault};
 use crate::fetch::Fetch;
+use crate::kept::KeptRound;
 use crate::order::Order;
 use crate::queue::{copy_of_queue, dequeue, due_in, enqueue, entry_for, settle};
 use crate::slot::Slot;
@@ -156,13 +157,14 @@ impl Pending {
         ensures fault { IfErr result (λ fault. fault ≡ (if is_full self.old.list then OpenFault.Full else OpenFault.NoMemory)) }
         ensures unchanged { OnErr result (self.new ≡ self.old) }
     {
-        let _ = alloc;
         if self.is_full() {
             return Err(OpenFault::Full);
         }
         let number = self.next_number();
         let entry = entry_for(number, &round);
-        let slot = first_slot(number, key, client, shared, round);
+        let Ok(slot) = first_slot(alloc, number, key, client, shared, round) else {
+            return Err(OpenFault::NoMemory);
+        };
         if open_in(&mut self.slots, &mut self.clients, slot, client).is_err() {
             return Err(OpenFault::NoMemory);
         }
@@ -271,18 +273,26 @@ fn decided_where(found: bool) -> Option<bool>
     if found { Some(true) } else { None }
 }
 
-fn first_slot(number: u32, key: CacheKey, client: u64, shared: bool, round: Round) -> Slot
-    ensures fetch { as_fetch result (client ∷ []) ≡ fresh number key client shared round }
-    ensures one { result.waiting ≡ 1 }
+fn first_slot(
+    alloc: Global,
+    number: u32,
+    key: CacheKey,
+    client: u64,
+    shared: bool,
+    round: Round,
+) -> Result<Slot, AllocError>
+    ensures fetch { IfOk result (λ slot. as_fetch slot (client ∷ []) ≡ fresh number key client shared round) }
+    ensures one { IfOk result (λ slot. slot.waiting ≡ 1) }
 {
-    Slot {
+    let round = KeptRound::new(alloc, round)?;
+    Ok(Slot {
         number,
         key,
         owner: owner_for(client, shared),
         attempt: 0,
         round,
         waiting: 1,
-    }
+    })
 }
 
 fn owner_for(client: u64, shared: bool) -> Option<u64>
@@ -302,7 +312,7 @@ fn lent(slot: &Slot) -> Fetch<'_>
         shared: slot.owner.is_none(),
         owner: slot.owner,
         attempt: slot.attempt,
-        round: &slot.round,
+        round: slot.round.get(),
     }
 }
 

@@ -21,7 +21,7 @@ pub fn copies_of(slots: &[Slot], alloc: Global) -> Result<Vec<Slot>, AllocError>
 {
     let mut copies = Vec::with_capacity(alloc, slots.len())?;
     for slot in slots {
-        copies.push(slot.copy()?)?;
+        copies.push(slot.copy(alloc)?)?;
     }
     Ok(copies)
 }

@@ -59,7 +59,7 @@ fn start_by(slots: &[Slot], start: Moment) -> bool
 {
     slots
         .iter()
-        .all(|slot| slot.round.began().millis() <= start.millis())
+        .all(|slot| slot.round.get().began().millis() <= start.millis())
 }
 
 // Opens a private fetch, where the client waits for none and its round starts late enough.
