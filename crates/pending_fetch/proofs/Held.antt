@@ -1,6 +1,6 @@
 -- Slots and clients, and the list of fetches that they hold.
-use Rattle.std.proofs.Common.{◌≡◌, ℕ, suc, ◌+◌, ◌-◌, ◌<◌, ◌≤◌, Bool, true, false, not, cond, eqb, nat_lt, List, [], ◌∷◌, ◌++◌, length, map, take, drop, set, get_or, refl, ap, sym, ◌∙◌, subst, arith, nat_eq, ◌==◌, ◌||◌, if◌then◌else◌, append_assoc, length-append, Some, None, length-drop}
-use Rattle.std.proofs.lemmas.List.{take-append-drop, take-append-le, drop-append-le, length-take-le}
+use Rattle.std.proofs.Common.{◌≡◌, ℕ, zero, suc, ◌+◌, ◌-◌, ◌<◌, ◌≤◌, Bool, true, false, not, cond, eqb, nat_lt, List, [], ◌∷◌, ◌++◌, length, map, take, drop, set, get_or, refl, ap, sym, ◌∙◌, subst, arith, nat_eq, ◌==◌, ◌||◌, if◌then◌else◌, append_assoc, length-append, Some, None, length-drop}
+use Rattle.std.proofs.lemmas.List.{map-append, take-append-drop, take-append-le, drop-append-le, length-take-le}
 use Rattle.std.proofs.lemmas.Bool.{eqb-true, eq-eqb}
 use Rattle.std.proofs.lemmas.List.Folds.{list_any-append}
 use Rattle.std.proofs.lemmas.List.Sums.{sum_by-cons, sum_by-append}
@@ -11,7 +11,7 @@ use Rattle.std.specs.Option.{option_map}
 use Rattle.std.specs.Prelude.{Option}
 use Rattle.pending_fetch.specs.declared.slot.Slot.{Slot}
 use Rattle.pending_fetch.specs.Fetches.{PendingFetch, all_waiters, numbers, without_client, left, changed, has_number, with_waiter, without, waiters_of, waiters_in, fetch_of, shares, shared_number, with_next}
-use Rattle.pending_fetch.specs.Slots.{as_fetch, held, waiting_in, IsFirst, has_that_number, slot_shares, slot_advanced, recounted}
+use Rattle.pending_fetch.specs.Slots.{as_fetch, held, numbers_in, waiting_in, IsFirst, has_that_number, slot_shares, slot_advanced, recounted}
 use Rattle.pending_fetch.proofs.Words.{changed-seam, without-seam, none_later, find-seam, find-none}
 use Rattle.pending_fetch.proofs.Places.{number_apart}
 
@@ -458,3 +458,32 @@ counted_again client slots new lent clients seen rest n h is l s r long =
     let size : length new ≡ length slots = ap length made ∙ length-recounted client slots clients in
     let all : take n (new ++ drop (length new) slots) ≡ recounted client slots clients = whole n new slots size (long ∙ ap length l) ∙ made in
     (ap (λ x. held x rest) all ∙ ap (held (recounted client slots clients)) r ∙ both.0, ap waiting_in all ∙ both.1 ∙ sym (ap length r))
+
+-- the numbers of the slots
+pol-numbers : (number : ℕ) (slots : List Slot) → position_or_len (λ n. n == number) (numbers_in slots) ≡ position_or_len (has_that_number number) slots
+pol-numbers number [] = refl
+pol-numbers number (s ∷ slots) = ap (λ k. cond (not (s.number == number)) (1 + k) 0) (pol-numbers number slots)
+
+pub length-numbers : (slots : List Slot) → length (numbers_in slots) ≡ length slots
+length-numbers [] = refl
+length-numbers (s ∷ slots) = ap suc (length-numbers slots)
+
+pub position-numbers : (number : ℕ) (slots : List Slot) → position (λ n. n == number) (numbers_in slots) ≡ position (has_that_number number) slots
+position-numbers number slots =
+    ap (λ k. cond (nat_lt k (length (numbers_in slots))) (Some k) None) (pol-numbers number slots)
+    ∙ ap (λ n. cond (nat_lt (position_or_len (has_that_number number) slots) n) (Some (position_or_len (has_that_number number) slots)) None) (length-numbers slots)
+
+numbers-drop : (n : ℕ) (slots : List Slot) → numbers_in (drop n slots) ≡ drop n (numbers_in slots)
+numbers-drop zero slots = refl
+numbers-drop (suc n) [] = refl
+numbers-drop (suc n) (s ∷ slots) = numbers-drop n slots
+
+numbers-take : (i : ℕ) (slots : List Slot) → numbers_in (take i slots) ≡ take i (numbers_in slots)
+numbers-take zero slots = refl
+numbers-take (suc i) [] = refl
+numbers-take (suc i) (s ∷ slots) = ap (λ l. s.number ∷ l) (numbers-take i slots)
+
+pub numbers-cut : (i n : ℕ) (slots : List Slot) → numbers_in (take i slots ++ drop n slots) ≡ take i (numbers_in slots) ++ drop n (numbers_in slots)
+numbers-cut i n slots =
+    map-append (λ (s : Slot). s.number) (take i slots) (drop n slots)
+    ∙ ap (λ l. l ++ numbers_in (drop n slots)) (numbers-take i slots) ∙ ap (λ l. take i (numbers_in slots) ++ l) (numbers-drop n slots)

@@ -8,3 +8,4 @@ pub mod Waits
 pub mod Held
 pub mod Views
 pub mod Queues
+pub mod Rising

@@ -12,8 +12,8 @@ use Rattle.pending_fetch.specs.Calls.{is_crowded, is_full, fits, told, join_faul
 use Rattle.pending_fetch.specs.declared.fault.JoinFault.{JoinFault}
 use Rattle.pending_fetch.specs.declared.fault.JoinFault.TheVariants.{Full, Double}
 use Rattle.pending_fetch.specs.Legal.{IsLegal}
-use Rattle.pending_fetch.specs.Slots.{as_fetch, held, waiting_in, IsHeld, has_that_number, slot_shares, slot_told}
-use Rattle.pending_fetch.proofs.Words.{Keeps, IsLegal-changed, IsLegal-left, IsLegal-joined, IsLegal-push}
+use Rattle.pending_fetch.specs.Slots.{as_fetch, held, numbers_in, waiting_in, IsHeld, has_that_number, slot_shares, slot_told}
+use Rattle.pending_fetch.proofs.Words.{Keeps, numbers-append, numbers-changed, numbers-left, IsLegal-changed, IsLegal-left, IsLegal-joined, IsLegal-push}
 use Rattle.pending_fetch.proofs.Waits.{IsLegal-without}
 use Rattle.pending_fetch.proofs.Held.{all_waiters-held, length-held, map_held, find_held, any_held, fetch_is, fetch_held, no_fetch, some_slot, open_held, shared_held, no_shared, first_at}
 use Rattle.pending_fetch.proofs.Nexts.{next_is}
@@ -88,11 +88,32 @@ pub many_view : (last : ℕ) (slots ys : List Slot) (clients : List ℕ) (v : Fe
 many_view last slots ys clients v i e =
     ap (λ l. nat_le 256 (length l)) e ∙ ap (nat_le 256) (sym (length-held slots clients)) ∙ ap (λ (w : Fetches). nat_le 256 (length w.list)) i
 
-pub number_view : (last : ℕ) (slots ys : List Slot) (clients : List ℕ) (v : Fetches) → seen last (held slots clients) ≡ v → ys ≡ slots →
-    next_of (map (λ (slot : Slot). slot.number) ys) last ≡ next_number v
-number_view last slots ys clients v i e =
-    ap (λ l. next_of (map (λ (slot : Slot). slot.number) l) last) e
-    ∙ ap (λ l. next_of l last) (sym (map_held (λ (f : PendingFetch). f.number) (λ (slot : Slot). slot.number) (λ s w. refl) slots clients)) ∙ ap next_number i
+pub number_view : (last : ℕ) (order : List ℕ) (slots : List Slot) (clients : List ℕ) (v : Fetches) → seen last (held slots clients) ≡ v → order ≡ numbers (held slots clients) →
+    next_of order last ≡ next_number v
+number_view last order slots clients v i e = ap (λ l. next_of l last) e ∙ ap next_number i
+
+-- the order of opening: what it is of the slots, and that it follows each change
+pub order_in : (order : List ℕ) (slots : List Slot) (clients : List ℕ) → order ≡ numbers (held slots clients) → order ≡ numbers_in slots
+order_in order slots clients e = e ∙ map_held (λ (f : PendingFetch). f.number) (λ (slot : Slot). slot.number) (λ s w. refl) slots clients
+
+pub order_held : (order : List ℕ) (slots : List Slot) (clients : List ℕ) → order ≡ numbers_in slots → order ≡ numbers (held slots clients)
+order_held order slots clients e = e ∙ sym (map_held (λ (f : PendingFetch). f.number) (λ (slot : Slot). slot.number) (λ s w. refl) slots clients)
+
+pub order_changed : (change : PendingFetch → PendingFetch) → ((f : PendingFetch) → (change f).number ≡ f.number) → (number : ℕ) (order : List ℕ) (old new : List PendingFetch) →
+    order ≡ numbers old → new ≡ changed change number old → order ≡ numbers new
+order_changed change k number order old new e is = e ∙ sym (ap numbers is ∙ numbers-changed change k number old)
+
+pub order_left : (client : ℕ) (order : List ℕ) (old new : List PendingFetch) → order ≡ numbers old → new ≡ left client old → order ≡ numbers new
+order_left client order old new e is = e ∙ sym (ap numbers is ∙ numbers-left client old)
+
+pub order_opened : (number : ℕ) (order more : List ℕ) (old new : List PendingFetch) (f : PendingFetch) → order ≡ numbers old → more ≡ order ++ number ∷ [] → new ≡ old ++ f ∷ [] → f.number ≡ number → more ≡ numbers new
+order_opened number order more old new f e put is same =
+    put ∙ ap (λ l. l ++ number ∷ []) e ∙ ap (λ n. numbers old ++ n ∷ []) (sym same) ∙ sym (ap numbers is ∙ numbers-append old (f ∷ []))
+
+pub order_room : (order : List ℕ) (list : List PendingFetch) → order ≡ numbers list → nat_le 256 (length list) ≡ false → length order < 256
+order_room order list e few =
+    let under : length list < 256 = is_under (length list) 256 few in
+    omega (arith, ap length e, length-map list (λ (f : PendingFetch). f.number))
 
 pub found_view : (number last : ℕ) (slots : List Slot) (clients : List ℕ) (v : Fetches) → seen last (held slots clients) ≡ v →
     list_any (has_that_number number) slots ≡ has_number number v.list

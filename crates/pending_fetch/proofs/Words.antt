@@ -178,7 +178,7 @@ all_waiters-left client (f ∷ fs) =
     ap (λ l. without_client client f.waiters ++ l) (all_waiters-left client fs)
     ∙ sym (filter-append (λ w. not (w == client)) f.waiters (all_waiters fs))
 
-numbers-left : (client : ℕ) (list : List PendingFetch) → numbers (left client list) ≡ numbers list
+pub numbers-left : (client : ℕ) (list : List PendingFetch) → numbers (left client list) ≡ numbers list
 numbers-left client [] = refl
 numbers-left client (f ∷ fs) = ap (λ l. f.number ∷ l) (numbers-left client fs)
 

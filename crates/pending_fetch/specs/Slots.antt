@@ -1,5 +1,5 @@
 -- How the fetches are held: in slots, each with the count of its waiters, and all waiters in one list, fetch after fetch.
-use Rattle.std.specs.Prelude.{◌≡◌, ℕ, ◌+◌, ◌≤◌, Bool, List, [], ◌∷◌, ◌++◌, length, take, drop, sum_by, ◌==◌, ◌&&◌, true, false, is_none, if◌then◌else◌}
+use Rattle.std.specs.Prelude.{◌≡◌, ℕ, ◌+◌, ◌≤◌, Bool, List, [], ◌∷◌, ◌++◌, length, map, take, drop, sum_by, ◌==◌, ◌&&◌, true, false, is_none, if◌then◌else◌}
 use Rattle.std.specs.List.{list_any}
 use Rattle.std.specs.Str.{bytes_eq}
 use Rattle.pending_fetch.specs.declared.slot.Slot.{Slot}
@@ -26,6 +26,10 @@ pub record IsHeld (room : ℕ) (slots : List Slot) (clients : List ℕ) : Type 0
   pub roomy : 1024 ≤ room
   pub counted : waiting_in slots ≡ length clients
   pub legal : IsLegal (held slots clients)
+
+-- the numbers of the slots in order
+abbrev pub numbers_in : List Slot → List ℕ
+numbers_in slots = map (λ (slot : Slot). slot.number) slots
 
 -- whether a slot has this number
 abbrev pub has_that_number : ℕ → Slot → Bool

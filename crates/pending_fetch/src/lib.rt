@@ -3,7 +3,9 @@
 
 mod fault;
 mod fetch;
+mod kept;
 mod laws;
+mod order;
 mod pending;
 mod queue;
 mod slot;

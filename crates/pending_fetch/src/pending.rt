@@ -1,6 +1,6 @@
 //! All pending fetches.
 
-ghost use Rattle.std.specs.Prelude.{◌≡◌, ◌<◌, ◌≤◌, ◌↔◌, ◌&&◌, [], ◌∷◌, length, slice_get, Some, None, IfOk, IfErr, OnOk, OnErr, IsTrue, true, false, nat_le, option_map, if◌then◌else◌};
+ghost use Rattle.std.specs.Prelude.{◌≡◌, ◌<◌, ◌≤◌, ◌↔◌, ◌&&◌, [], ◌∷◌, length, Some, None, IfOk, IfErr, OnOk, OnErr, IsTrue, true, false, nat_le, option_map, if◌then◌else◌};
 ghost use Rattle.std.specs.List.{list_all, list_any};
 ghost use Rattle.pending_fetch.specs.Numbers.{IsNext};
 ghost use Rattle.pending_fetch.specs.Fetches.{changed, with_reply, with_end, with_next, numbers, starts, fetch_of, has_number, shared_number, all_waiters, waits, waiters_of, left, without, first_due, next_number, opened, fresh, owner_of};
@@ -10,12 +10,13 @@ ghost use Rattle.pending_fetch.specs.Slots.{as_fetch, slot_told};
 
 use crate::fault::{JoinFault, OpenFault};
 use crate::fetch::Fetch;
+use crate::kept::KeptRound;
+use crate::order::Order;
 use crate::queue::{copy_of_queue, dequeue, due_in, enqueue, entry_for, settle};
 use crate::slot::Slot;
 use crate::slots::{
-    advance_in, are_crowded, are_many, close_in, copies_of, copy_of_clients, expire_in,
-    free_number, has_client, join_at, leave_in, open_in, place_of, place_of_shared, reply_in,
-    waiter_in,
+    advance_in, are_crowded, are_many, close_in, copies_of, copy_of_clients, expire_in, has_client,
+    join_at, leave_in, open_in, place_of, place_of_shared, reply_in, waiters_in,
 };
 use crate::undecided::Undecided;
 use neighbours::{Moment, Table};
@@ -28,14 +29,15 @@ use std::marker::Model;
 #[derive(Drop)]
 pub struct Pending {
     last: u32,
+    order: Order,
     slots: Vec<Slot>,
     clients: Vec<u64>,
     undecided: Vec<Undecided>,
 }
 
 impl Model for Pending {
-    ghost use Rattle.std.specs.Prelude.{vec_capacity};
-    ghost use Rattle.pending_fetch.specs.Fetches.{Fetches};
+    ghost use Rattle.std.specs.Prelude.{◌≡◌, vec_capacity};
+    ghost use Rattle.pending_fetch.specs.Fetches.{Fetches, numbers};
     ghost use Rattle.pending_fetch.specs.Slots.{held, IsHeld};
     ghost use Rattle.pending_fetch.specs.Queue.{IsQueue};
 
@@ -44,7 +46,8 @@ impl Model for Pending {
     ghost view = { λ p. record { last = p.last; list = held p.slots.items p.clients.items } };
 
     ghost invariant = { λ p. IsHeld (vec_capacity p.clients) p.slots.items p.clients.items
-        × IsQueue (vec_capacity p.undecided) p.undecided.items (held p.slots.items p.clients.items) };
+        × IsQueue (vec_capacity p.undecided) p.undecided.items (held p.slots.items p.clients.items)
+        × (p.order ≡ numbers (held p.slots.items p.clients.items)) };
 }
 
 impl Pending {
@@ -54,8 +57,10 @@ impl Pending {
     {
         let clients = Vec::with_capacity(alloc, 1024)?;
         let undecided = Vec::with_capacity(alloc, 256)?;
+        let order = Order::new(alloc)?;
         Ok(Pending {
             last: 0,
+            order,
             slots: Vec::new(alloc),
             clients,
             undecided,
@@ -69,8 +74,10 @@ impl Pending {
         let clients = copy_of_clients(&self.clients, alloc)?;
         let slots = copies_of(&self.slots, alloc)?;
         let undecided = copy_of_queue(&self.undecided, alloc)?;
+        let order = self.order.copy(alloc)?;
         Ok(Pending {
             last: self.last,
+            order,
             slots,
             clients,
             undecided,
@@ -89,7 +96,7 @@ impl Pending {
     pub fn next_number(&self) -> u32
         ensures { result ≡ next_number self.now }
     {
-        free_number(&self.slots, self.last)
+        self.order.free_number(self.last)
     }
 
     /// Whether the client waits for any fetch.
@@ -150,17 +157,19 @@ impl Pending {
         ensures fault { IfErr result (λ fault. fault ≡ (if is_full self.old.list then OpenFault.Full else OpenFault.NoMemory)) }
         ensures unchanged { OnErr result (self.new ≡ self.old) }
     {
-        let _ = alloc;
         if self.is_full() {
             return Err(OpenFault::Full);
         }
         let number = self.next_number();
         let entry = entry_for(number, &round);
-        let slot = first_slot(number, key, client, shared, round);
+        let Ok(slot) = first_slot(alloc, number, key, client, shared, round) else {
+            return Err(OpenFault::NoMemory);
+        };
         if open_in(&mut self.slots, &mut self.clients, slot, client).is_err() {
             return Err(OpenFault::NoMemory);
         }
         enqueue(&mut self.undecided, entry);
+        self.order.push(number);
         self.last = number;
         Ok(number)
     }
@@ -189,18 +198,18 @@ impl Pending {
         leave_in(&mut self.slots, &mut self.clients, client);
     }
 
-    /// The i-th client that waits for the fetch of this number, in order of joining, from 0 on.
-    pub fn waiter(&self, number: u32, i: usize) -> Option<u64>
-        ensures { result ≡ slice_get (waiters_of number self.now.list) i }
+    /// The clients that wait for the fetch of this number, in order of joining.
+    pub fn waiters(&self, number: u32) -> &[u64]
+        ensures { result.now ≡ waiters_of number self.now.list }
     {
-        waiter_in(&self.slots, &self.clients, number, i)
+        waiters_in(&self.slots, &self.order, &self.clients, number)
     }
 
     /// Removes the fetch of this number with its waiters.
     pub fn close(&mut self, number: u32)
         ensures { self.new ≡ record self.old { list = without number self.old.list } }
     {
-        close_in(&mut self.slots, &mut self.clients, number);
+        close_in(&mut self.slots, &mut self.order, &mut self.clients, number);
         dequeue(&mut self.undecided, number);
     }
 
@@ -215,7 +224,7 @@ impl Pending {
     pub fn fetch(&self, number: u32) -> Option<Fetch<'_>>
         ensures { option_map shown result ≡ option_map told (fetch_of number self.now.list) }
     {
-        let Some(place) = place_of(&self.slots, number) else {
+        let Some(place) = place_of(&self.slots, &self.order, number) else {
             return None;
         };
         Some(lent(&self.slots[place]))
@@ -231,7 +240,7 @@ impl Pending {
     {
         matching_law();
         unchanged_law();
-        let decided = reply_in(&mut self.slots, number, table, n, kind, s);
+        let decided = reply_in(&mut self.slots, &self.order, number, table, n, kind, s);
         settle(&mut self.undecided, number, decided);
         decided.is_some()
     }
@@ -243,7 +252,7 @@ impl Pending {
     {
         matching_law();
         unchanged_law();
-        let found = expire_in(&mut self.slots, number);
+        let found = expire_in(&mut self.slots, &self.order, number);
         settle(&mut self.undecided, number, decided_where(found));
         found
     }
@@ -253,7 +262,7 @@ impl Pending {
         ensures list { self.new ≡ record self.old { list = changed with_next number self.old.list } }
         ensures found { result ≡ may_advance (fetch_of number self.old.list) }
     {
-        advance_in(&mut self.slots, number)
+        advance_in(&mut self.slots, &self.order, number)
     }
 }
 
@@ -264,18 +273,26 @@ fn decided_where(found: bool) -> Option<bool>
     if found { Some(true) } else { None }
 }
 
-fn first_slot(number: u32, key: CacheKey, client: u64, shared: bool, round: Round) -> Slot
-    ensures fetch { as_fetch result (client ∷ []) ≡ fresh number key client shared round }
-    ensures one { result.waiting ≡ 1 }
+fn first_slot(
+    alloc: Global,
+    number: u32,
+    key: CacheKey,
+    client: u64,
+    shared: bool,
+    round: Round,
+) -> Result<Slot, AllocError>
+    ensures fetch { IfOk result (λ slot. as_fetch slot (client ∷ []) ≡ fresh number key client shared round) }
+    ensures one { IfOk result (λ slot. slot.waiting ≡ 1) }
 {
-    Slot {
+    let round = KeptRound::new(alloc, round)?;
+    Ok(Slot {
         number,
         key,
         owner: owner_for(client, shared),
         attempt: 0,
         round,
         waiting: 1,
-    }
+    })
 }
 
 fn owner_for(client: u64, shared: bool) -> Option<u64>
@@ -295,7 +312,7 @@ fn lent(slot: &Slot) -> Fetch<'_>
         shared: slot.owner.is_none(),
         owner: slot.owner,
         attempt: slot.attempt,
-        round: &slot.round,
+        round: slot.round.get(),
     }
 }
 

@@ -2,9 +2,9 @@
 
 ghost use Rattle.std.specs.Prelude.{◌≡◌, IfOk};
 
+use crate::kept::KeptRound;
 use object_store::CacheKey;
-use peer_select::Round;
-use std::alloc::AllocError;
+use std::alloc::{AllocError, Global};
 
 /// A pending fetch, with the count of the clients that wait for it.
 #[derive(Drop)]
@@ -13,22 +13,23 @@ pub struct Slot {
     pub key: CacheKey,
     pub owner: Option<u64>,
     pub attempt: u16,
-    pub round: Round,
+    pub round: KeptRound,
     pub waiting: usize,
 }
 
 impl Slot {
-    /// The same, as one more owner of its key. It requests no memory, and is refused only where there are too many owners.
-    pub fn copy(&self) -> Result<Slot, AllocError>
+    /// The same, as one more owner of its key, with a round of its own.
+    pub fn copy(&self, alloc: Global) -> Result<Slot, AllocError>
         ensures { IfOk result (λ slot. slot ≡ self.now) }
     {
         let key = self.key.share()?;
+        let round = self.round.copy(alloc)?;
         Ok(Slot {
             number: self.number,
             key,
             owner: self.owner,
             attempt: self.attempt,
-            round: self.round.copy(),
+            round,
             waiting: self.waiting,
         })
     }

@@ -1,15 +1,15 @@
 //! Slots, and the clients of all slots in one list: what is read off them and what is done to them.
 
-ghost use Rattle.std.specs.Prelude.{◌≡◌, ◌+◌, ◌%◌, ◌^◌, ◌<◌, ◌≤◌, ◌==◌, ◌&&◌, ◌++◌, ◌∷◌, [], ℕ, List, nat_eq, is_some, length, map, filter, not, position, option_map, slice_get, sum_by, take, drop, Some, OnOk, OnErr, IfOk, true, vec_capacity, slice_index_or, nat_le, nat_lt, if◌then◌else◌};
+ghost use Rattle.std.specs.Prelude.{◌≡◌, ◌+◌, ◌%◌, ◌^◌, ◌<◌, ◌≤◌, ◌==◌, ◌&&◌, ◌++◌, ◌∷◌, [], ℕ, List, nat_eq, is_some, length, map, filter, not, position, option_map, sum_by, take, drop, Some, OnOk, OnErr, IfOk, true, vec_capacity, slice_index_or, nat_le, nat_lt, if◌then◌else◌};
 ghost use Rattle.std.specs.List.{list_any, IsDistinct};
 ghost use Rattle.std.specs.Str.{bytes_eq};
 ghost use Rattle.peer_select.specs.Poll.{decided, replied, ended, matches};
 ghost use Rattle.pending_fetch.specs.declared.slot.Slot.{Slot};
-ghost use Rattle.pending_fetch.specs.Numbers.{is_taken, next_of, nth_after};
 ghost use Rattle.pending_fetch.specs.Fetches.{PendingFetch, without_client, numbers, has_number, waiters_of, fetch_of, changed, with_waiter, with_reply, with_end, with_next, left, without};
 ghost use Rattle.pending_fetch.specs.Calls.{may_advance};
-ghost use Rattle.pending_fetch.specs.Slots.{held, waiting_in, as_fetch, has_that_number, slot_shares, slot_advanced, recounted};
+ghost use Rattle.pending_fetch.specs.Slots.{held, numbers_in, waiting_in, as_fetch, has_that_number, slot_shares, slot_advanced, recounted};
 
+use crate::order::Order;
 use crate::slot::Slot;
 use neighbours::Table;
 use peer_select::Kind;
@@ -21,7 +21,7 @@ pub fn copies_of(slots: &[Slot], alloc: Global) -> Result<Vec<Slot>, AllocError>
 {
     let mut copies = Vec::with_capacity(alloc, slots.len())?;
     for slot in slots {
-        copies.push(slot.copy()?)?;
+        copies.push(slot.copy(alloc)?)?;
     }
     Ok(copies)
 }
@@ -37,10 +37,12 @@ pub fn copy_of_clients(clients: &[u64], alloc: Global) -> Result<Vec<u64>, Alloc
 }
 
 /// The place of the fetch of this number.
-pub fn place_of(slots: &[Slot], number: u32) -> Option<usize>
+pub fn place_of(slots: &[Slot], order: &Order, number: u32) -> Option<usize>
+    requires { order.now ≡ numbers_in slots.now }
     ensures { result ≡ position (has_that_number number) slots.now }
 {
-    slots.iter().position(|slot| slot.number == number)
+    let _ = slots;
+    order.place_of(number)
 }
 
 /// The place of the shared fetch of this key.
@@ -64,44 +66,18 @@ pub fn waiting_for(slots: &[Slot]) -> usize
     slots.iter().map(|slot| slot.waiting).sum()
 }
 
-/// The first number after the last one that no fetch has, round from the greatest to 1.
-pub fn free_number(slots: &[Slot], last: u32) -> u32
-    ensures { result ≡ next_of (map (λ (slot : Slot). slot.number) slots.now) last }
-{
-    let mut n = after(last);
-    for tried in 0..slots.len() {
-        if !has_number(slots, n) {
-            return n;
-        }
-        n = after(n);
-    }
-    n
-}
-
-fn after(n: u32) -> u32
-    ensures { result ≡ n % 4294967295 + 1 }
-{
-    if n == 4_294_967_295 { 1 } else { n + 1 }
-}
-
-fn has_number(slots: &[Slot], n: u32) -> bool
-    ensures { result ≡ is_taken (map (λ (slot : Slot). slot.number) slots.now) n }
-{
-    slots.iter().map(|slot| slot.number).any(|m| n == m)
-}
-
-/// The i-th client of the fetch of this number.
-pub fn waiter_in(slots: &[Slot], clients: &[u64], number: u32, i: usize) -> Option<u64>
+/// The clients of the fetch of this number.
+pub fn waiters_in<'a>(slots: &[Slot], order: &Order, clients: &'a [u64], number: u32) -> &'a [u64]
+    requires order { order.now ≡ numbers_in slots.now }
     requires counted { waiting_in slots.now ≡ length clients.now }
     requires few { length clients.now ≤ 1024 }
-    ensures { result ≡ slice_get (waiters_of number (held slots.now clients.now)) i }
+    ensures { result.now ≡ waiters_of number (held slots.now clients.now) }
 {
-    let Some(place) = place_of(slots, number) else {
-        return None;
+    let Some(place) = place_of(slots, order, number) else {
+        return run_of(clients, 0, 0);
     };
     let first = waiting_for(&slots[..place]);
-    let own = run_of(clients, first, slots[place].waiting);
-    client_at(own, i)
+    run_of(clients, first, slots[place].waiting)
 }
 
 fn run_of(clients: &[u64], first: usize, count: usize) -> &[u64]
@@ -109,12 +85,6 @@ fn run_of(clients: &[u64], first: usize, count: usize) -> &[u64]
     ensures { result.now ≡ take count (drop first clients.now) }
 {
     &clients[first..first + count]
-}
-
-fn client_at(clients: &[u64], i: usize) -> Option<u64>
-    ensures { result ≡ slice_get clients.now i }
-{
-    clients.get(i).copied()
 }
 
 /// Whether the client is one of these.
@@ -200,19 +170,22 @@ fn remove_client(clients: &mut Vec<u64>, client: u64)
 }
 
 /// The fetch of this number is gone, with its clients. No other fetch has its number.
-pub fn close_in(slots: &mut Vec<Slot>, clients: &mut Vec<u64>, number: u32)
+pub fn close_in(slots: &mut Vec<Slot>, order: &mut Order, clients: &mut Vec<u64>, number: u32)
+    requires order { order.old ≡ numbers_in slots.old.items }
     requires counted { waiting_in slots.old.items ≡ length clients.old.items }
     requires few { length clients.old.items ≤ 1024 }
     requires apart { IsDistinct nat_eq (numbers (held slots.old.items clients.old.items)) }
     ensures counted { waiting_in slots.new.items ≡ length clients.new.items }
     ensures room { vec_capacity clients.new ≡ vec_capacity clients.old }
     ensures list { held slots.new.items clients.new.items ≡ without number (held slots.old.items clients.old.items) }
+    ensures order { order.new ≡ numbers_in slots.new.items }
 {
-    let Some(place) = place_of(slots, number) else {
+    let Some(place) = place_of(slots, order, number) else {
         return;
     };
     let first = waiting_for(&slots[..place]);
     let slot = slots.remove(place);
+    order.remove(place);
     remove_run(clients, first, slot.waiting);
 }
 
@@ -230,12 +203,14 @@ fn remove_run(clients: &mut Vec<u64>, first: usize, count: usize)
 /// there is no such fetch.
 pub fn reply_in(
     slots: &mut Vec<Slot>,
+    order: &Order,
     number: u32,
     table: &Table,
     n: usize,
     kind: Kind,
     s: u32,
 ) -> Option<bool>
+    requires order { order.now ≡ numbers_in slots.old.items }
     requires place { n < length table.now.neighbours }
     requires table { (i : ℕ) (d : Slot) → position (has_that_number number) slots.old.items ≡ Some i → matches table.now.neighbours (slice_index_or slots.old.items i d).round.peers ≡ true }
     ensures counted { waiting_in slots.new.items ≡ waiting_in slots.old.items }
@@ -245,7 +220,7 @@ pub fn reply_in(
     ensures decided { (clients : List ℕ) → waiting_in slots.old.items ≡ length clients →
         result ≡ option_map (λ (fetch : PendingFetch). decided (with_reply (record { s = s; n = n; kind = kind }) fetch).round) (fetch_of number (held slots.old.items clients)) }
 {
-    let Some(place) = place_of(slots, number) else {
+    let Some(place) = place_of(slots, order, number) else {
         return None;
     };
     let decided = reply_to(&mut slots[place], table, n, kind, s);
@@ -263,13 +238,14 @@ fn reply_to(slot: &mut Slot, table: &Table, n: usize, kind: Kind, s: u32) -> boo
 }
 
 /// The time of the round of the fetch of this number is up. Whether there is one.
-pub fn expire_in(slots: &mut Vec<Slot>, number: u32) -> bool
+pub fn expire_in(slots: &mut Vec<Slot>, order: &Order, number: u32) -> bool
+    requires order { order.now ≡ numbers_in slots.old.items }
     ensures counted { waiting_in slots.new.items ≡ waiting_in slots.old.items }
     ensures list { (clients : List ℕ) → waiting_in slots.old.items ≡ length clients →
         held slots.new.items clients ≡ changed with_end number (held slots.old.items clients) }
     ensures found { result ≡ list_any (has_that_number number) slots.old.items }
 {
-    let Some(place) = place_of(slots, number) else {
+    let Some(place) = place_of(slots, order, number) else {
         return false;
     };
     expire(&mut slots[place]);
@@ -283,13 +259,14 @@ fn expire(slot: &mut Slot)
 }
 
 /// The fetch of this number goes on to its next attempt. Whether there is one and it could.
-pub fn advance_in(slots: &mut Vec<Slot>, number: u32) -> bool
+pub fn advance_in(slots: &mut Vec<Slot>, order: &Order, number: u32) -> bool
+    requires order { order.now ≡ numbers_in slots.old.items }
     ensures counted { waiting_in slots.new.items ≡ waiting_in slots.old.items }
     ensures list { (clients : List ℕ) → waiting_in slots.old.items ≡ length clients →
         held slots.new.items clients ≡ changed with_next number (held slots.old.items clients) }
     ensures found { (clients : List ℕ) → waiting_in slots.old.items ≡ length clients → result ≡ may_advance (fetch_of number (held slots.old.items clients)) }
 {
-    let Some(place) = place_of(slots, number) else {
+    let Some(place) = place_of(slots, order, number) else {
         return false;
     };
     advance(&mut slots[place])

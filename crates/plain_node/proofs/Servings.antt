@@ -1,5 +1,5 @@
 -- What is told to all that wait, one after the other.
-use Rattle.std.proofs.Common.{◌≡◌, ℕ, ◌+◌, ◌≤◌, List, [], ◌∷◌, ◌++◌, length, Some, None, get_or, map, take, inl, inr, ap, sym, ◌∙◌, arith, append_assoc}
+use Rattle.std.proofs.Common.{◌≡◌, ℕ, ◌+◌, ◌<◌, ◌≤◌, List, [], ◌∷◌, ◌++◌, length, Some, None, get_or, map, take, inl, inr, ap, sym, ◌∙◌, arith, append_assoc}
 use Rattle.std.specs.List.{slice_get}
 use Rattle.std.proofs.lemmas.List.{take_more, take_all, map-append}
 use Rattle.std.proofs.lemmas.Option.{slice_get_within, get_or_from_slice_get, slice_get_cases}
@@ -9,20 +9,11 @@ use Rattle.plain_node.specs.declared.action.Answer.{Answer}
 use Rattle.plain_node.specs.PlainNode.{serves}
 
 -- one more client is told
-pub served-more : (answer : Answer) (first out next : List Action) (waiters : List ℕ) (i client : ℕ) → out ≡ first ++ serves answer (take i waiters) → slice_get waiters i ≡ Some client → next ≡ out ++ Serve client answer ∷ [] → (next ≡ first ++ serves answer (take (i + 1) waiters)) × (i + 1 ≤ length waiters)
-served-more answer first out next waiters i client so_far here more =
-    let lt = slice_get_within waiters i client here in
-    let is : get_or waiters i 0 ≡ client = get_or_from_slice_get waiters i client 0 here in
-    let taken : take (i + 1) waiters ≡ take i waiters ++ client ∷ [] = take_more waiters i 0 lt ∙ ap (λ x. take i waiters ++ x ∷ []) is in
+pub served-more : (answer : Answer) (first out next : List Action) (waiters : List ℕ) (i d client : ℕ) → out ≡ first ++ serves answer (take i waiters) → i < length waiters → client ≡ get_or waiters i d → next ≡ out ++ Serve client answer ∷ [] → next ≡ first ++ serves answer (take (i + 1) waiters)
+served-more answer first out next waiters i d client so_far lt is more =
+    let taken : take (i + 1) waiters ≡ take i waiters ++ client ∷ [] = take_more waiters i d lt ∙ ap (λ x. take i waiters ++ x ∷ []) (sym is) in
     let served : serves answer (take (i + 1) waiters) ≡ serves answer (take i waiters) ++ Serve client answer ∷ [] = ap (serves answer) taken ∙ map-append (λ (c : ℕ). Serve c answer) (take i waiters) (client ∷ []) in
-    (more ∙ ap (λ x. x ++ Serve client answer ∷ []) so_far ∙ append_assoc first (serves answer (take i waiters)) (Serve client answer ∷ []) ∙ ap (λ x. first ++ x) (sym served), omega arith)
-
-pub served-all : (answer : Answer) (first out : List Action) (waiters : List ℕ) (i : ℕ) → out ≡ first ++ serves answer (take i waiters) → slice_get waiters i ≡ None → out ≡ first ++ serves answer waiters
-served-all answer first out waiters i so_far none =
-    elim (slice_get_cases waiters i).1 [
-      | inl w ↦ absurd (let e : None ≡ Some w.0 = sym none ∙ w.2 in cc)
-      | inr w ↦ so_far ∙ ap (λ x. first ++ serves answer x) (take_all i waiters w.0)
-    ]
+    more ∙ ap (λ x. x ++ Serve client answer ∷ []) so_far ∙ append_assoc first (serves answer (take i waiters)) (Serve client answer ∷ []) ∙ ap (λ x. first ++ x) (sym served)
 
 -- one more of a list is mapped
 pub mapped-more : {A B : Type 0} (f : A → B) (out next : List B) (xs : List A) (i : ℕ) (x : A) → out ≡ map f (take i xs) → slice_get xs i ≡ Some x → next ≡ out ++ f x ∷ [] → (next ≡ map f (take (i + 1) xs)) × (i + 1 ≤ length xs)

@@ -134,7 +134,7 @@ impl Core {
         ensures err { OnErr result (out.new ≡ []) }
         ensures silent { is_nobody (waiters_of number self.now.fetches.list) ≡ true → IsOk result }
     {
-        serve_object(&self.pending, number, object, out)
+        serve_object(self.pending.waiters(number), object, out)
     }
 
     /// Moves the clock, and stores the object of a fetch, if it may be.

@@ -58,7 +58,7 @@ impl Core {
         requires { length out.old + length (waiters_of number self.now.fetches.list) ≤ 1344 }
         ensures { out.new ≡ out.old ++ serves (Fail status) (waiters_of number self.now.fetches.list) }
     {
-        serve_fail(&self.pending, number, status, out);
+        serve_fail(self.pending.waiters(number), status, out);
     }
 
     /// Whether the round of the fetch of this number is decided.

@@ -59,7 +59,7 @@ fn start_by(slots: &[Slot], start: Moment) -> bool
 {
     slots
         .iter()
-        .all(|slot| slot.round.began().millis() <= start.millis())
+        .all(|slot| slot.round.get().began().millis() <= start.millis())
 }
 
 // Opens a private fetch, where the client waits for none and its round starts late enough.
@@ -90,12 +90,17 @@ fn joining(rt: HostRuntime) -> Result<(), AllocError> {
             "{client}"
         );
     }
-    let waiters = [(0, Some(1)), (1, Some(2)), (1023, Some(1024)), (1024, None)];
+    let waiters = [
+        (0, Some(&1)),
+        (1, Some(&2)),
+        (1023, Some(&1024)),
+        (1024, None),
+    ];
     for (i, client) in waiters {
-        assert!(rt; pending.waiter(1, i) == client, "{i}");
+        assert!(rt; pending.waiters(1).get(i) == client, "{i}");
     }
     pending.leave(2);
-    assert!(rt; !pending.waits(2) && pending.waiter(1, 1) == Some(3));
+    assert!(rt; !pending.waits(2) && pending.waiters(1).get(1) == Some(&3));
     pending.close(1);
     assert!(rt; !pending.waits(1) && pending.join(&key, 7).is_none());
     assert!(rt; pending.next_number() == 2);
@@ -132,7 +137,7 @@ fn copied(rt: HostRuntime) -> Result<(), AllocError> {
     assert!(rt; matches!(pending.join(&key, 2), Some(Ok(()))));
     let mut copy = pending.copy(rt.alloc())?;
     pending.close(1);
-    assert!(rt; pending.fetch(1).is_none() && copy.waiter(1, 1) == Some(2));
+    assert!(rt; pending.fetch(1).is_none() && copy.waiters(1).get(1) == Some(&2));
     assert!(rt; matches!(copy.join(&key, 3), Some(Ok(()))) && !pending.waits(3));
     assert!(rt; copy.next_number() == 2 && copy.expire(1));
     Ok(())

@@ -1,8 +1,8 @@
-use Rattle.std.proofs.Common.{take, None, Some, ap, sym, ◌∙◌}
+use Rattle.std.proofs.Common.{◌+◌, ◌++◌, drop, take, None, Some, ap, sym, ◌∙◌}
 use Rattle.pending_fetch.specs.declared.slot.Slot.{Slot}
-use Rattle.pending_fetch.specs.Slots.{held, waiting_in, has_that_number}
+use Rattle.pending_fetch.specs.Slots.{held, numbers_in, waiting_in, has_that_number}
 use Rattle.pending_fetch.proofs.Words.{without-none}
-use Rattle.pending_fetch.proofs.Held.{absent_in, none_at, shift, run_fits, close_all}
+use Rattle.pending_fetch.proofs.Held.{absent_in, none_at, shift, run_fits, close_all, numbers-cut}
 use Rattle.pending_fetch.proofs.slots.close_in.Goals as goal
 
 pub returns-in_default-clause-list : goal.returns-in_default-clause-list
@@ -33,3 +33,8 @@ returns-clause-list c =
     (shift (has_that_number c.args.number) c.deref.result.now c.args.slots.now.items c.place_of.result (Some c.in-Some.place) c.place_of.ensures c.deref.ensures.value c.in-Some.is)
     c.requires.counted c.requires.apart (c.waiting_for-first.ensures ∙ ap (λ l. waiting_in (take c.in-Some.place l)) c.deref-2.ensures.value) (ap (λ (s : Slot). s.waiting) c.remove-slot.ensures.value)
     c.remove-slot.ensures.by_index.2 c.remove_run.ensures.items).0
+
+pub returns-clause-order : goal.returns-clause-order
+returns-clause-order c =
+    c.remove.ensures ∙ ap (λ l. take c.in-Some.place l ++ drop (c.in-Some.place + 1) l) c.requires.order
+    ∙ sym (ap numbers_in c.remove-slot.ensures.by_index.2 ∙ numbers-cut c.in-Some.place (c.in-Some.place + 1) c.args.slots.now.items)

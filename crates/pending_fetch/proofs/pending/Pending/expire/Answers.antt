@@ -6,6 +6,7 @@ use Rattle.pending_fetch.proofs.Keeping.{Keeps-end}
 use Rattle.pending_fetch.proofs.Views.{put_view, held_changed, found_view}
 use Rattle.pending_fetch.proofs.Held.{any_held}
 use Rattle.pending_fetch.proofs.Queues.{queue_after, ended_found}
+use Rattle.pending_fetch.proofs.Views.{order_changed, order_in}
 use Rattle.pending_fetch.proofs.pending.Pending.expire.Goals as goal
 
 pub invariant_of-self : goal.invariant_of-self
@@ -18,6 +19,7 @@ invariant_of-self c = (
       c.self.invariant.0.legal.numbered c.self.invariant.1 c.settle.ensures.room (c.expire_in-found.ensures.list c.self.inside.clients.items c.self.invariant.0.counted)
       (c.decided_where.ensures ∙ ap (λ b. if b then Some true else None) (c.expire_in-found.ensures.found ∙ sym (any_held (λ (f : PendingFetch). f.number == c.args.number) (has_that_number c.args.number) (λ s w. refl) c.self.inside.slots.items c.self.inside.clients.items)) ∙ ended_found c.unchanged_law.ensures.expired c.args.number (held c.self.inside.slots.items c.self.inside.clients.items))
       c.settle.ensures.items,
+  order_changed with_end (λ f. refl) c.args.number c.self.inside.order (held c.self.inside.slots.items c.self.inside.clients.items) (held c.expire_in-found.new.slots.items c.self.inside.clients.items) c.self.invariant.2 (c.expire_in-found.ensures.list c.self.inside.clients.items c.self.invariant.0.counted),
 )
 
 pub returns-clause-list : goal.returns-clause-list
@@ -28,3 +30,6 @@ returns-clause-list c =
 pub returns-clause-found : goal.returns-clause-found
 returns-clause-found c =
     c.expire_in-found.ensures.found ∙ found_view c.args.number c.self.inside.last c.self.inside.slots.items c.self.inside.clients.items c.args.self.now c.self.view_is
+
+pub expire_in-found-requires : goal.expire_in-found-requires
+expire_in-found-requires c = record { order = order_in c.self.inside.order c.self.inside.slots.items c.self.inside.clients.items c.self.invariant.2 }

@@ -5,6 +5,7 @@ use Rattle.pending_fetch.proofs.Views.{shifted, shared_some, shared_none, may_jo
 use Rattle.pending_fetch.specs.Fetches.{with_waiter}
 use Rattle.pending_fetch.specs.Queue.{queue_of}
 use Rattle.pending_fetch.proofs.Queues.{queue_kept, queue-same}
+use Rattle.pending_fetch.proofs.Views.{order_changed}
 use Rattle.pending_fetch.proofs.pending.Pending.join.Goals as goal
 
 pub returns-in_default-clause-answer : goal.returns-in_default-clause-answer
@@ -46,6 +47,7 @@ invariant_of-self c =
           (sym c.join_fault.ensures ∙ c.in_default-join_fault.is) (c.join_at.ensures.list at.0 at.2),
       queue_kept (vec_capacity c.self.inside.undecided) (held c.self.inside.slots.items c.self.inside.clients.items) (held c.join_at.new.slots.items c.join_at.new.clients.items) c.self.inside.undecided.items c.self.invariant.1
           (ap queue_of (c.join_at.ensures.list at.0 at.2) ∙ queue-same (with_waiter c.args.client) (λ f. refl) (λ f. refl) at.0 (held c.self.inside.slots.items c.self.inside.clients.items)),
+      order_changed (with_waiter c.args.client) (λ f. refl) at.0 c.self.inside.order (held c.self.inside.slots.items c.self.inside.clients.items) (held c.join_at.new.slots.items c.join_at.new.clients.items) c.self.invariant.2 (c.join_at.ensures.list at.0 at.2),
     )
 
 pub returns-clause-answer : goal.returns-clause-answer

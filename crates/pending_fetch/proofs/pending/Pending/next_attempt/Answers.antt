@@ -7,6 +7,7 @@ use Rattle.pending_fetch.proofs.Keeping.{Keeps-next, next_number, next_round}
 use Rattle.pending_fetch.proofs.Views.{put_view, held_changed}
 use Rattle.pending_fetch.specs.Queue.{queue_of}
 use Rattle.pending_fetch.proofs.Queues.{queue_kept, queue-same}
+use Rattle.pending_fetch.proofs.Views.{order_changed, order_in}
 use Rattle.pending_fetch.proofs.pending.Pending.next_attempt.Goals as goal
 
 pub invariant_of-self : goal.invariant_of-self
@@ -15,6 +16,7 @@ invariant_of-self c = (
       Keeps-next c.self.invariant.0 c.advance_in.ensures.counted c.advance_in.ensures.list,
   queue_kept (vec_capacity c.self.inside.undecided) (held c.self.inside.slots.items c.self.inside.clients.items) (held c.advance_in.new.slots.items c.self.inside.clients.items) c.self.inside.undecided.items c.self.invariant.1
       (ap queue_of (c.advance_in.ensures.list c.self.inside.clients.items c.self.invariant.0.counted) ∙ queue-same with_next next_number next_round c.args.number (held c.self.inside.slots.items c.self.inside.clients.items)),
+  order_changed with_next next_number c.args.number c.self.inside.order (held c.self.inside.slots.items c.self.inside.clients.items) (held c.advance_in.new.slots.items c.self.inside.clients.items) c.self.invariant.2 (c.advance_in.ensures.list c.self.inside.clients.items c.self.invariant.0.counted),
 )
 
 pub returns-clause-list : goal.returns-clause-list
@@ -25,3 +27,6 @@ returns-clause-list c =
 pub returns-clause-found : goal.returns-clause-found
 returns-clause-found c =
     c.advance_in.ensures.found c.self.inside.clients.items c.self.invariant.0.counted ∙ ap (λ (v : Fetches). may_advance (fetch_of c.args.number v.list)) c.self.view_is
+
+pub advance_in-requires : goal.advance_in-requires
+advance_in-requires c = record { order = order_in c.self.inside.order c.self.inside.slots.items c.self.inside.clients.items c.self.invariant.2 }

@@ -1,0 +1,9 @@
+use Rattle.std.proofs.Common.{◌≡◌, true, arith, ◌∙◌}
+use Rattle.pending_fetch.specs.Numbers.{is_climbing}
+use Rattle.pending_fetch.proofs.Rising.{found_by_halves}
+use Rattle.pending_fetch.proofs.order.place_in_rising.Goals as goal
+
+pub returns : goal.returns
+returns c =
+    let climbs : is_climbing c.args.list.now ≡ true = grind arith in
+    c.ok.ensures.value ∙ found_by_halves c.args.list.now c.args.number c.binary_search.result c.binary_search.ensures.position climbs
