@@ -5,7 +5,6 @@ use Rattle.bpf_check.specs.declared.insn.Insn.{Insn}
 use Rattle.bpf_check.specs.declared.operation.Operation.{Operation}
 use Rattle.bpf_check.specs.declared.operation.Operation.TheVariants.{Jump, Branch}
 use Rattle.bpf_asm.specs.declared.fault.AsmFault.{AsmFault}
-use Rattle.bpf_asm.specs.declared.fault.AsmFault.TheVariants as faults
 use Rattle.bpf_asm.specs.Assembly.{IsBranch}
 use Rattle.bpf_asm.specs.Drafts.{Draft, Resolves, IsResolved, labels_kept, FineLabel, WrongLabel, Unresolved}
 

@@ -1,8 +1,6 @@
 -- The tokens of an instruction's text.
-use Rattle.std.proofs.Common.{◌≡◌, ℕ, ◌+◌, ◌^◌, ◌<◌, List, [], ◌∷◌, ◌++◌, Bool, true, false, cond, nat_eq, None, decimal, refl, ap, sym, ◌∙◌, arith, append_assoc}
-use Rattle.std.proofs.lemmas.List.{append-nil}
+use Rattle.std.proofs.Common.{◌≡◌, ℕ, ◌+◌, ◌^◌, ◌<◌, List, [], ◌∷◌, ◌++◌, Bool, true, false, None, decimal, refl, ap, ◌∙◌, arith, append_assoc}
 use Rattle.std.specs.Prelude.{codes}
-use Rattle.std.specs.List.{list_all}
 use Rattle.bpf_check.specs.declared.insn.Insn.{Insn}
 use Rattle.bpf_check.specs.declared.operation.Width.TheVariants.{Word, Half, Byte}
 use Rattle.bpf_check.specs.declared.operation.Operand.TheVariants.{Constant, Index}
@@ -11,7 +9,7 @@ use Rattle.bpf_check.specs.declared.operation.Comparison.TheVariants.{Equal, AtL
 use Rattle.bpf_check.specs.declared.operation.Operation.{Operation}
 use Rattle.bpf_check.specs.declared.operation.Operation.TheVariants.{LoadAbsolute, LoadIndirect, LoadConstant, LoadScratch, LoadLength, IndexConstant, IndexScratch, IndexLength, IndexHeader, StoreAccumulator, StoreIndex, Compute, Negate, Jump, Branch, ReturnConstant, ReturnAccumulator, ToIndex, ToAccumulator}
 use Rattle.bpf_asm.specs.Form.{mnemonic, pieces}
-use Rattle.bpf_asm.specs.Token.{is_word_octet, ended, mark, tokens_after, tokens}
+use Rattle.bpf_asm.specs.Token.{ended, tokens_after, tokens}
 use Rattle.bpf_asm.specs.Spelling.{kinds, spelled_with, AreOpen}
 use Rattle.bpf_asm.specs.Text.{label_text, targets_by, operands_text, mark_text}
 use Rattle.bpf_asm.specs.Assembly.{label_of, body_of}

@@ -3,7 +3,7 @@ use Rattle.std.proofs.lemmas.Option.{slice_get_within}
 use Rattle.std.proofs.lemmas.Result.{err_from_is_err_and}
 use Rattle.bpf_check.specs.Accepted.{most_insns}
 use Rattle.bpf_asm.specs.Token.{tokens}
-use Rattle.bpf_asm.specs.Assembly.{token_lines, label_of, body_of, place_of}
+use Rattle.bpf_asm.specs.Assembly.{token_lines, label_of, place_of}
 use Rattle.bpf_asm.specs.Labels.{named, named_by, LabelKept}
 use Rattle.bpf_asm.specs.Drafts.{Counted, CountRefused, IsTable, NoneBefore}
 use Rattle.bpf_asm.proofs.Places.{left_more, line_at, all_read}

@@ -1,4 +1,4 @@
-use Rattle.std.proofs.Common.{◌≡◌, true, refl, sym, ap, ◌∷◌}
+use Rattle.std.proofs.Common.{◌≡◌, true, refl, sym, ◌∷◌}
 use Rattle.bpf_check.specs.Operation.{table}
 use Rattle.bpf_asm.specs.Shown.{shown_words, shown_row}
 use Rattle.bpf_asm.specs.Token.{tokens}

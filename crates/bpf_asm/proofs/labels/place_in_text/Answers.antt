@@ -1,5 +1,4 @@
-use Rattle.std.proofs.Common.{◌≡◌, ◌+◌, ◌-◌, ℕ, List, [], ◌∷◌, map, refl, ap, sym, ◌∙◌, arith}
-use Rattle.std.specs.Str.Lines.{lines}
+use Rattle.std.proofs.Common.{◌≡◌, ◌+◌, ◌-◌, ℕ, List, map, refl, ap, sym, ◌∙◌, arith}
 use Rattle.bpf_asm.specs.Token.{tokens}
 use Rattle.bpf_asm.specs.Assembly.{token_lines}
 use Rattle.bpf_asm.specs.Labels.{found_from, behind}

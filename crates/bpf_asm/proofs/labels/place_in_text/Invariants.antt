@@ -1,4 +1,4 @@
-use Rattle.std.proofs.Common.{◌≡◌, ◌-◌, drop, ◌≤◌}
+use Rattle.std.proofs.Common.{◌≡◌, ◌-◌, drop}
 use Rattle.std.specs.Str.Lines.{lines}
 use Rattle.bpf_asm.specs.Assembly.{token_lines, place_of}
 use Rattle.bpf_asm.specs.Labels.{found_from, found_in}
