@@ -1,10 +1,11 @@
 //! What lies behind the lock of a desk: a book whose count is the total of a ledger of shares.
-ghost use Rattle.std.specs.Prelude.{◌≡◌, ◌≤◌, [], ◌∷◌, IfOk, OnOk, OnErr, IsErrOf, ◌↔◌, ℕ, Some, sum_by};
+ghost use Rattle.std.specs.Prelude.{◌≡◌, ◌<◌, ◌≤◌, ◌+◌, [], ◌∷◌, length, Ok, Err, IfOk, OnOk, OnErr, IsErrOf, ◌↔◌, ℕ, Some, sum_by};
 ghost use Rattle.std.specs.Arc.{arc_value};
-ghost use Rattle.node_core.specs.Happening.{happening};
+ghost use Rattle.node_core.specs.Happening.{arrives, happening};
 ghost use Rattle.node_core.specs.State.{HasTaken};
 ghost use Rattle.plain_node.specs.Tally.{tally_of};
 ghost use Rattle.node_book.specs.Book.{IsLegal, count_of, ready, written};
+ghost use Rattle.node_book.specs.Claims.{claim_of};
 ghost use Rattle.node_book.specs.Seats.{AreAllOpened, claim, credited};
 ghost use Rattle.node_book.specs.Good.{AreAllGood, IsLeastOf, IsMisfit, kept_from};
 
@@ -12,6 +13,7 @@ use crate::NoMemory;
 use crate::booked::{Booked, Receipt, TakeFault, Volume};
 use crate::seat::Seat;
 use crate::settle::{Report, SettleFault, all_opened, gather, how_many_from, least_misfit};
+use filter_slots::{Judged, Moment};
 use node_core::{Event, Out};
 use std::alloc::Global;
 use std::marker::Model;
@@ -140,6 +142,56 @@ impl<L: Ledger> Ledgered<L> {
         ensures refused { OnErr result ((seat.new ≡ seat.old) × (out.new ≡ [])) }
         ensures seats { self.new.seats ≡ self.old.seats }
     {
+        self.admit(alloc, seat, spent)?;
+        let taken = self.booked.take(alloc, event, out);
+        credit(&mut self.total, seat, taken, spent)
+    }
+
+    /// Takes a datagram that is judged already, as `submit` takes the event that it arrives now. Its verdict counts where its
+    /// program is equal to the one in force, or both have none; otherwise it is judged here.
+    pub fn submit_judged(
+        &mut self,
+        alloc: Global,
+        seat: &mut Seat<L>,
+        judged: &Judged,
+        now: Moment,
+        out: &mut Out,
+        spent: &mut Spent,
+    ) -> Result<u64, SubmitFault>
+        requires { out.old ≡ [] }
+        ensures taken { OnOk result (HasTaken self.old.book.present self.new.book.present (arrives judged.now.datagram now ∷ []) (out.new ∷ [])) }
+        ensures book { OnOk result (self.new.book ≡ written (ready self.old.book) (arrives judged.now.datagram now) (tally_of out.new) self.new.book.present) }
+        ensures number { IfOk result (λ n. n ≡ count_of self.old.book) }
+        ensures seat { OnOk result (seat.new ≡ credited seat.old (claim (count_of self.old.book) (arrives judged.now.datagram now) (tally_of out.new))) }
+        ensures seen { OnOk result (seat.old.share ≤ count_of self.old.book) }
+        ensures ended { IsErrOf result SubmitFault.Ended ↔ (count_of self.old.book ≡ 18446744073709551615) }
+        ensures same { IsErrOf result SubmitFault.Ended → self.new ≡ self.old }
+        ensures unmoved { IsErrOf result SubmitFault.NoMemory → self.new.book ≡ ready self.old.book }
+        ensures refused { OnErr result ((seat.new ≡ seat.old) × (out.new ≡ [])) }
+        ensures seats { self.new.seats ≡ self.old.seats }
+    {
+        self.admit(alloc, seat, spent)?;
+        let taken = self.booked.take_judged(alloc, judged, now, out);
+        credit(&mut self.total, seat, taken, spent)
+    }
+
+    /// Sees that there is a number and room for one more event: a full volume is turned.
+    fn admit(
+        &mut self,
+        alloc: Global,
+        seat: &mut Seat<L>,
+        spent: &mut Spent,
+    ) -> Result<(), SubmitFault>
+        ensures book { OnOk result (self.new.book ≡ ready self.old.book) }
+        ensures room { OnOk result ((length self.new.book.entries < self.new.book.volume) × (count_of self.old.book < 18446744073709551615)) }
+        ensures count { OnOk result (count_of self.new.book ≡ count_of self.old.book) }
+        ensures seen { OnOk result (seat.old.share ≤ count_of self.old.book) }
+        ensures ended { IsErrOf result SubmitFault.Ended ↔ (count_of self.old.book ≡ 18446744073709551615) }
+        ensures has_memory { IsErrOf result SubmitFault.NoMemory → ⊥ }
+        ensures refused { OnErr result (self.new ≡ self.old) }
+        ensures seat { seat.new ≡ seat.old }
+        ensures seats { self.new.seats ≡ self.old.seats }
+    {
         if self.booked.count() == u64::MAX {
             return Err(SubmitFault::Ended);
         }
@@ -147,12 +199,7 @@ impl<L: Ledger> Ledgered<L> {
         if self.booked.is_full() {
             spent.volume = Some(self.booked.turn(alloc));
         }
-        let Ok(receipt) = self.booked.take(alloc, event, out) else {
-            return Err(SubmitFault::NoMemory);
-        };
-        let number = receipt.number;
-        spent.receipt = seat.credit(&mut self.total, receipt);
-        Ok(number)
+        Ok(())
     }
 
     /// Compares the receipts of the seats with the book, and joins their shares. Errors: not exactly the seats that were
@@ -188,4 +235,22 @@ impl<L: Ledger> Ledgered<L> {
             matched,
         })
     }
+}
+
+/// Counts an event that was taken for the holder of a seat, who keeps its receipt. Otherwise there was no memory.
+fn credit<L: Ledger>(
+    total: &mut Book<L>,
+    seat: &mut Seat<L>,
+    taken: Result<Receipt, TakeFault>,
+    spent: &mut Spent,
+) -> Result<u64, SubmitFault>
+    ensures counted { IfOk taken (λ r. (total.new.total ≡ total.old.total + 1) × (seat.new ≡ credited seat.old (claim_of r)) × (result ≡ Ok r.number)) }
+    ensures refused { OnErr taken ((total.new.total ≡ total.old.total) × (seat.new ≡ seat.old) × (result ≡ Err SubmitFault.NoMemory)) }
+{
+    let Ok(receipt) = taken else {
+        return Err(SubmitFault::NoMemory);
+    };
+    let number = receipt.number;
+    spent.receipt = seat.credit(total, receipt);
+    Ok(number)
 }

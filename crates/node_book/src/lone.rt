@@ -1,9 +1,10 @@
 //! A node by itself.
-ghost use Rattle.std.specs.Prelude.{◌≡◌, []};
+ghost use Rattle.std.specs.Prelude.{◌≡◌, ◌<◌, [], Err, IfOk, OnErr};
 
 use crate::NoMemory;
 use crate::clerk::{Clerk, copy_action};
 use crate::ledgered::SubmitFault;
+use filter_slots::{Judged, Moment, Slots};
 use node_core::{Action, Event, Node, Out};
 use object_store::CacheKey;
 use std::alloc::Global;
@@ -51,6 +52,17 @@ impl Lone {
     {
         self.passed.as_slice()
     }
+
+    /// The number of the next event, if there is one.
+    fn number(&self) -> Result<u64, SubmitFault>
+        ensures number { IfOk result (λ number. (number ≡ self.now.next) × (number < 18446744073709551615)) }
+        ensures ended { OnErr result ((result ≡ Err SubmitFault.Ended) × (self.now.next ≡ 18446744073709551615)) }
+    {
+        if self.next == u64::MAX {
+            return Err(SubmitFault::Ended);
+        }
+        Ok(self.next)
+    }
 }
 
 impl Clerk for Lone {
@@ -66,13 +78,27 @@ impl Clerk for Lone {
         event: Arc<Event>,
         out: &mut Out,
     ) -> Result<u64, SubmitFault> {
-        let number = self.next;
-        if number == u64::MAX {
-            return Err(SubmitFault::Ended);
-        }
+        let number = self.number()?;
         self.node.step(alloc, &event, out)?;
         self.next = number + 1;
         Ok(number)
+    }
+
+    fn submit_judged(
+        &mut self,
+        alloc: Global,
+        judged: &Judged,
+        now: Moment,
+        out: &mut Out,
+    ) -> Result<u64, SubmitFault> {
+        let number = self.number()?;
+        self.node.step_judged(alloc, judged, now, out)?;
+        self.next = number + 1;
+        Ok(number)
+    }
+
+    fn programs(&mut self) -> Result<Slots, NoMemory> {
+        self.node.programs().copy()
     }
 
     fn pass(&mut self, alloc: Global, action: &Action) -> Result<(), NoMemory> {
