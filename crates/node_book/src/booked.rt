@@ -1,5 +1,5 @@
 //! A node with the book of its events.
-ghost use Rattle.std.specs.Prelude.{◌≡◌, ◌<◌, ◌≤◌, [], ◌∷◌, ◌++◌, length, vec_capacity, IfOk, OnOk, OnErr, IsErrOf, IsTrue, ◌≢◌, ◌↔◌, map};
+ghost use Rattle.std.specs.Prelude.{◌≡◌, ◌<◌, ◌≤◌, [], ◌∷◌, length, IfOk, OnOk, OnErr, IsErrOf, IsTrue, ◌≢◌, ◌↔◌, map};
 ghost use Rattle.std.specs.Option.{option_map};
 ghost use Rattle.pending_fetch.specs.Fetches.{PendingFetch, fetch_of};
 ghost use Rattle.std.specs.Bool.{OnFalse};
@@ -192,7 +192,13 @@ impl Booked {
         ensures full { IsErrOf result TakeFault.VolumeFull ↔ ((count_of self.old ≢ 18446744073709551615) × (length self.old.entries ≡ self.old.volume)) }
         ensures refused { OnErr result ((self.new ≡ self.old) × (out.new ≡ [])) }
     {
-        let number = self.next_number()?;
+        let number = self.count();
+        if number == u64::MAX {
+            return Err(TakeFault::Ended);
+        }
+        if self.is_full() {
+            return Err(TakeFault::VolumeFull);
+        }
         let Ok(tally) = self.enter(alloc, &event, out) else {
             return Err(TakeFault::NoMemory);
         };
@@ -220,7 +226,13 @@ impl Booked {
         ensures full { IsErrOf result TakeFault.VolumeFull ↔ ((count_of self.old ≢ 18446744073709551615) × (length self.old.entries ≡ self.old.volume)) }
         ensures refused { OnErr result ((self.new ≡ self.old) × (out.new ≡ [])) }
     {
-        let number = self.next_number()?;
+        let number = self.count();
+        if number == u64::MAX {
+            return Err(TakeFault::Ended);
+        }
+        if self.is_full() {
+            return Err(TakeFault::VolumeFull);
+        }
         let Ok(event) = arrival(alloc, judged, now) else {
             return Err(TakeFault::NoMemory);
         };
@@ -232,23 +244,6 @@ impl Booked {
             event,
             tally,
         })
-    }
-
-    /// The number of the next event, where there is one and room for it.
-    fn next_number(&self) -> Result<u64, TakeFault>
-        ensures number { IfOk result (λ number. number ≡ count_of self.now) }
-        ensures room { OnOk result ((length self.now.entries < self.now.volume) × (count_of self.now < 18446744073709551615)) }
-        ensures ended { IsErrOf result TakeFault.Ended ↔ (count_of self.now ≡ 18446744073709551615) }
-        ensures full { IsErrOf result TakeFault.VolumeFull ↔ ((count_of self.now ≢ 18446744073709551615) × (length self.now.entries ≡ self.now.volume)) }
-    {
-        let number = self.count();
-        if number == u64::MAX {
-            return Err(TakeFault::Ended);
-        }
-        if self.is_full() {
-            return Err(TakeFault::VolumeFull);
-        }
-        Ok(number)
     }
 
     /// Takes an event where there is room for it.
@@ -263,7 +258,12 @@ impl Booked {
         append_law();
         let shared = Arc::try_clone(event)?;
         self.present.step(alloc, &**event, out)?;
-        Ok(write(&mut self.kept, shared, out))
+        let tally = out.tally();
+        self.kept.push_reserved(Entry {
+            event: shared,
+            tally,
+        });
+        Ok(tally)
     }
 
     /// Takes a datagram that is judged already, and whose event this is, where there is room for it.
@@ -286,7 +286,12 @@ impl Booked {
         append_law();
         let shared = Arc::try_clone(event)?;
         self.present.step_judged(alloc, judged, now, out)?;
-        Ok(write(&mut self.kept, shared, out))
+        let tally = out.tally();
+        self.kept.push_reserved(Entry {
+            event: shared,
+            tally,
+        });
+        Ok(tally)
     }
 
     /// Whether the event of a receipt stands in the book at the receipt's number, with the receipt's tally.
@@ -329,18 +334,6 @@ fn is_same(entry: &Entry, receipt: &Receipt) -> bool
     ensures { IsTrue result ↔ (entry_of entry.now ≡ said_of receipt.now) }
 {
     same_event(&*entry.event, &*receipt.event) && same_tally(&entry.tally, &receipt.tally)
-}
-
-/// Writes an event and the tally of its actions after those that are kept, where there is room for them.
-fn write(kept: &mut Vec<Entry>, event: Arc<Event>, out: &Out) -> Tally
-    requires { length kept.old.items < vec_capacity kept.old }
-    ensures entries { map entry_of kept.new.items ≡ map entry_of kept.old.items ++ (happening (arc_value event), tally_of out.now) ∷ [] }
-    ensures tally { result ≡ tally_of out.now }
-    ensures capacity { vec_capacity kept.new ≡ vec_capacity kept.old }
-{
-    let tally = out.tally();
-    kept.push_reserved(Entry { event, tally });
-    tally
 }
 
 /// The event that a judged datagram arrives now. An error says that there was no memory, or that the datagram has too many

@@ -38,7 +38,7 @@ pub enum OpenFault {
 #[derive(Drop)]
 pub struct Desk<L: Ledger> {
     ledgered: Mutex<Ledgered<L>>,
-    // How many swaps were taken.
+    // How many swaps were handed in.
     swaps: AtomicU64,
     seats: u64,
 }
@@ -104,14 +104,14 @@ impl<L: Ledger> Desk<L> {
     {
         let mut spent = Spent::new();
         let is_swap = is_swap(&event);
-        let number = self
+        let submitted = self
             .ledgered
             .lock(rt)
-            .submit(alloc, seat, event, out, &mut spent)?;
+            .submit(alloc, seat, event, out, &mut spent);
         if is_swap {
             self.swaps.fetch_add(1, Ordering::SeqCst);
         }
-        Ok(number)
+        submitted
     }
 
     /// Takes a datagram that is judged already, as `submit` takes the event that it arrives now. Its verdict counts where its
@@ -138,7 +138,7 @@ impl<L: Ledger> Desk<L> {
             .submit_judged(alloc, seat, judged, now, out, &mut spent)
     }
 
-    /// How many swaps were taken, modulo 2^64. A swap is counted once the lock is free again; so programs that were read after the
+    /// How many swaps were handed in, modulo 2^64. A swap is counted once the lock is free again; so programs that were read after the
     /// count was this are in force as long as it stays, or until a swap that is just being taken. It waits for nobody.
     pub fn swaps(&self) -> u64 {
         self.swaps.load(Ordering::SeqCst)

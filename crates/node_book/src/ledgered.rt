@@ -1,11 +1,10 @@
 //! What lies behind the lock of a desk: a book whose count is the total of a ledger of shares.
-ghost use Rattle.std.specs.Prelude.{◌≡◌, ◌<◌, ◌≤◌, ◌+◌, [], ◌∷◌, length, Ok, Err, IfOk, OnOk, OnErr, IsErrOf, ◌↔◌, ℕ, Some, sum_by};
+ghost use Rattle.std.specs.Prelude.{◌≡◌, ◌≤◌, [], ◌∷◌, IfOk, OnOk, OnErr, IsErrOf, ◌↔◌, ℕ, Some, sum_by};
 ghost use Rattle.std.specs.Arc.{arc_value};
 ghost use Rattle.node_core.specs.Happening.{arrives, happening};
 ghost use Rattle.node_core.specs.State.{HasTaken};
 ghost use Rattle.plain_node.specs.Tally.{tally_of};
 ghost use Rattle.node_book.specs.Book.{IsLegal, count_of, ready, written};
-ghost use Rattle.node_book.specs.Claims.{claim_of};
 ghost use Rattle.node_book.specs.Seats.{AreAllOpened, claim, credited};
 ghost use Rattle.node_book.specs.Good.{AreAllGood, IsLeastOf, IsMisfit, kept_from};
 
@@ -142,9 +141,19 @@ impl<L: Ledger> Ledgered<L> {
         ensures refused { OnErr result ((seat.new ≡ seat.old) × (out.new ≡ [])) }
         ensures seats { self.new.seats ≡ self.old.seats }
     {
-        self.admit(alloc, seat, spent)?;
-        let taken = self.booked.take(alloc, event, out);
-        credit(&mut self.total, seat, taken, spent)
+        if self.booked.count() == u64::MAX {
+            return Err(SubmitFault::Ended);
+        }
+        seat.audit(&mut self.total);
+        if self.booked.is_full() {
+            spent.volume = Some(self.booked.turn(alloc));
+        }
+        let Ok(receipt) = self.booked.take(alloc, event, out) else {
+            return Err(SubmitFault::NoMemory);
+        };
+        let number = receipt.number;
+        spent.receipt = seat.credit(&mut self.total, receipt);
+        Ok(number)
     }
 
     /// Takes a datagram that is judged already, as `submit` takes the event that it arrives now. Its verdict counts where its
@@ -170,28 +179,6 @@ impl<L: Ledger> Ledgered<L> {
         ensures refused { OnErr result ((seat.new ≡ seat.old) × (out.new ≡ [])) }
         ensures seats { self.new.seats ≡ self.old.seats }
     {
-        self.admit(alloc, seat, spent)?;
-        let taken = self.booked.take_judged(alloc, judged, now, out);
-        credit(&mut self.total, seat, taken, spent)
-    }
-
-    /// Sees that there is a number and room for one more event: a full volume is turned.
-    fn admit(
-        &mut self,
-        alloc: Global,
-        seat: &mut Seat<L>,
-        spent: &mut Spent,
-    ) -> Result<(), SubmitFault>
-        ensures book { OnOk result (self.new.book ≡ ready self.old.book) }
-        ensures room { OnOk result ((length self.new.book.entries < self.new.book.volume) × (count_of self.old.book < 18446744073709551615)) }
-        ensures count { OnOk result (count_of self.new.book ≡ count_of self.old.book) }
-        ensures seen { OnOk result (seat.old.share ≤ count_of self.old.book) }
-        ensures ended { IsErrOf result SubmitFault.Ended ↔ (count_of self.old.book ≡ 18446744073709551615) }
-        ensures has_memory { IsErrOf result SubmitFault.NoMemory → ⊥ }
-        ensures refused { OnErr result (self.new ≡ self.old) }
-        ensures seat { seat.new ≡ seat.old }
-        ensures seats { self.new.seats ≡ self.old.seats }
-    {
         if self.booked.count() == u64::MAX {
             return Err(SubmitFault::Ended);
         }
@@ -199,7 +186,12 @@ impl<L: Ledger> Ledgered<L> {
         if self.booked.is_full() {
             spent.volume = Some(self.booked.turn(alloc));
         }
-        Ok(())
+        let Ok(receipt) = self.booked.take_judged(alloc, judged, now, out) else {
+            return Err(SubmitFault::NoMemory);
+        };
+        let number = receipt.number;
+        spent.receipt = seat.credit(&mut self.total, receipt);
+        Ok(number)
     }
 
     /// Compares the receipts of the seats with the book, and joins their shares. Errors: not exactly the seats that were
@@ -235,22 +227,4 @@ impl<L: Ledger> Ledgered<L> {
             matched,
         })
     }
-}
-
-/// Counts an event that was taken for the holder of a seat, who keeps its receipt. Otherwise there was no memory.
-fn credit<L: Ledger>(
-    total: &mut Book<L>,
-    seat: &mut Seat<L>,
-    taken: Result<Receipt, TakeFault>,
-    spent: &mut Spent,
-) -> Result<u64, SubmitFault>
-    ensures counted { IfOk taken (λ r. (total.new.total ≡ total.old.total + 1) × (seat.new ≡ credited seat.old (claim_of r)) × (result ≡ Ok r.number)) }
-    ensures refused { OnErr taken ((total.new.total ≡ total.old.total) × (seat.new ≡ seat.old) × (result ≡ Err SubmitFault.NoMemory)) }
-{
-    let Ok(receipt) = taken else {
-        return Err(SubmitFault::NoMemory);
-    };
-    let number = receipt.number;
-    spent.receipt = seat.credit(total, receipt);
-    Ok(number)
 }

@@ -1,5 +1,5 @@
 //! A node by itself.
-ghost use Rattle.std.specs.Prelude.{◌≡◌, ◌<◌, [], Err, IfOk, OnErr};
+ghost use Rattle.std.specs.Prelude.{◌≡◌, []};
 
 use crate::NoMemory;
 use crate::clerk::{Clerk, copy_action};
@@ -52,17 +52,6 @@ impl Lone {
     {
         self.passed.as_slice()
     }
-
-    /// The number of the next event, if there is one.
-    fn number(&self) -> Result<u64, SubmitFault>
-        ensures number { IfOk result (λ number. (number ≡ self.now.next) × (number < 18446744073709551615)) }
-        ensures ended { OnErr result ((result ≡ Err SubmitFault.Ended) × (self.now.next ≡ 18446744073709551615)) }
-    {
-        if self.next == u64::MAX {
-            return Err(SubmitFault::Ended);
-        }
-        Ok(self.next)
-    }
 }
 
 impl Clerk for Lone {
@@ -78,7 +67,10 @@ impl Clerk for Lone {
         event: Arc<Event>,
         out: &mut Out,
     ) -> Result<u64, SubmitFault> {
-        let number = self.number()?;
+        let number = self.next;
+        if number == u64::MAX {
+            return Err(SubmitFault::Ended);
+        }
         self.node.step(alloc, &event, out)?;
         self.next = number + 1;
         Ok(number)
@@ -91,7 +83,10 @@ impl Clerk for Lone {
         now: Moment,
         out: &mut Out,
     ) -> Result<u64, SubmitFault> {
-        let number = self.number()?;
+        let number = self.next;
+        if number == u64::MAX {
+            return Err(SubmitFault::Ended);
+        }
         self.node.step_judged(alloc, judged, now, out)?;
         self.next = number + 1;
         Ok(number)

@@ -1,6 +1,6 @@
 use Rattle.std.proofs.Common.{◌<◌, ◌≤◌, ◌∙◌, ap, ◌++◌, [], ◌∷◌, map, subst, sym, length, arith}
-use Rattle.node_core.specs.Happening.{Happening, happening}
-use Rattle.plain_node.specs.Tally.{tally_of}
+use Rattle.std.proofs.lemmas.List.{map-append}
+use Rattle.node_core.specs.Happening.{happening}
 use Rattle.node_book.specs.Book.{Book, count_of}
 use Rattle.node_book.specs.Kept.{book_of}
 use Rattle.node_book.specs.Entries.{entry_of}
@@ -13,10 +13,10 @@ invariant_of-self-2 c =
     let has = subst room (sym c.self.view_is) c.requires.room in
     let legal = c.self.invariant.0 in
     let roomy = c.self.invariant.1 in
-    let capacity = c.write.ensures.capacity in (
+    let capacity = c.push_reserved.ensures.capacity in (
       legal-push (book_of c.self.inside) _ _ _ _ legal
-          (c.write.ensures.entries
-          ∙ ap (λ (h : Happening). map entry_of c.self.inside.kept.items ++ (h, tally_of c.step.new.out) ∷ []) (ap happening (c.in_ok-shared.ensures ∙ sym c.deref.ensures)))
+          (ap (map entry_of) c.push_reserved.ensures.items ∙ map-append entry_of c.self.inside.kept.items _
+          ∙ (λ i. map entry_of c.self.inside.kept.items ++ (happening ((c.in_ok-shared.ensures ∙ sym c.deref.ensures) i), c.tally-tally.ensures i) ∷ []))
           (c.append_law.ensures.one _ _ _ _ _ _ _ legal.taken c.in_ok-step.ensures.taken)
           has.0 has.1,
       (omega (arith, capacity, roomy)),
