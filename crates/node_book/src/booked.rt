@@ -1,5 +1,5 @@
 //! A node with the book of its events.
-ghost use Rattle.std.specs.Prelude.{◌≡◌, ◌<◌, ◌≤◌, [], ◌∷◌, length, IfOk, OnOk, OnErr, IsErrOf, IsTrue, ◌≢◌, ◌↔◌, map};
+ghost use Rattle.std.specs.Prelude.{◌≡◌, ◌<◌, ◌≤◌, [], ◌∷◌, ◌+◌, length, IfOk, OnOk, OnErr, IsErrOf, IsTrue, ◌≢◌, ◌↔◌, map};
 ghost use Rattle.std.specs.Option.{option_map};
 ghost use Rattle.pending_fetch.specs.Fetches.{PendingFetch, fetch_of};
 ghost use Rattle.std.specs.Bool.{OnFalse};
@@ -222,6 +222,7 @@ impl Booked {
         ensures taken { OnOk result (HasTaken self.old.present self.new.present (arrives judged.now.datagram now ∷ []) (out.new ∷ [])) }
         ensures book { OnOk result (self.new ≡ written self.old (arrives judged.now.datagram now) (tally_of out.new) self.new.present) }
         ensures receipt { IfOk result (λ r. (r.number ≡ count_of self.old) × (happening (arc_value r.event) ≡ arrives judged.now.datagram now) × (r.tally ≡ tally_of out.new)) }
+        ensures count { OnOk result (count_of self.new ≡ count_of self.old + 1) }
         ensures ended { IsErrOf result TakeFault.Ended ↔ (count_of self.old ≡ 18446744073709551615) }
         ensures full { IsErrOf result TakeFault.VolumeFull ↔ ((count_of self.old ≢ 18446744073709551615) × (length self.old.entries ≡ self.old.volume)) }
         ensures refused { OnErr result ((self.new ≡ self.old) × (out.new ≡ [])) }
