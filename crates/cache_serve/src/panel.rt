@@ -18,19 +18,9 @@ pub struct Switches<R, L: Ledger> {
     pub alloc: Global,
     /// Shared with the thread that ends the proxy, which takes the seat back.
     pub teller: Arc<Mutex<Teller<R, L>>>,
-    /// The filter that was put in last.
-    pub icp: Option<Arc<Checked>>,
-    pub htcp: Option<Arc<Checked>>,
 }
 
 impl<R: Wait + Clock + Drop, L: Ledger> Switches<R, L> {
-    fn slot(&mut self, socket: Socket) -> &mut Option<Arc<Checked>> {
-        match socket {
-            Socket::Icp => &mut self.icp,
-            Socket::Htcp => &mut self.htcp,
-        }
-    }
-
     fn swap(&mut self, socket: Socket, program: Option<Arc<Checked>>) -> Result<(), AllocError> {
         let event = Event::Swap { socket, program };
         match self.teller.lock(&self.rt).take(event) {
@@ -58,25 +48,18 @@ impl<R: Wait + Clock + Drop, L: Ledger> Panel for Switches<R, L> {
         let Ok(program) = Arc::new(alloc, program) else {
             return Err(PutFault::NoMemory);
         };
-        let Ok(shared) = Arc::try_clone(&program) else {
-            return Err(PutFault::NoMemory);
-        };
-        if self.swap(socket, Some(shared)).is_err() {
-            return Err(PutFault::NoMemory);
-        }
-        *self.slot(socket) = Some(program);
-        Ok(())
+        self.swap(socket, Some(program))
+            .map_err(|_| PutFault::NoMemory)
     }
 
     fn clear(&mut self, socket: Socket) -> Result<(), AllocError> {
-        self.swap(socket, None)?;
-        *self.slot(socket) = None;
-        Ok(())
+        self.swap(socket, None)
     }
 
     fn show(&mut self, socket: Socket) -> Result<Vec<u8>, AllocError> {
         let alloc = self.alloc;
-        match self.slot(socket) {
+        let programs = self.teller.lock(&self.rt).house().desk.programs(&self.rt)?;
+        match programs.installed(socket) {
             Some(program) => Ok(to_text(alloc, program)?.into_bytes()),
             None => b"none\n".to_vec(alloc),
         }

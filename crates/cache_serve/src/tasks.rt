@@ -340,8 +340,6 @@ where
         rt,
         alloc,
         teller: shared,
-        icp: None,
-        htcp: None,
     };
     let limits = limits_of(openings.limits, 64, 262_144);
     let ran = serve_admin(rt, openings.admin_port, switches, bound, stopped, limits);

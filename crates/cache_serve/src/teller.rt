@@ -1,9 +1,9 @@
 //! A thread's seat at the node.
 use crate::house::House;
 use crossbeam_channel::Sender;
-use filter_slots::{End, Socket};
+use filter_slots::{End, Judged, Moment, Slots, Socket};
 use mio_queries::Bell;
-use node_book::{Clerk, Seat, SubmitFault};
+use node_book::{Clerk, Programs, Seat, SubmitFault};
 use node_core::{Action, Event, Mode, NoMemory, Out, Outcome};
 use object_store::CacheKey;
 use std::alloc::{AllocError, Global};
@@ -76,6 +76,7 @@ pub struct Teller<R, L: Ledger> {
     failed: Vec<Attempt>,
     // The way to the thread that sends; none where datagrams are sent by the thread itself.
     post: Option<Post>,
+    programs: Programs,
 }
 
 // The most pending fetches of a node.
@@ -97,6 +98,7 @@ impl<R: Wait + Clock + Drop, L: Ledger> Teller<R, L> {
             out: None,
             failed,
             post,
+            programs: Programs::new(),
         }
     }
 
@@ -216,6 +218,22 @@ impl<R: Wait + Clock + Drop, L: Ledger> Clerk for Teller<R, L> {
         self.house
             .desk
             .submit(&self.rt, alloc, &mut self.seat, event, out)
+    }
+
+    fn submit_judged(
+        &mut self,
+        alloc: Global,
+        judged: &Judged,
+        now: Moment,
+        out: &mut Out,
+    ) -> Result<u64, SubmitFault> {
+        self.house
+            .desk
+            .submit_judged(&self.rt, alloc, &mut self.seat, judged, now, out)
+    }
+
+    fn programs(&mut self) -> Result<Slots, NoMemory> {
+        self.programs.read(&self.rt, &self.house.desk)
     }
 
     fn pass(&mut self, alloc: Global, action: &Action) -> Result<(), NoMemory> {

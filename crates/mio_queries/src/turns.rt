@@ -1,7 +1,8 @@
 //! The loop between a wire and a clerk.
 ghost use Rattle.std.specs.Prelude.{◌≡◌, ◌+◌, ◌∷◌, [], ℕ, take, OnOk, OnErr, IfOk, IsErrOf};
 ghost use Rattle.node_core.specs.Counters.{plus};
-ghost use Rattle.node_core.specs.Happening.{happening};
+ghost use Rattle.std.specs.Arc.{arc_value};
+ghost use Rattle.node_core.specs.Happening.{arrives, ticks};
 ghost use Rattle.mio_queries.specs.Traffic.{receipt_of, grown};
 ghost use Rattle.mio_queries.specs.Pumping.{event_of, HasServed, Try, gone, failures, Counts, Carries, Pumps, Makes, LosesWire, Breaks};
 
@@ -9,14 +10,14 @@ use crate::NoMemory;
 use crate::pumped::{PumpFault, Pumped};
 use crate::traffic::{Received, WireFault};
 use crate::wire::Wire;
-use filter_slots::{End, Socket};
+use filter_slots::{Datagram, End, Judged, Moment, Socket};
 use node_book::{Clerk, SubmitFault};
 use node_core::{Action, Event, Out, Payload, append_law};
 use std::alloc::Global;
 use std::sync::Arc;
 
-/// Makes so many turns. Each receives once, has the clerk take the datagram, or a tick where none came, and carries out the
-/// actions in order: a Send by the wire, any other by the clerk. A failed send is counted and not tried again. Errors: the
+/// Makes so many turns. Each receives once, judges the datagram by the clerk's programs and has the clerk take it, or a tick
+/// where none came, and carries out the actions in order: a Send by the wire, any other by the clerk. A failed send is counted and not tried again. Errors: the
 /// wire failed to receive; there was no memory; the clerk can take no more events. What was done before stands.
 pub fn pump<W: Wire, C: Clerk>(
     alloc: Global,
@@ -127,24 +128,52 @@ fn submit_one<C: Clerk>(
     ensures no_fault { IsErrOf result PumpFault.Receive → ⊥ }
 {
     out.clear();
-    let Ok(event) = Arc::new(alloc, event_from(received)) else {
-        return Err(PumpFault::NoMemory);
+    let submitted = match received {
+        Received::Datagram(datagram, now) => submit_datagram(alloc, clerk, datagram, now, out),
+        Received::Idle(now) => submit_tick(alloc, clerk, now, out),
     };
-    match clerk.submit(alloc, event, out) {
-        Ok(_) => Ok(()),
+    match submitted {
+        Ok(()) => Ok(()),
         Err(SubmitFault::Ended) => Err(PumpFault::Ended),
         Err(SubmitFault::NoMemory) => Err(PumpFault::NoMemory),
     }
 }
 
-/// The event of what was received.
-fn event_from(received: Received) -> Event
-    ensures { happening result ≡ event_of (receipt_of received) }
+/// Judges a datagram by the clerk's programs, and has the clerk take it.
+fn submit_datagram<C: Clerk>(
+    alloc: Global,
+    clerk: &mut C,
+    datagram: Arc<Datagram>,
+    now: Moment,
+    out: &mut Out,
+) -> Result<(), SubmitFault>
+    requires { out.old ≡ [] }
+    ensures taken { OnOk result (HasServed (C.told clerk.old) (C.told clerk.new) (arrives (arc_value datagram) now ∷ []) (out.new ∷ []) []) }
+    ensures refused { OnErr result (C.told clerk.new ≡ C.told clerk.old) }
 {
-    match received {
-        Received::Datagram(datagram, now) => Event::Datagram { datagram, now },
-        Received::Idle(now) => Event::Timer { now },
-    }
+    let mut programs = clerk.programs()?;
+    let program = programs.clear(datagram.socket());
+    let judged = Judged::new(datagram, program);
+    clerk.submit_judged(alloc, &judged, now, out)?;
+    Ok(())
+}
+
+/// Has the clerk take that time went by.
+fn submit_tick<C: Clerk>(
+    alloc: Global,
+    clerk: &mut C,
+    now: Moment,
+    out: &mut Out,
+) -> Result<(), SubmitFault>
+    requires { out.old ≡ [] }
+    ensures taken { OnOk result (HasServed (C.told clerk.old) (C.told clerk.new) (ticks now ∷ []) (out.new ∷ []) []) }
+    ensures refused { OnErr result (C.told clerk.new ≡ C.told clerk.old) }
+{
+    let Ok(event) = Arc::new(alloc, Event::Timer { now }) else {
+        return Err(SubmitFault::NoMemory);
+    };
+    clerk.submit(alloc, event, out)?;
+    Ok(())
 }
 
 /// Carries out actions in order. An error says that there was no memory to pass one on: a front of them was carried out.

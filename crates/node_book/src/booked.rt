@@ -1,10 +1,10 @@
 //! A node with the book of its events.
-ghost use Rattle.std.specs.Prelude.{◌≡◌, ◌<◌, ◌≤◌, [], ◌∷◌, length, IfOk, OnOk, OnErr, IsErrOf, IsTrue, ◌≢◌, ◌↔◌, map};
+ghost use Rattle.std.specs.Prelude.{◌≡◌, ◌<◌, ◌≤◌, [], ◌∷◌, ◌+◌, length, IfOk, OnOk, OnErr, IsErrOf, IsTrue, ◌≢◌, ◌↔◌, map};
 ghost use Rattle.std.specs.Option.{option_map};
 ghost use Rattle.pending_fetch.specs.Fetches.{PendingFetch, fetch_of};
 ghost use Rattle.std.specs.Bool.{OnFalse};
 ghost use Rattle.std.specs.Arc.{arc_value};
-ghost use Rattle.node_core.specs.Happening.{happening};
+ghost use Rattle.node_core.specs.Happening.{arrives, happening};
 ghost use Rattle.node_core.specs.State.{HasTaken};
 ghost use Rattle.plain_node.specs.Tally.{tally_of};
 ghost use Rattle.node_book.specs.Claims.{claim_of, said_of};
@@ -14,6 +14,7 @@ ghost use Rattle.node_book.specs.Book.{IsLegal, begun, count_of, turned, written
 
 use crate::NoMemory;
 use crate::image::Image;
+use filter_slots::{Judged, Moment};
 use node_core::{Event, Node, Out, Tally, append_law, same_event, same_tally};
 use object_store::CacheKey;
 use std::alloc::Global;
@@ -208,6 +209,44 @@ impl Booked {
         })
     }
 
+    /// Takes a datagram that is judged already, as `take` takes the event that it arrives now. Its verdict counts where its
+    /// program is equal to the one in force, or both have none; otherwise it is judged here.
+    pub fn take_judged(
+        &mut self,
+        alloc: Global,
+        judged: &Judged,
+        now: Moment,
+        out: &mut Out,
+    ) -> Result<Receipt, TakeFault>
+        requires { out.old ≡ [] }
+        ensures taken { OnOk result (HasTaken self.old.present self.new.present (arrives judged.now.datagram now ∷ []) (out.new ∷ [])) }
+        ensures book { OnOk result (self.new ≡ written self.old (arrives judged.now.datagram now) (tally_of out.new) self.new.present) }
+        ensures receipt { IfOk result (λ r. (r.number ≡ count_of self.old) × (happening (arc_value r.event) ≡ arrives judged.now.datagram now) × (r.tally ≡ tally_of out.new)) }
+        ensures count { OnOk result (count_of self.new ≡ count_of self.old + 1) }
+        ensures ended { IsErrOf result TakeFault.Ended ↔ (count_of self.old ≡ 18446744073709551615) }
+        ensures full { IsErrOf result TakeFault.VolumeFull ↔ ((count_of self.old ≢ 18446744073709551615) × (length self.old.entries ≡ self.old.volume)) }
+        ensures refused { OnErr result ((self.new ≡ self.old) × (out.new ≡ [])) }
+    {
+        let number = self.count();
+        if number == u64::MAX {
+            return Err(TakeFault::Ended);
+        }
+        if self.is_full() {
+            return Err(TakeFault::VolumeFull);
+        }
+        let Ok(event) = arrival(alloc, judged, now) else {
+            return Err(TakeFault::NoMemory);
+        };
+        let Ok(tally) = self.enter_judged(alloc, &event, judged, now, out) else {
+            return Err(TakeFault::NoMemory);
+        };
+        Ok(Receipt {
+            number,
+            event,
+            tally,
+        })
+    }
+
     /// Takes an event where there is room for it.
     fn enter(&mut self, alloc: Global, event: &Arc<Event>, out: &mut Out) -> Result<Tally, NoMemory>
         requires out { out.old ≡ [] }
@@ -220,6 +259,34 @@ impl Booked {
         append_law();
         let shared = Arc::try_clone(event)?;
         self.present.step(alloc, &**event, out)?;
+        let tally = out.tally();
+        self.kept.push_reserved(Entry {
+            event: shared,
+            tally,
+        });
+        Ok(tally)
+    }
+
+    /// Takes a datagram that is judged already, and whose event this is, where there is room for it.
+    fn enter_judged(
+        &mut self,
+        alloc: Global,
+        event: &Arc<Event>,
+        judged: &Judged,
+        now: Moment,
+        out: &mut Out,
+    ) -> Result<Tally, NoMemory>
+        requires out { out.old ≡ [] }
+        requires room { (length self.old.entries < self.old.volume) × (count_of self.old < 18446744073709551615) }
+        requires event { happening (arc_value event.now) ≡ arrives judged.now.datagram now }
+        ensures taken { OnOk result (HasTaken self.old.present self.new.present (happening (arc_value event.now) ∷ []) (out.new ∷ [])) }
+        ensures book { OnOk result (self.new ≡ written self.old (happening (arc_value event.now)) (tally_of out.new) self.new.present) }
+        ensures tally { IfOk result (λ tally. tally ≡ tally_of out.new) }
+        ensures refused { OnErr result ((self.new ≡ self.old) × (out.new ≡ [])) }
+    {
+        append_law();
+        let shared = Arc::try_clone(event)?;
+        self.present.step_judged(alloc, judged, now, out)?;
         let tally = out.tally();
         self.kept.push_reserved(Entry {
             event: shared,
@@ -268,4 +335,13 @@ fn is_same(entry: &Entry, receipt: &Receipt) -> bool
     ensures { IsTrue result ↔ (entry_of entry.now ≡ said_of receipt.now) }
 {
     same_event(&*entry.event, &*receipt.event) && same_tally(&entry.tally, &receipt.tally)
+}
+
+/// The event that a judged datagram arrives now. An error says that there was no memory, or that the datagram has too many
+/// owners.
+fn arrival(alloc: Global, judged: &Judged, now: Moment) -> Result<Arc<Event>, NoMemory>
+    ensures { IfOk result (λ event. happening (arc_value event) ≡ arrives judged.now.datagram now) }
+{
+    let datagram = Arc::try_clone(judged.datagram())?;
+    Ok(Arc::new(alloc, Event::Datagram { datagram, now })?)
 }

@@ -3,11 +3,12 @@ ghost use Rattle.std.specs.Prelude.{◌≡◌, ◌≤◌, ◌+◌, ◌∷◌, []
 ghost use Rattle.std.specs.Option.{option_map};
 ghost use Rattle.std.specs.Arc.{arc_value};
 ghost use Rattle.pending_fetch.specs.Fetches.{fetch_of};
-ghost use Rattle.node_core.specs.Happening.{happening};
+ghost use Rattle.node_core.specs.Happening.{arrives, happening};
 ghost use Rattle.node_book.specs.Told.{Told, Submits, passing};
 
 use crate::NoMemory;
 use crate::ledgered::SubmitFault;
+use filter_slots::{Judged, Moment, Slots};
 use node_core::{Action, Answer, Event, Out, Payload};
 use object_store::CacheKey;
 use std::alloc::Global;
@@ -35,6 +36,29 @@ pub trait Clerk {
         ensures number { IfOk result (λ number. taken self.old ≤ number) }
         ensures refused { OnErr result ((told self.new ≡ told self.old) × (taken self.new ≡ taken self.old) × (out.new ≡ [])) }
         ensures ended { IsErrOf result SubmitFault.Ended → IfSome (told self.old) (λ t. t.next ≡ 18446744073709551615) };
+
+    /// Takes a datagram that is judged already, as `submit` takes the event that it arrives now. Its verdict counts where its
+    /// program is equal to the one in force, or both have none; otherwise it is judged again.
+    fn submit_judged(
+        &mut self,
+        alloc: Global,
+        judged: &Judged,
+        now: Moment,
+        out: &mut Out,
+    ) -> Result<u64, SubmitFault>
+        requires { out.old ≡ [] }
+        ensures taken { IfOk result (λ number. Submits (told self.old) (told self.new) number (arrives judged.now.datagram now) out.new) }
+        ensures counted { OnOk result (taken self.new ≡ taken self.old + 1) }
+        ensures number { IfOk result (λ number. taken self.old ≤ number) }
+        ensures refused { OnErr result ((told self.new ≡ told self.old) × (taken self.new ≡ taken self.old) × (out.new ≡ [])) }
+        ensures ended { IsErrOf result SubmitFault.Ended → IfSome (told self.old) (λ t. t.next ≡ 18446744073709551615) };
+
+    /// The programs to judge datagrams by, with one more owner each: those in force, or, where other threads may swap them, those
+    /// that were when it was last looked.
+    fn programs(&mut self) -> Result<Slots, NoMemory>
+        ensures same { told self.new ≡ told self.old }
+        ensures counted { taken self.new ≡ taken self.old }
+        ensures programs { IfOk result (λ programs. IfSome (told self.old) (λ t. programs ≡ t.state.filters)) };
 
     /// Is given an action that is no Send. An error says that there was no memory: nothing was passed on.
     fn pass(&mut self, alloc: Global, action: &Action) -> Result<(), NoMemory>

@@ -1,7 +1,7 @@
 //! A node and its book behind a lock, for many threads.
 ghost use Rattle.std.specs.Prelude.{◌≡◌, ◌<◌, ◌≤◌, ◌+◌, ◌++◌, [], ◌∷◌, IfOk, OnOk, OnErr, IsErrOf, ◌↔◌, sum_by};
 ghost use Rattle.std.specs.Arc.{arc_value};
-ghost use Rattle.node_core.specs.Happening.{happening};
+ghost use Rattle.node_core.specs.Happening.{arrives, happening};
 ghost use Rattle.plain_node.specs.Tally.{tally_of};
 ghost use Rattle.node_book.specs.Book.{IsLegal, count_of};
 ghost use Rattle.node_book.specs.Seats.{latest, claim, opened};
@@ -12,10 +12,12 @@ use crate::booked::Booked;
 use crate::ledgered::{Ledgered, Spent, SubmitFault};
 use crate::seat::{Seat, seats_of};
 use crate::settle::{Report, SettleFault};
+use filter_slots::{Judged, Moment, Slots};
 use node_core::{Event, Out, Stats};
 use object_store::CacheKey;
 use std::alloc::Global;
 use std::marker::Model;
+use std::sync::atomic::{AtomicU64, Ordering};
 use std::sync::ledger::{Blank, Ledger};
 use std::sync::{Arc, Mutex, Wait};
 use thiserror::Error;
@@ -36,6 +38,8 @@ pub enum OpenFault {
 #[derive(Drop)]
 pub struct Desk<L: Ledger> {
     ledgered: Mutex<Ledgered<L>>,
+    // How many swaps were handed in.
+    swaps: AtomicU64,
     seats: u64,
 }
 
@@ -74,6 +78,7 @@ impl<L: Ledger> Desk<L> {
         };
         let desk = Desk {
             ledgered: Mutex::new(Ledgered::new(booked, total, spare, seats)),
+            swaps: AtomicU64::new(0),
             seats,
         };
         Ok((desk, all))
@@ -98,9 +103,50 @@ impl<L: Ledger> Desk<L> {
         ensures refused { OnErr result ((seat.new ≡ seat.old) × (out.new ≡ [])) }
     {
         let mut spent = Spent::new();
+        let is_swap = is_swap(&event);
+        let submitted = self
+            .ledgered
+            .lock(rt)
+            .submit(alloc, seat, event, out, &mut spent);
+        if is_swap {
+            self.swaps.fetch_add(1, Ordering::SeqCst);
+        }
+        submitted
+    }
+
+    /// Takes a datagram that is judged already, as `submit` takes the event that it arrives now. Its verdict counts where its
+    /// program is equal to the one in force, or both have none; otherwise it is judged there, while the lock is held.
+    pub fn submit_judged<R: Wait>(
+        &self,
+        rt: &R,
+        alloc: Global,
+        seat: &mut Seat<L>,
+        judged: &Judged,
+        now: Moment,
+        out: &mut Out,
+    ) -> Result<u64, SubmitFault>
+        requires { out.old ≡ [] }
+        ensures share { OnOk result (seat.new.share ≡ seat.old.share + 1) }
+        ensures number { IfOk result (λ n. seat.old.share ≤ n) }
+        ensures receipt { IfOk result (λ n. seat.new.receipts ≡ latest (seat.old.receipts ++ claim n (arrives judged.now.datagram now) (tally_of out.new) ∷ [])) }
+        ensures place { seat.new.place ≡ seat.old.place }
+        ensures refused { OnErr result ((seat.new ≡ seat.old) × (out.new ≡ [])) }
+    {
+        let mut spent = Spent::new();
         self.ledgered
             .lock(rt)
-            .submit(alloc, seat, event, out, &mut spent)
+            .submit_judged(alloc, seat, judged, now, out, &mut spent)
+    }
+
+    /// How many swaps were handed in, modulo 2^64. A swap is counted once the lock is free again; so programs that were read after the
+    /// count was this are in force as long as it stays, or until a swap that is just being taken. It waits for nobody.
+    pub fn swaps(&self) -> u64 {
+        self.swaps.load(Ordering::SeqCst)
+    }
+
+    /// The programs in force, with one more owner each. It waits for the lock.
+    pub fn programs<R: Wait>(&self, rt: &R) -> Result<Slots, NoMemory> {
+        self.ledgered.lock(rt).booked().node().programs().copy()
     }
 
     /// What the node has counted. It waits for the lock.
@@ -119,7 +165,7 @@ impl<L: Ledger> Desk<L> {
         ensures counted { count_of result.book ≡ result.total }
         ensures seats { result.seats ≡ self }
     {
-        let Desk { ledgered, seats: _ } = self;
+        let Desk { ledgered, .. } = self;
         let ledgered = ledgered.into_inner();
         ledgered.agrees();
         ledgered
@@ -132,5 +178,13 @@ impl<L: Ledger> Desk<L> {
         ensures book { (b : _) × IsLegal b × Settles self seats.items b result }
     {
         self.close().settle(seats)
+    }
+}
+
+/// Whether an event swaps a filter.
+fn is_swap(event: &Event) -> bool {
+    match event {
+        Event::Swap { .. } => true,
+        _ => false,
     }
 }

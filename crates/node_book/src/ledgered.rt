@@ -1,7 +1,7 @@
 //! What lies behind the lock of a desk: a book whose count is the total of a ledger of shares.
 ghost use Rattle.std.specs.Prelude.{◌≡◌, ◌≤◌, [], ◌∷◌, IfOk, OnOk, OnErr, IsErrOf, ◌↔◌, ℕ, Some, sum_by};
 ghost use Rattle.std.specs.Arc.{arc_value};
-ghost use Rattle.node_core.specs.Happening.{happening};
+ghost use Rattle.node_core.specs.Happening.{arrives, happening};
 ghost use Rattle.node_core.specs.State.{HasTaken};
 ghost use Rattle.plain_node.specs.Tally.{tally_of};
 ghost use Rattle.node_book.specs.Book.{IsLegal, count_of, ready, written};
@@ -12,6 +12,7 @@ use crate::NoMemory;
 use crate::booked::{Booked, Receipt, TakeFault, Volume};
 use crate::seat::Seat;
 use crate::settle::{Report, SettleFault, all_opened, gather, how_many_from, least_misfit};
+use filter_slots::{Judged, Moment};
 use node_core::{Event, Out};
 use std::alloc::Global;
 use std::marker::Model;
@@ -148,6 +149,44 @@ impl<L: Ledger> Ledgered<L> {
             spent.volume = Some(self.booked.turn(alloc));
         }
         let Ok(receipt) = self.booked.take(alloc, event, out) else {
+            return Err(SubmitFault::NoMemory);
+        };
+        let number = receipt.number;
+        spent.receipt = seat.credit(&mut self.total, receipt);
+        Ok(number)
+    }
+
+    /// Takes a datagram that is judged already, as `submit` takes the event that it arrives now. Its verdict counts where its
+    /// program is equal to the one in force, or both have none; otherwise it is judged here.
+    pub fn submit_judged(
+        &mut self,
+        alloc: Global,
+        seat: &mut Seat<L>,
+        judged: &Judged,
+        now: Moment,
+        out: &mut Out,
+        spent: &mut Spent,
+    ) -> Result<u64, SubmitFault>
+        requires { out.old ≡ [] }
+        ensures taken { OnOk result (HasTaken self.old.book.present self.new.book.present (arrives judged.now.datagram now ∷ []) (out.new ∷ [])) }
+        ensures book { OnOk result (self.new.book ≡ written (ready self.old.book) (arrives judged.now.datagram now) (tally_of out.new) self.new.book.present) }
+        ensures number { IfOk result (λ n. n ≡ count_of self.old.book) }
+        ensures seat { OnOk result (seat.new ≡ credited seat.old (claim (count_of self.old.book) (arrives judged.now.datagram now) (tally_of out.new))) }
+        ensures seen { OnOk result (seat.old.share ≤ count_of self.old.book) }
+        ensures ended { IsErrOf result SubmitFault.Ended ↔ (count_of self.old.book ≡ 18446744073709551615) }
+        ensures same { IsErrOf result SubmitFault.Ended → self.new ≡ self.old }
+        ensures unmoved { IsErrOf result SubmitFault.NoMemory → self.new.book ≡ ready self.old.book }
+        ensures refused { OnErr result ((seat.new ≡ seat.old) × (out.new ≡ [])) }
+        ensures seats { self.new.seats ≡ self.old.seats }
+    {
+        if self.booked.count() == u64::MAX {
+            return Err(SubmitFault::Ended);
+        }
+        seat.audit(&mut self.total);
+        if self.booked.is_full() {
+            spent.volume = Some(self.booked.turn(alloc));
+        }
+        let Ok(receipt) = self.booked.take_judged(alloc, judged, now, out) else {
             return Err(SubmitFault::NoMemory);
         };
         let number = receipt.number;

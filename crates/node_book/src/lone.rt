@@ -4,6 +4,7 @@ ghost use Rattle.std.specs.Prelude.{◌≡◌, []};
 use crate::NoMemory;
 use crate::clerk::{Clerk, copy_action};
 use crate::ledgered::SubmitFault;
+use filter_slots::{Judged, Moment, Slots};
 use node_core::{Action, Event, Node, Out};
 use object_store::CacheKey;
 use std::alloc::Global;
@@ -73,6 +74,26 @@ impl Clerk for Lone {
         self.node.step(alloc, &event, out)?;
         self.next = number + 1;
         Ok(number)
+    }
+
+    fn submit_judged(
+        &mut self,
+        alloc: Global,
+        judged: &Judged,
+        now: Moment,
+        out: &mut Out,
+    ) -> Result<u64, SubmitFault> {
+        let number = self.next;
+        if number == u64::MAX {
+            return Err(SubmitFault::Ended);
+        }
+        self.node.step_judged(alloc, judged, now, out)?;
+        self.next = number + 1;
+        Ok(number)
+    }
+
+    fn programs(&mut self) -> Result<Slots, NoMemory> {
+        self.node.programs().copy()
     }
 
     fn pass(&mut self, alloc: Global, action: &Action) -> Result<(), NoMemory> {

@@ -1,15 +1,13 @@
 //! A clerk at a seat of a desk.
-ghost use Rattle.std.specs.Prelude.{◌≡◌, ◌≤◌, ◌+◌, ◌++◌, ◌∷◌, [], IfOk, OnOk, OnErr};
-ghost use Rattle.std.specs.Arc.{arc_value};
-ghost use Rattle.node_core.specs.Happening.{happening};
-ghost use Rattle.plain_node.specs.Tally.{tally_of};
-ghost use Rattle.node_book.specs.Seats.{claim, credited};
+ghost use Rattle.std.specs.Prelude.{◌≡◌, []};
 
 use crate::NoMemory;
 use crate::clerk::{Clerk, copy_action};
 use crate::desk::Desk;
 use crate::ledgered::SubmitFault;
+use crate::programs::Programs;
 use crate::seat::Seat;
+use filter_slots::{Judged, Moment, Slots};
 use node_core::{Action, Event, Out};
 use object_store::CacheKey;
 use std::alloc::Global;
@@ -24,6 +22,7 @@ pub struct Seated<'a, L: Ledger, R: Wait> {
     desk: &'a Desk<L>,
     seat: Seat<L>,
     passed: Vec<Action>,
+    programs: Programs,
 }
 
 impl<'a, L: Ledger, R: Wait> Model for Seated<'a, L, R> {
@@ -44,6 +43,7 @@ impl<'a, L: Ledger, R: Wait> Seated<'a, L, R> {
             desk,
             seat,
             passed: Vec::new(alloc),
+            programs: Programs::new(),
         }
     }
 
@@ -58,12 +58,7 @@ impl<'a, L: Ledger, R: Wait> Seated<'a, L, R> {
     pub fn into_seat(self) -> Seat<L>
         ensures { result ≡ self.entry.seat }
     {
-        let Seated {
-            rt: _,
-            desk: _,
-            seat,
-            passed: _,
-        } = self;
+        let Seated { seat, .. } = self;
         seat
     }
 }
@@ -82,6 +77,21 @@ impl<'a, L: Ledger, R: Wait> Clerk for Seated<'a, L, R> {
         out: &mut Out,
     ) -> Result<u64, SubmitFault> {
         self.desk.submit(self.rt, alloc, &mut self.seat, event, out)
+    }
+
+    fn submit_judged(
+        &mut self,
+        alloc: Global,
+        judged: &Judged,
+        now: Moment,
+        out: &mut Out,
+    ) -> Result<u64, SubmitFault> {
+        self.desk
+            .submit_judged(self.rt, alloc, &mut self.seat, judged, now, out)
+    }
+
+    fn programs(&mut self) -> Result<Slots, NoMemory> {
+        self.programs.read(self.rt, self.desk)
     }
 
     fn pass(&mut self, alloc: Global, action: &Action) -> Result<(), NoMemory> {

@@ -1,0 +1,23 @@
+use Rattle.std.proofs.Common.{◌<◌, ◌≤◌, ◌∙◌, ap, ◌++◌, [], ◌∷◌, map, subst, sym, length, arith}
+use Rattle.std.proofs.lemmas.List.{map-append}
+use Rattle.node_core.specs.Happening.{happening}
+use Rattle.node_book.specs.Book.{Book, count_of}
+use Rattle.node_book.specs.Kept.{book_of}
+use Rattle.node_book.specs.Entries.{entry_of}
+use Rattle.node_book.proofs.Legal.{legal-push}
+use Rattle.node_book.proofs.booked.Booked.enter_judged.Goals as goal
+
+pub invariant_of-self-2 : goal.invariant_of-self-2
+invariant_of-self-2 c =
+    let room : Book → Type 0 = λ b. (length b.entries < b.volume) × (count_of b < 18446744073709551615) in
+    let has = subst room (sym c.self.view_is) c.requires.room in
+    let legal = c.self.invariant.0 in
+    let roomy = c.self.invariant.1 in
+    let capacity = c.push_reserved.ensures.capacity in (
+      legal-push (book_of c.self.inside) _ _ _ _ legal
+          (ap (map entry_of) c.push_reserved.ensures.items ∙ map-append entry_of c.self.inside.kept.items _
+          ∙ (λ i. map entry_of c.self.inside.kept.items ++ ((ap happening c.in_ok-shared.ensures ∙ c.requires.event) i, c.tally-tally.ensures i) ∷ []))
+          (c.append_law.ensures.one _ _ _ _ _ _ _ legal.taken c.in_ok-step_judged.ensures.taken)
+          has.0 has.1,
+      (omega (arith, capacity, roomy)),
+    )
