@@ -3,10 +3,11 @@ ghost use Rattle.std.specs.Prelude.{◌≡◌, ◌≤◌, ◌+◌, ◌∷◌, []
 ghost use Rattle.std.specs.Option.{option_map};
 ghost use Rattle.std.specs.Arc.{arc_value};
 ghost use Rattle.pending_fetch.specs.Fetches.{fetch_of};
-ghost use Rattle.node_core.specs.Happening.{happening};
+ghost use Rattle.node_core.specs.Happening.{arrives, happening};
 ghost use Rattle.node_book.specs.Told.{Told, Submits, passing};
 
 use crate::fixtures::{ALONE, FIVE, Step, WAITS, ask, at, has_replied, lone, pumped, wire_of};
+use filter_slots::{Judged, Moment, Slots};
 use mio_queries::{NoMemory, PumpFault};
 use node_book::{Clerk, Lone, SubmitFault};
 use node_core::{Action, Event, Out};
@@ -52,6 +53,21 @@ impl Clerk for Limited {
     ) -> Result<u64, SubmitFault> {
         self.count()?;
         self.lone.submit(alloc, event, out)
+    }
+
+    fn submit_judged(
+        &mut self,
+        alloc: Global,
+        judged: &Judged,
+        now: Moment,
+        out: &mut Out,
+    ) -> Result<u64, SubmitFault> {
+        self.count()?;
+        self.lone.submit_judged(alloc, judged, now, out)
+    }
+
+    fn programs(&mut self) -> Result<Slots, NoMemory> {
+        self.lone.programs()
     }
 
     fn pass(&mut self, alloc: Global, action: &Action) -> Result<(), NoMemory> {

@@ -1,8 +1,15 @@
 //! What a worker does where its clerk refuses.
+ghost use Rattle.std.specs.Prelude.{◌≡◌, ◌≤◌, ◌+◌, ◌∷◌, [], IfOk, IfSome, OnOk, OnErr, IsErrOf};
+ghost use Rattle.std.specs.Option.{option_map};
+ghost use Rattle.std.specs.Arc.{arc_value};
+ghost use Rattle.pending_fetch.specs.Fetches.{fetch_of};
+ghost use Rattle.node_core.specs.Happening.{arrives, happening};
+ghost use Rattle.node_book.specs.Told.{Told, Submits, passing};
+
 use crate::nodes::{Echo, job_of, node_of, request};
 use crossbeam_channel::unbounded;
 use fetch_worker::{Job, WorkFault, work};
-use filter_slots::Moment;
+use filter_slots::{Judged, Moment, Slots};
 use node_book::{Clerk, Gate, Lone, SubmitFault};
 use node_core::{Action, Answer, Event, Mode, NoMemory, Out, Outcome};
 use object_store::CacheKey;
@@ -45,7 +52,9 @@ fn takes_one(left: &mut u32) -> bool {
 
 impl Refusing {
     /// Whether an event is to be refused. What was handed in is kept.
-    fn refuses(&mut self, event: &Event) -> bool {
+    fn refuses(&mut self, event: &Event) -> bool
+        ensures { self.new.lone ≡ self.old.lone }
+    {
         let Event::Fetched {
             fetch,
             attempt,
@@ -82,6 +91,20 @@ impl Clerk for Refusing {
             return Err(SubmitFault::NoMemory);
         }
         self.lone.submit(alloc, event, out)
+    }
+
+    fn submit_judged(
+        &mut self,
+        alloc: Global,
+        judged: &Judged,
+        now: Moment,
+        out: &mut Out,
+    ) -> Result<u64, SubmitFault> {
+        self.lone.submit_judged(alloc, judged, now, out)
+    }
+
+    fn programs(&mut self) -> Result<Slots, NoMemory> {
+        self.lone.programs()
     }
 
     fn pass(&mut self, alloc: Global, action: &Action) -> Result<(), NoMemory> {
