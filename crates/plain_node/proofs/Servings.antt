@@ -5,7 +5,9 @@ use Rattle.std.proofs.lemmas.List.{take_more, take_all, map-append}
 use Rattle.std.proofs.lemmas.Option.{slice_get_within, get_or_from_slice_get, slice_get_cases}
 use Rattle.plain_node.specs.declared.action.Action.{Action}
 use Rattle.plain_node.specs.declared.action.Action.TheVariants.{Serve}
+use Rattle.object_store.specs.declared.object.SharedObject.{SharedObject}
 use Rattle.plain_node.specs.declared.action.Answer.{Answer}
+use Rattle.plain_node.specs.declared.action.Answer.TheVariants.{Got}
 use Rattle.plain_node.specs.PlainNode.{serves}
 
 -- one more client is told
@@ -14,6 +16,11 @@ served-more answer first out next waiters i d client so_far lt is more =
     let taken : take (i + 1) waiters ≡ take i waiters ++ client ∷ [] = take_more waiters i d lt ∙ ap (λ x. take i waiters ++ x ∷ []) (sym is) in
     let served : serves answer (take (i + 1) waiters) ≡ serves answer (take i waiters) ++ Serve client answer ∷ [] = ap (serves answer) taken ∙ map-append (λ (c : ℕ). Serve c answer) (take i waiters) (client ∷ []) in
     more ∙ ap (λ x. x ++ Serve client answer ∷ []) so_far ∙ append_assoc first (serves answer (take i waiters)) (Serve client answer ∷ []) ∙ ap (λ x. first ++ x) (sym served)
+
+-- one more client is told of an object, by another that is equal to it
+pub served-equal : (first out next : List Action) (waiters : List ℕ) (i d client : ℕ) (object other : SharedObject) → out ≡ first ++ serves (Got object) (take i waiters) → i < length waiters → client ≡ get_or waiters i d → next ≡ out ++ Serve client (Got other) ∷ [] → other ≡ object → next ≡ first ++ serves (Got object) (take (i + 1) waiters)
+served-equal first out next waiters i d client object other so_far lt is more equal =
+    served-more (Got object) first out next waiters i d client so_far lt is (more ∙ ap (λ (it : SharedObject). out ++ Serve client (Got it) ∷ []) equal)
 
 -- one more of a list is mapped
 pub mapped-more : {A B : Type 0} (f : A → B) (out next : List B) (xs : List A) (i : ℕ) (x : A) → out ≡ map f (take i xs) → slice_get xs i ≡ Some x → next ≡ out ++ f x ∷ [] → (next ≡ map f (take (i + 1) xs)) × (i + 1 ≤ length xs)
