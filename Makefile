@@ -10,17 +10,13 @@
 #   make load    a mixed load for eleven minutes (it needs wrk, curl and a C compiler)
 #   make bench   measures (it needs valgrind; wrk, nginx and squid where they are)
 #   make sweep   refuses each request for memory of each script case once; `make test` does a part of them
-#   make storm   has two nodes take 100,000,000 events by chance, one with filters and one without; `make test` 300,000
 
 PROGRAM = crates/cache_main/out/cache_main
 SCRIPT ?= examples/first_path.script
 
 CONFIG ?= examples/serve.json
 
-SEED ?=
-EVENTS ?= 100000000
-
-.PHONY: serve group feed build test cases documents loopback hostile slow interop load edits bench sweep storm
+.PHONY: serve group feed build test cases documents loopback hostile slow interop load edits bench sweep
 
 feed:
 	@tools/feed $(SCRIPT)
@@ -66,9 +62,6 @@ hostile:
 sweep:
 	@tools/sweep $(PROGRAM) cases
 
-storm:
-	@tools/build --quiet storm
-	@tools/storm $(EVENTS) $(SEED)
 
 edits:
 	@tools/edits
