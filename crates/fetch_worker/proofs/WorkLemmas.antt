@@ -5,12 +5,13 @@ use Rattle.std.proofs.lemmas.List.Elements.{filter-append}
 use Rattle.plain_node.specs.declared.action.Action.{Action}
 use Rattle.plain_node.specs.Memory.{is_no_send}
 use Rattle.node_book.specs.Told.{Told, passing}
-use Rattle.fetch_worker.specs.Working.{AnswersJob, AnswersJobs, Breaks, Stops}
+use Rattle.plain_node.specs.declared.event.Outcome.{Outcome}
+use Rattle.fetch_worker.specs.Working.{Submitted, FailsUnknown, Answered, AnswersJob, AnswersJobs, Breaks, Stops}
 
 -- one more job
 pub jobs-more : (a b c : Option Told) (jobs : List Action) (job : Action) → AnswersJobs a b jobs → AnswersJob b c job [] → AnswersJobs a c (jobs ++ job ∷ [])
 jobs-more a b c [] job p q = (c, subst (λ (x : Option Told). AnswersJob x c job []) p q, refl)
-jobs-more a b c (first ∷ jobs) job p q = (p.1, p.2.1, jobs-more p.1 b c jobs job p.2.2 q)
+jobs-more a b c (first ∷ jobs) job p q = (p.0, p.1, jobs-more p.0 b c jobs job p.2 q)
 
 passing-twice : (a b c : Option Told) (xs ys : List Action) → b ≡ option_map (passing xs) a → c ≡ option_map (passing ys) b → c ≡ option_map (passing (xs ++ ys)) a
 passing-twice None b c xs ys p q = q ∙ ap (option_map (passing ys)) p
@@ -33,4 +34,19 @@ front-left actions n = ap (filter is_no_send) (sym (take-append-drop n actions))
 -- a job that was not answered whole is some job
 pub breaks-stops : (a b : Option Told) (job : Action) → Breaks a b job → Stops a b
 breaks-stops a b job (inl same) = inl same
-breaks-stops a b job (inr some) = inr (job, some.1, some.2)
+breaks-stops a b job (inr some) = inr (job, some.0, some.1)
+
+-- a result was taken, and of its actions a front was passed on
+pub answered-in-part : (before mid between after : Option Told) (fetch attempt : ℕ) (outcome : Outcome) (actions shown done left : List Action)
+    → mid ≡ before → FailsUnknown before fetch outcome → Submitted mid between fetch attempt outcome actions → shown ≡ actions
+    → filter is_no_send shown ≡ done ++ left → after ≡ option_map (passing done) between → Answered before after fetch attempt left
+answered-in-part before mid between after fetch attempt outcome actions shown done left same unknown taken is front passed = record {
+  between = between;
+  outcome = outcome;
+  actions = actions;
+  done = done;
+  taken = subst (λ (x : Option Told). Submitted x between fetch attempt outcome actions) same taken;
+  unknown = unknown;
+  front = ap (filter is_no_send) (sym is) ∙ front;
+  passed = passed;
+}

@@ -16,7 +16,7 @@ pub record Submitted (before after : Option Told) (fetch attempt : ℕ) (outcome
   pub now : ℕ
   pub number : ℕ
   pub taken : Submits before after number (ends fetch attempt said now) actions
-  pub outcome : (said ≡ outcome) ⊎ (said ≡ Failed)
+  pub kept : (said ≡ outcome) ⊎ (said ≡ Failed)
 
 -- where the clerk tells, a fetch that isn't pending has failed
 abbrev pub FailsUnknown : Option Told → ℕ → Outcome → Type 0

@@ -12,13 +12,13 @@ returns-in_err-pass_one-clause-some g c =
       filter is_no_send (take n c.args.actions.now),
       filter is_no_send (drop n c.args.actions.now),
       front-left c.args.actions.now n,
-      c.in_err-pass_one.ensures.refused ∙ c.loop-action.invariant.1,
+      c.in_err-pass_one.ensures.refused ∙ c.loop-action.invariant.0,
     )
 
 pub loop-action-preserved : goal.loop-action-preserved
 loop-action-preserved g c = (
   passes-more (g.C.Clerk.told c.args.clerk.now) (g.C.Clerk.told c.loop-action.clerk) (g.C.Clerk.told c.pass_one.new.clerk)
       c.args.actions.now c.action-item.result c.loop-action.action-index
-      (omega arith) c.action-item.is c.loop-action.invariant.1 c.in_ok-pass_one.ensures.done,
-  c.pass_one.ensures.same ∙ c.loop-action.invariant.2,
+      (omega arith) c.action-item.is c.loop-action.invariant.0 c.in_ok-pass_one.ensures.done,
+  c.pass_one.ensures.same ∙ c.loop-action.invariant.1,
 )

@@ -8,7 +8,17 @@ loop-answered-init g c = ([], refl)
 
 pub loop-answered-preserved : goal.loop-answered-preserved
 loop-answered-preserved g c = (
-  c.loop-answered.invariant.1 ++ c.job.action ∷ [],
+  c.loop-answered.invariant.0 ++ c.in-Ok.job.action ∷ [],
   jobs-more (g.C.Clerk.told c.args.clerk.now) (g.C.Clerk.told c.loop-answered.clerk) (g.C.Clerk.told c.answer.new.clerk)
-      c.loop-answered.invariant.1 c.job.action c.loop-answered.invariant.2 c.in_ok-answer.ensures.answered,
+      c.loop-answered.invariant.0 c.in-Ok.job.action c.loop-answered.invariant.1 c.in_ok-answer.ensures.answered,
 )
+
+pub returns-in_err-answer-clause-some : goal.returns-in_err-answer-clause-some
+returns-in_err-answer-clause-some g c =
+    let p = err_from_is_err_and c.from_residual-in_err-answer.result c.from_residual-in_err-answer.ensures.1 in
+    rw p.1 (
+      c.loop-answered.invariant.0,
+      g.C.Clerk.told c.loop-answered.clerk,
+      c.loop-answered.invariant.1,
+      breaks-stops (g.C.Clerk.told c.loop-answered.clerk) (g.C.Clerk.told c.answer.new.clerk) c.in-Ok.job.action c.in_err-answer.ensures.refused,
+    )
