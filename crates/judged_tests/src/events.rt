@@ -25,6 +25,12 @@ pub(crate) const QUERY: &[u8] =
 pub(crate) const MISS: &[u8] =
     b"\x03\x02\x00\x1e\x00\x00\x00\x01\x00\x00\x00\x00\x00\x00\x00\x00\x0a\x00\x00\x01http://a/\x00";
 
+/// Where the node answers by HTCP.
+const OWN_HTCP: End = End {
+    addr: [10, 0, 0, 1],
+    port: 4827,
+};
+
 /// The settings of a node at 10.0.0.1, which answers 10.0.0.0/8.
 fn settings(alloc: Global) -> Option<Config> {
     let mut allowed = Vec::new(alloc);
@@ -35,10 +41,7 @@ fn settings(alloc: Global) -> Option<Config> {
     allowed.push(ten).ok()?;
     Some(Config {
         icp: OWN,
-        htcp: End {
-            addr: OWN.addr,
-            port: 4827,
-        },
+        htcp: OWN_HTCP,
         allowed,
         miss_nofetch: false,
         origin: true,
