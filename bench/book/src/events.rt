@@ -19,7 +19,7 @@ const OWN_HTCP: End = End {
 
 /// The front of an ICP query.
 const FRONT: &[u8] =
-    b"\x01\x02\x00\x24\x00\x00\x00\x01\x00\x00\x00\x00\x00\x00\x00\x00\x00\x00\x00\x00\x00\x00\x00\x00";
+    b"\x01\x02\x00\x23\x00\x00\x00\x01\x00\x00\x00\x00\x00\x00\x00\x00\x00\x00\x00\x00\x00\x00\x00\x00";
 
 /// What a node is given over and over.
 #[derive(Clone, Copy, PartialEq, Eq)]
@@ -30,8 +30,12 @@ pub enum Kind {
     Hit,
     /// A client's request for what is stored.
     Served,
-    /// A query that the filter rejects.
+    /// A query that a filter of one instruction rejects.
     Rejected,
+    /// A query for what isn't stored, which a filter of 512 instructions accepts.
+    LongMiss,
+    /// A query that a filter of 512 instructions rejects.
+    LongRejected,
     /// A tick with nothing due.
     Timer,
 }
@@ -43,6 +47,8 @@ pub fn kind_of(name: &str) -> Option<Kind> {
         "hit" => Some(Kind::Hit),
         "served" => Some(Kind::Served),
         "rejected" => Some(Kind::Rejected),
+        "long_miss" => Some(Kind::LongMiss),
+        "long_rejected" => Some(Kind::LongRejected),
         "timer" => Some(Kind::Timer),
         _ => None,
     }
@@ -69,16 +75,30 @@ fn settings(alloc: Global, entries: u32) -> Option<Config> {
     })
 }
 
-/// A filter that rejects each datagram.
-fn rejecting(alloc: Global) -> Option<Arc<Checked>> {
-    let insn = Insn {
-        code: 6,
+/// The filter of a node for a kind of event, where it has one.
+fn filter_of(alloc: Global, kind: Kind) -> Option<Arc<Checked>> {
+    let (loads, taken) = match kind {
+        Kind::Rejected => (0u32, 0),
+        Kind::LongMiss => (511u32, u32::MAX),
+        Kind::LongRejected => (511u32, 0),
+        _ => return None,
+    };
+    let mut insns = Vec::new(alloc);
+    for _ in 0..loads {
+        insns.push(insn(0, 1)).ok()?;
+    }
+    insns.push(insn(6, taken)).ok()?;
+    Arc::new(alloc, check(insns).ok()?).ok()
+}
+
+/// An instruction that doesn't jump.
+fn insn(code: u16, k: u32) -> Insn {
+    Insn {
+        code,
         jt: 0,
         jf: 0,
-        k: 0,
-    };
-    let program = check([insn].to_vec(alloc).ok()?).ok()?;
-    Arc::new(alloc, program).ok()
+        k,
+    }
 }
 
 /// `http://a/` and a number.
@@ -115,7 +135,7 @@ fn fetched(alloc: Global, fetch: u32) -> Option<Event> {
 }
 
 /// A query for `http://a/` and a digit.
-fn query(alloc: Global, digit: u8) -> Option<Event> {
+fn query(alloc: Global, digit: u8) -> Option<Arc<Datagram>> {
     let from = End {
         addr: [10, 0, 0, 9],
         port: 3130,
@@ -125,19 +145,32 @@ fn query(alloc: Global, digit: u8) -> Option<Event> {
     payload.push(digit).ok()?;
     payload.push(0).ok()?;
     let datagram = Datagram::new(Socket::Icp, from, OWN, payload).ok()?;
-    let datagram = Arc::new(alloc, datagram).ok()?;
-    let now = Moment::new(5_000)?;
-    Some(Event::Datagram { datagram, now })
+    Arc::new(alloc, datagram).ok()
+}
+
+/// The datagram of a kind, where it is one of datagrams.
+pub fn datagram_of(alloc: Global, kind: Kind) -> Option<Arc<Datagram>> {
+    match kind {
+        Kind::Miss | Kind::LongMiss => query(alloc, b'x'),
+        Kind::Hit | Kind::Rejected | Kind::LongRejected => query(alloc, b'0'),
+        Kind::Served | Kind::Timer => None,
+    }
+}
+
+/// When all events are.
+pub fn moment() -> Option<Moment> {
+    Moment::new(5_000)
 }
 
 /// An event of a kind.
 pub fn event_of(alloc: Global, kind: Kind) -> Option<Event> {
+    let now = moment()?;
     match kind {
-        Kind::Miss => query(alloc, b'x'),
-        Kind::Hit | Kind::Rejected => query(alloc, b'0'),
         Kind::Served => request(alloc, 7, 0),
-        Kind::Timer => Some(Event::Timer {
-            now: Moment::new(5_000)?,
+        Kind::Timer => Some(Event::Timer { now }),
+        _ => Some(Event::Datagram {
+            datagram: datagram_of(alloc, kind)?,
+            now,
         }),
     }
 }
@@ -160,12 +193,20 @@ fn fill(alloc: Global, node: &mut Node, entries: u32) -> Option<()> {
 pub fn node_of(alloc: Global, kind: Kind, entries: u32) -> Option<Node> {
     let mut node = Node::new(alloc, settings(alloc, entries)?).ok()?;
     fill(alloc, &mut node, entries)?;
-    if kind == Kind::Rejected {
+    if has_filter(kind) {
         let mut out = Out::new(alloc).ok()?;
-        let program = Some(rejecting(alloc)?);
+        let program = Some(filter_of(alloc, kind)?);
         let socket = Socket::Icp;
         node.step(alloc, &Event::Swap { socket, program }, &mut out)
             .ok()?;
     }
     Some(node)
+}
+
+/// Whether the node for a kind of event has a filter.
+fn has_filter(kind: Kind) -> bool {
+    match kind {
+        Kind::Rejected | Kind::LongMiss | Kind::LongRejected => true,
+        _ => false,
+    }
 }

@@ -5,6 +5,7 @@ mod alone;
 mod events;
 mod holds;
 mod seats;
+mod under;
 
 use events::{Kind, kind_of};
 use holds::{Holds, Times, hold_all};
@@ -15,6 +16,7 @@ use std::process::ExitCode;
 use std::sync::ledger::Blank;
 use std::time::Duration;
 use std::{env, io};
+use under::{judged, under};
 
 /// What is to be measured.
 #[derive(Clone, Copy)]
@@ -36,6 +38,14 @@ enum Work {
         count: u32,
     },
     Submit {
+        kind: Kind,
+        count: u32,
+    },
+    Under {
+        kind: Kind,
+        count: u32,
+    },
+    Judged {
         kind: Kind,
         count: u32,
     },
@@ -62,6 +72,14 @@ fn main(rt: HostRuntime) -> ExitCode {
         }
         Some(Work::Submit { kind, count }) => {
             let taken = submit::<Brand, _>(&rt, alloc, Blank::new(1), kind, count);
+            print_count(&rt, taken)
+        }
+        Some(Work::Under { kind, count }) => {
+            let taken = under::<Brand>(alloc, Blank::new(1), kind, count);
+            print_count(&rt, taken)
+        }
+        Some(Work::Judged { kind, count }) => {
+            let taken = judged::<Brand>(alloc, Blank::new(1), kind, count);
             print_count(&rt, taken)
         }
         Some(
@@ -94,7 +112,7 @@ fn main(rt: HostRuntime) -> ExitCode {
 
 fn tell_usage(rt: &HostRuntime) -> ExitCode {
     let _ = eprintln!(rt;
-        "usage: book_bench step|take|keep|submit KIND COUNT 0 | turn 0 ENTRIES COUNT | threads KIND COUNT THREADS | holds VOLUME ENTRIES COUNT"
+        "usage: book_bench step|take|keep|submit|under|judged KIND COUNT 0 | turn 0 ENTRIES COUNT | threads KIND COUNT THREADS | holds VOLUME ENTRIES COUNT"
     );
     ExitCode::FAILURE
 }
@@ -133,6 +151,8 @@ fn work_by(mode: &str, kind: Kind, count: u32, second: u32) -> Option<Work> {
         "take" => Some(Work::Take { kind, count }),
         "keep" => Some(Work::Keep { kind, count }),
         "submit" => Some(Work::Submit { kind, count }),
+        "under" => Some(Work::Under { kind, count }),
+        "judged" => Some(Work::Judged { kind, count }),
         "threads" => Some(Work::Threads {
             kind,
             count,

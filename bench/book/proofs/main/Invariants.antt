@@ -8,3 +8,9 @@ ghosts-threads g a = record { name = a.blank.name; parts = a.blank.parts }
 
 abbrev pub ghosts-hold_all : goal.ghosts-hold_all
 ghosts-hold_all g a = record { name = a.blank.name; parts = a.blank.parts }
+
+abbrev pub ghosts-under : goal.ghosts-under
+ghosts-under g a = record { name = a.blank.name; parts = a.blank.parts }
+
+abbrev pub ghosts-judged : goal.ghosts-judged
+ghosts-judged g a = record { name = a.blank.name; parts = a.blank.parts }
