@@ -1,0 +1,11 @@
+//! Tests of the query loop: over wires in memory, for a node by itself and for the seats of a desk.
+#![tactic(auto)]
+
+#[cfg(test)]
+mod desks;
+#[cfg(test)]
+mod fixtures;
+#[cfg(test)]
+mod passing;
+#[cfg(test)]
+mod scripted;

@@ -1,0 +1,118 @@
+//! Pumping over wires in memory whose answers and failures are written down.
+use crate::fixtures::{ALONE, Step, has_replied, lone, pumped, wire_of};
+use mio_queries::{PumpFault, Pumped, WireFault};
+use std::alloc::Global;
+use std::test::Fail;
+
+/// What pumping over a wire gives, to which queries replies were sent, and how many events a lone node has judged.
+struct Row {
+    steps: &'static [Step],
+    failing: &'static [bool],
+    turns: u32,
+    gives: Result<Pumped, PumpFault>,
+    replied: &'static [usize],
+    judged: u64,
+}
+
+const ROWS: [Row; 7] = [
+    Row {
+        steps: &[Step::Query(0), Step::Idle(6), Step::Idle(7)],
+        failing: &[],
+        turns: 3,
+        gives: Ok(Pumped {
+            received: 1,
+            idle: 2,
+            sent: 1,
+            failed: 0,
+        }),
+        replied: &[0],
+        judged: 1,
+    },
+    // The first send fails.
+    Row {
+        steps: &[Step::Query(0), Step::Idle(6), Step::Idle(7)],
+        failing: &[true],
+        turns: 3,
+        gives: Ok(Pumped {
+            received: 1,
+            idle: 2,
+            sent: 0,
+            failed: 1,
+        }),
+        replied: &[],
+        judged: 1,
+    },
+    // The last turn's reply is sent too.
+    Row {
+        steps: &[Step::Query(0)],
+        failing: &[],
+        turns: 1,
+        gives: Ok(Pumped {
+            received: 1,
+            idle: 0,
+            sent: 1,
+            failed: 0,
+        }),
+        replied: &[0],
+        judged: 1,
+    },
+    Row {
+        steps: &[Step::Query(0)],
+        failing: &[],
+        turns: 0,
+        gives: Ok(Pumped {
+            received: 0,
+            idle: 0,
+            sent: 0,
+            failed: 0,
+        }),
+        replied: &[],
+        judged: 0,
+    },
+    Row {
+        steps: &[Step::Query(0), Step::Fault(WireFault::Io), Step::Query(1)],
+        failing: &[],
+        turns: 3,
+        gives: Err(PumpFault::Receive),
+        replied: &[0],
+        judged: 1,
+    },
+    Row {
+        steps: &[
+            Step::Query(0),
+            Step::Fault(WireFault::NoMemory),
+            Step::Query(1),
+        ],
+        failing: &[],
+        turns: 3,
+        gives: Err(PumpFault::NoMemory),
+        replied: &[0],
+        judged: 1,
+    },
+    // What was given is at its end.
+    Row {
+        steps: &[Step::Query(0)],
+        failing: &[],
+        turns: 2,
+        gives: Err(PumpFault::Receive),
+        replied: &[0],
+        judged: 1,
+    },
+];
+
+/// Whether pumping gives what a row says.
+fn holds(alloc: Global, row: &Row) -> Result<bool, Fail> {
+    let mut wire = wire_of(alloc, row.steps, row.failing)?;
+    let mut clerk = lone(alloc, ALONE)?;
+    let gives = pumped(alloc, &mut wire, &mut clerk, row.turns);
+    let judged = clerk.node().stats().icp.judged;
+    Ok(gives == row.gives && has_replied(&wire, row.replied) && judged == row.judged)
+}
+
+#[test]
+fn rows_hold(rt: HostRuntime) -> Result<(), Fail> {
+    for row in &ROWS {
+        assert!(rt; holds(rt.alloc(), row)?);
+    }
+    Ok(())
+}
