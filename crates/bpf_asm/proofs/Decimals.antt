@@ -8,7 +8,7 @@ use Rattle.std.specs.Str.{all_ascii_digits, bytes_eq}
 use Rattle.std.proofs.lemmas.Bool.Decides.{nat_tests}
 use Rattle.std.proofs.lemmas.Fmt.{digits_decimal, digits_value-decimal, decimal_nonempty}
 use Rattle.std.proofs.lemmas.Str.Parse.{IsNumeralModel, numerals_by_fold}
-use Rattle.bpf_asm.specs.Token.{is_word_octet, first_two, is_numeral}
+use Rattle.bpf_asm.specs.Token.{is_word_octet, first_two, is_number_text}
 use Rattle.bpf_asm.specs.Number.{digit_value, value_after, IsNumber}
 
 abbrev read_on : ℕ → List ℕ → ℕ
@@ -76,8 +76,8 @@ no_hexadecimal (a ∷ b ∷ cs) h =
     ∙ ap (λ (t : Bool). nat_eq a 48 && (t && true)) (digit_apart b 120 q.0 refl)
     ∙ and_false (nat_eq a 48)
 
-pub decimal_numeral : (n : ℕ) → n < 2 ^ 64 → is_numeral (decimal n) ≡ true
-unfolding is_numeral
+pub decimal_numeral : (n : ℕ) → n < 2 ^ 64 → is_number_text (decimal n) ≡ true
+unfolding is_number_text
 decimal_numeral n h = rw (no_hexadecimal (decimal n) (decimal_digits n h)) (decimal_digits n h)
 
 pub decimal_number : (n : ℕ) → n < 2 ^ 32 → IsNumber (decimal n) n

@@ -8,7 +8,7 @@ use Rattle.std.specs.Str.{bytes_eq}
 use Rattle.std.proofs.lemmas.Slice.Eq.{bytes_eq-Decides}
 use Rattle.bpf_asm.specs.declared.form.Piece.{Piece}
 use Rattle.bpf_asm.specs.declared.form.Piece.TheVariants.{Number, Label}
-use Rattle.bpf_asm.specs.Token.{ended, is_numeral, starts_word, is_label}
+use Rattle.bpf_asm.specs.Token.{ended, is_number_text, starts_word, is_label}
 use Rattle.bpf_asm.specs.Spelling.{Kind, a_number, a_label, exactly, kind, kinds, spelled_with, AreOpen}
 use Rattle.bpf_asm.specs.Reading.{Front, number_front, label_front, left_of, fill, open_places}
 
@@ -31,7 +31,7 @@ number_took : (ts : List (List ℕ)) (x : Front) → number_front ts ≡ Some x 
 number_took [] x e = let p = front_same [] [] x e in rw (← p.0, ← p.1) refl
 number_took ([] ∷ ts) x e = absurd (cc)
 number_took ((c ∷ cs) ∷ ts) x e =
-    elim (chosen (is_numeral (c ∷ cs)) _ _ x e) [
+    elim (chosen (is_number_text (c ∷ cs)) _ _ x e) [
       | inl h ↦ (let p = front_same (c ∷ cs) ts x h.1 in rw (← p.0, ← p.1) refl)
       | inr h ↦ elim (chosen (starts_word (c ∷ cs)) None _ x h.1) [
         | inl g ↦ absurd (let k = g.1 in cc)
@@ -70,15 +70,15 @@ read_spelled (exactly token ∷ ks) ts ws e =
     let p = and_then (left_of token ts) (λ left. fill ks left) ws e in
     exact_took token ts p.0 p.1 ∙ ap (λ (us : List (List ℕ)). token ∷ us) (read_spelled ks p.0 ws p.2)
 
-empty_numeral : is_numeral [] ≡ true
-unfolding is_numeral
+empty_numeral : is_number_text [] ≡ true
+unfolding is_number_text
 empty_numeral = refl
 
-number_is : (ts : List (List ℕ)) (x : Front) → number_front ts ≡ Some x → is_numeral x.word ≡ true
+number_is : (ts : List (List ℕ)) (x : Front) → number_front ts ≡ Some x → is_number_text x.word ≡ true
 number_is [] x e = let p = front_same [] [] x e in rw (← p.0) empty_numeral
 number_is ([] ∷ ts) x e = absurd (cc)
 number_is ((c ∷ cs) ∷ ts) x e =
-    elim (chosen (is_numeral (c ∷ cs)) _ _ x e) [
+    elim (chosen (is_number_text (c ∷ cs)) _ _ x e) [
       | inl h ↦ (let p = front_same (c ∷ cs) ts x h.1 in rw (← p.0) h.0)
       | inr h ↦ elim (chosen (starts_word (c ∷ cs)) None _ x h.1) [
         | inl g ↦ absurd (let k = g.1 in cc)

@@ -12,7 +12,7 @@ use Rattle.bpf_asm.specs.declared.fault.AsmFault.TheVariants as faults
 use Rattle.bpf_asm.specs.Spelling.{kinds, AreOpen}
 use Rattle.bpf_asm.specs.Token.{first_two}
 use Rattle.bpf_asm.specs.Number.{IsNumber, SpelledBy}
-use Rattle.bpf_asm.specs.Assembly.{body_of, some_token, has_body, place_of, LabelAt, Leads, Puts, IsInsn, Assembles, labels_in, WrongNumber, IsBranch, BodyFault, LineFault, JumpFault, FaultAt, IsAnswer}
+use Rattle.bpf_asm.specs.Assembly.{body_of, some_token, has_body, place_of, LabelAt, IsAtDistance, Puts, IsInsn, Assembles, labels_in, WrongNumber, IsBranch, BodyFault, LineFault, JumpFault, FaultAt, IsAssemblyFault}
 use Rattle.bpf_asm.proofs.Bodies.{one_body}
 use Rattle.bpf_asm.proofs.Places.{place_less, place_line}
 use Rattle.bpf_asm.proofs.Passes.{is_mnemonic_of, no_empty_fault, first_word}
@@ -43,14 +43,14 @@ no_insn_fault ls place body i line _ is h = h
 -- the labels of an instruction lead to its targets
 record IsLed (ls : List (List (List ℕ))) (place : ℕ) (o : Operation) (label : List ℕ) : Type 0 where
   distance : ℕ
-  lead : Leads ls place label distance
+  lead : IsAtDistance ls place label distance
   near : IsBranch o → distance < 256
 
 none_past : {A : Type 0} (n : ℕ) (x : A) → slice_get [] n ≡ Some x → ⊥
 none_past n x e = absurd (cc)
 
-led : (ls : List (List (List ℕ))) (place : ℕ) (o : Operation) (own label : List ℕ) (distance : ℕ) → own ≡ label → Leads ls place own distance → (IsBranch o → distance < 256) → IsLed ls place o label
-led ls place o own label distance same lead near = record { distance = distance; lead = subst (λ (l : List ℕ). Leads ls place l distance) same lead; near = near }
+led : (ls : List (List (List ℕ))) (place : ℕ) (o : Operation) (own label : List ℕ) (distance : ℕ) → own ≡ label → IsAtDistance ls place own distance → (IsBranch o → distance < 256) → IsLed ls place o label
+led ls place o own label distance same lead near = record { distance = distance; lead = subst (λ (l : List ℕ). IsAtDistance ls place l distance) same lead; near = near }
 
 puts_leads : (ls : List (List (List ℕ))) (place : ℕ) (i : Insn) (o : Operation) (ws : List (List ℕ)) → (i.jt < 2 ^ 8) × (i.jf < 2 ^ 8) → AreOpen (kinds o) ws → Puts ls place i o ws → (j : ℕ) (label : List ℕ) → slice_get (labels_in ws o) j ≡ Some label → IsLed ls place o label
 puts_leads ls place i Jump [] ranges fits puts j label e = absurd fits
@@ -117,7 +117,7 @@ number_same : (w : List ℕ) (m n : ℕ) → IsNumber w m → IsNumber w n → m
 unfolding IsNumber
 number_same w m n p q = spelled_same (bytes_eq (first_two w) (codes "0x")) w m n p.0 q.0
 
-lead_same : (ls : List (List (List ℕ))) (place : ℕ) (label : List ℕ) (d e : ℕ) → ((m n : ℕ) (l : List ℕ) → LabelAt ls m l → LabelAt ls n l → m ≡ n) → Leads ls place label d → Leads ls place label e → d ≡ e
+lead_same : (ls : List (List (List ℕ))) (place : ℕ) (label : List ℕ) (d e : ℕ) → ((m n : ℕ) (l : List ℕ) → LabelAt ls m l → LabelAt ls n l → m ≡ n) → IsAtDistance ls place label d → IsAtDistance ls place label e → d ≡ e
 lead_same ls place label d e one a b = let same = ap (place_of ls) (one a.0 b.0 label a.1 b.1) in let x = a.2 in let y = b.2 in omega arith
 
 zeros : (a b : ℕ) → a ≡ 0 → b ≡ 0 → a ≡ b
@@ -175,10 +175,10 @@ one_program ls p q a b = same_list p q (a.count ∙ sym b.count) same
         let f = some_same (slice_get q k) t.0 j (ap (slice_get q) (sym r.earlier) ∙ t.1) y in
         sym e ∙ one_insn ls (place_of ls r.n) (body_of r.x) s.0 t.0 a.labels s.2 t.2 ∙ f
 
-only_memory : (ls : List (List (List ℕ))) (p : List Insn) (fault : AsmFault) → Assembles ls p → IsAnswer ls fault → fault ≡ faults.NoMemory
+only_memory : (ls : List (List (List ℕ))) (p : List Insn) (fault : AsmFault) → Assembles ls p → IsAssemblyFault ls fault → fault ≡ faults.NoMemory
 only_memory ls p faults.NoMemory is h = refl
 only_memory ls p fault is h = absurd (no_fault ls p h.time fault is h.has)
 
-pub only_answer : {V : Type 0} (items : V → List Insn) (r : Result V AsmFault) (ls : List (List (List ℕ))) → MatchResult r (λ v. Assembles ls (items v)) (λ f. IsAnswer ls f) → (p : List Insn) → Assembles ls p → MatchResult r (λ v. items v ≡ p) (λ f. f ≡ faults.NoMemory)
+pub only_answer : {V : Type 0} (items : V → List Insn) (r : Result V AsmFault) (ls : List (List (List ℕ))) → MatchResult r (λ v. Assembles ls (items v)) (λ f. IsAssemblyFault ls f) → (p : List Insn) → Assembles ls p → MatchResult r (λ v. items v ≡ p) (λ f. f ≡ faults.NoMemory)
 only_answer items (Ok v) ls h p is = one_program ls (items v) p h is
 only_answer items (Err f) ls h p is = only_memory ls p f is h

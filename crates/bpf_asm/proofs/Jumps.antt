@@ -13,7 +13,7 @@ use Rattle.bpf_asm.specs.declared.fault.AsmFault.TheVariants as faults
 use Rattle.bpf_asm.specs.Form.{mnemonic}
 use Rattle.bpf_asm.specs.Spelling.{kinds, AreOpen}
 use Rattle.bpf_asm.specs.Number.{IsNumber}
-use Rattle.bpf_asm.specs.Assembly.{body_of, has_body, place_of, LabelAt, IsBody, Leads, Puts, IsInsn, Assembles, IsBranch, labels_in, LabelFault, BodyFault, LineFault, JumpFault, FaultAt, IsFirstFault, IsAnswer}
+use Rattle.bpf_asm.specs.Assembly.{body_of, has_body, place_of, LabelAt, IsBody, IsAtDistance, Puts, IsInsn, Assembles, IsBranch, labels_in, LabelFault, BodyFault, LineFault, JumpFault, FaultAt, IsFirstFault, IsAssemblyFault}
 use Rattle.bpf_asm.specs.Drafts.{Draft, Keeps, IsDraft, IsTable, NoneBefore, Resolves, IsResolved, labels_kept, FineLabel, WrongLabel, Unresolved, HasInsn, InsnRefused, IsInsnAt}
 use Rattle.bpf_asm.proofs.Bodies.{one_body}
 use Rattle.bpf_asm.proofs.Resolving.{each_pushed}
@@ -66,7 +66,7 @@ resolved_fine look place i d (Branch test side) res (suc (suc j)) l e = absurd (
 resolved_fine look place i d _ res j l e = absurd (none_past j l e)
 
 -- a label that leads to a later place in reach has no fault
-pub led_right : (ls : List (List (List ℕ))) (place : ℕ) (o : Operation) (label : List ℕ) (distance : ℕ) → ((m n : ℕ) → LabelAt ls m label → LabelAt ls n label → m ≡ n) → Leads ls place label distance → (IsBranch o → distance < 256)
+pub led_right : (ls : List (List (List ℕ))) (place : ℕ) (o : Operation) (label : List ℕ) (distance : ℕ) → ((m n : ℕ) → LabelAt ls m label → LabelAt ls n label → m ≡ n) → IsAtDistance ls place label distance → (IsBranch o → distance < 256)
     → (line : ℕ) (fault : AsmFault) → LabelFault ls place o label line fault → ⊥
 led_right ls place o label distance one lead near line (faults.NoLabel k) h = h.1 lead.0 lead.1
 led_right ls place o label distance one lead near line (faults.Backward k) h =
@@ -102,7 +102,7 @@ three m n = grind arith
 no_memory_fault : (ls : List (List (List ℕ))) (time : ℕ) → FaultAt ls time faults.NoMemory → ⊥
 no_memory_fault ls time h = elim h.3 [ inl a ↦ a.1 | inr b ↦ b.wrong ]
 
-pub first_answer : (ls : List (List (List ℕ))) (fault : AsmFault) → IsFirstFault ls fault → IsAnswer ls fault
+pub first_answer : (ls : List (List (List ℕ))) (fault : AsmFault) → IsFirstFault ls fault → IsAssemblyFault ls fault
 first_answer ls faults.NoMemory h = absurd (no_memory_fault ls h.time h.has)
 first_answer ls _ h = h
 
@@ -178,7 +178,7 @@ place_unresolved ls look n line d fault table here is numbered none u = record {
     ]
 
 -- the body of a line that is refused when all lines were read
-pub insn_answer : (ls : List (List (List ℕ))) (look : List ℕ → Option ℕ) (n place at : ℕ) (line : List (List ℕ)) (fault : AsmFault) → IsTable ls (length ls) look → slice_get ls n ≡ Some line → place ≡ place_of ls n → at ≡ n + 1 → NoneBeforePlace ls place → InsnRefused look place at (body_of line) fault → IsAnswer ls fault
+pub insn_answer : (ls : List (List (List ℕ))) (look : List ℕ → Option ℕ) (n place at : ℕ) (line : List (List ℕ)) (fault : AsmFault) → IsTable ls (length ls) look → slice_get ls n ≡ Some line → place ≡ place_of ls n → at ≡ n + 1 → NoneBeforePlace ls place → InsnRefused look place at (body_of line) fault → IsAssemblyFault ls fault
 insn_answer ls look n place at line fault table here place_is at_is none h = first_answer ls fault (elim h [
   | inl a ↦ absurd (let low = none (3 * n + 1) fault (n, line, here, inl (body_line fault (subst (λ (k : ℕ). BodyFault (body_of line) k fault) at_is a))) in let within = slice_get_within ls n line here in omega arith)
   | inr u ↦ place_unresolved ls look n line u.0 fault table here u.1 (u.2 ∙ at_is) (subst (NoneBeforePlace ls) place_is none) (subst (λ (k : ℕ). Unresolved look k u.0 fault) place_is u.3)
@@ -199,7 +199,7 @@ none_found ls none time fault f = elim f.3 [
 
 -- ---- the program
 
-leads : (ls : List (List (List ℕ))) (look : List ℕ → Option ℕ) (place : ℕ) (own label : List ℕ) (distance : ℕ) → IsTable ls (length ls) look → own ≡ label → look own ≡ Some (place + 1 + distance) → Leads ls place label distance
+leads : (ls : List (List (List ℕ))) (look : List ℕ → Option ℕ) (place : ℕ) (own label : List ℕ) (distance : ℕ) → IsTable ls (length ls) look → own ≡ label → look own ≡ Some (place + 1 + distance) → IsAtDistance ls place label distance
 leads ls look place own label distance table same e = let f = table.found label (place + 1 + distance) (ap look (sym same) ∙ e) in (f.0, f.2, f.3)
 
 resolved_puts : (ls : List (List (List ℕ))) (look : List ℕ → Option ℕ) (place : ℕ) (i : Insn) (d : Draft) (o : Operation) (ws : List (List ℕ)) → IsTable ls (length ls) look → AreOpen (kinds o) ws → Keeps d o ws → Resolves look place i d o → Puts ls place i o ws

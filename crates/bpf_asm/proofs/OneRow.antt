@@ -8,7 +8,7 @@ use Rattle.bpf_check.specs.declared.operation.Operation.{Operation}
 use Rattle.bpf_check.specs.declared.operation.Operation.TheVariants.{LoadAbsolute, LoadIndirect, LoadConstant, LoadScratch, LoadLength, IndexConstant, IndexScratch, IndexLength, IndexHeader, StoreAccumulator, StoreIndex, Compute, Negate, Jump, Branch, ReturnConstant, ReturnAccumulator, ToIndex, ToAccumulator}
 use Rattle.bpf_check.specs.Operation.{table}
 use Rattle.bpf_asm.specs.Form.{mnemonic}
-use Rattle.bpf_asm.specs.Token.{is_numeral}
+use Rattle.bpf_asm.specs.Token.{is_number_text}
 use Rattle.bpf_asm.specs.Spelling.{kinds, spelled_with, AreOpen}
 use Rattle.bpf_asm.specs.Reading.{find_row}
 use Rattle.bpf_asm.proofs.Codes.{code_of}
@@ -16,7 +16,7 @@ use Rattle.bpf_asm.proofs.Codes.{code_of}
 -- the words of an operation are read again, with its code
 pub one_row : (operation : Operation) (ws : List (List ℕ)) → AreOpen (kinds operation) ws
     → find_row table (mnemonic operation) (spelled_with (kinds operation) ws) ≡ Some (record { code = code_of operation; operation = operation; words = ws })
-unfolding is_numeral
+unfolding is_number_text
 one_row (LoadAbsolute Word) [] h = absurd h
 one_row (LoadAbsolute Word) ([] ∷ []) h = refl
 one_row (LoadAbsolute Word) ((c ∷ cs) ∷ []) h = rw h.0 refl

@@ -13,8 +13,8 @@ use Rattle.bpf_check.specs.Operation.{operation_of}
 use Rattle.bpf_check.specs.Accepted.{FieldsFit, IsAccepted}
 use Rattle.bpf_asm.specs.Form.{mnemonic}
 use Rattle.bpf_asm.specs.Spelling.{kinds, spelled_with}
-use Rattle.bpf_asm.specs.Text.{label_text, targets_by, targets, holds, is_target, program_text}
-use Rattle.bpf_asm.specs.Assembly.{token_lines, label_of, body_of, has_body, place_of, LabelAt, Leads, Puts, IsInsn, Assembles}
+use Rattle.bpf_asm.specs.Text.{label_text, targets_by, targets, has_number, is_target, program_text}
+use Rattle.bpf_asm.specs.Assembly.{token_lines, label_of, body_of, has_body, place_of, LabelAt, IsAtDistance, Puts, IsInsn, Assembles}
 use Rattle.bpf_check.specs.Insn.{AreInRange}
 use Rattle.bpf_asm.specs.Cleared.{cleared_as, cleared}
 use Rattle.bpf_asm.proofs.Decimals.{decimal_number}
@@ -37,18 +37,18 @@ either : (a b : Bool) → (a || b) ≡ true → (a ≡ true) ⊎ (b ≡ true)
 either true b e = inl refl
 either false b e = inr e
 
-hold_first : (x : ℕ) (ys : List ℕ) → holds x (x ∷ ys) ≡ true
-hold_first x ys = ap (λ (b : Bool). b || holds x ys) (eq-eqb x x refl)
+hold_first : (x : ℕ) (ys : List ℕ) → has_number x (x ∷ ys) ≡ true
+hold_first x ys = ap (λ (b : Bool). b || has_number x ys) (eq-eqb x x refl)
 
-hold_second : (x y : ℕ) → holds x (y ∷ x ∷ []) ≡ true
-hold_second x y = or_right (nat_eq y x) (holds x (x ∷ [])) (hold_first x [])
+hold_second : (x y : ℕ) → has_number x (y ∷ x ∷ []) ≡ true
+hold_second x y = or_right (nat_eq y x) (has_number x (x ∷ [])) (hold_first x [])
 
 same_number : (x y : ℕ) → nat_eq x y ≡ true → x ≡ y
 same_number x y e = grind (arith, nat_tests)
 
-held : (x : ℕ) (ys : List ℕ) → holds x (ys) ≡ true → (n : ℕ) × (y : ℕ) × (slice_get ys n ≡ Some y) × (y ≡ x)
+held : (x : ℕ) (ys : List ℕ) → has_number x (ys) ≡ true → (n : ℕ) × (y : ℕ) × (slice_get ys n ≡ Some y) × (y ≡ x)
 held x [] e = absurd (cc)
-held x (y ∷ ys) e = elim (either (nat_eq y x) (holds x ys) e) [
+held x (y ∷ ys) e = elim (either (nat_eq y x) (has_number x ys) e) [
   | inl p ↦ (0, y, refl, same_number y x p)
   | inr p ↦ (let r = held x ys p in (suc r.0, r.1, r.2, r.3))
 ]
@@ -68,15 +68,15 @@ targets_some : (place : ℕ) (i : Insn) (o : Operation) → targets place i (Som
 unfolding targets
 targets_some place i o = refl
 
-is_target_true : (p : List Insn) (place n t m : ℕ) (i : Insn) → m ≡ place + n → slice_get p n ≡ Some i → holds t (targets m i (operation_of i.code)) ≡ true → is_target t place p ≡ true
+is_target_true : (p : List Insn) (place n t m : ℕ) (i : Insn) → m ≡ place + n → slice_get p n ≡ Some i → has_number t (targets m i (operation_of i.code)) ≡ true → is_target t place p ≡ true
 is_target_true [] place n t m i e found h = absurd (none_past n i found)
 is_target_true (j ∷ is) place zero t m i e found h =
     let same : j ≡ i = cc in
     let here : m ≡ place = omega arith in
-    let own : holds t (targets place j (operation_of j.code)) ≡ true = ap (λ (x : Insn). holds t (targets place x (operation_of x.code))) same ∙ ap (λ (k : ℕ). holds t (targets k i (operation_of i.code))) (sym here) ∙ h in
+    let own : has_number t (targets place j (operation_of j.code)) ≡ true = ap (λ (x : Insn). has_number t (targets place x (operation_of x.code))) same ∙ ap (λ (k : ℕ). has_number t (targets k i (operation_of i.code))) (sym here) ∙ h in
     ap (λ (b : Bool). b || is_target t (place + 1) is) own
 is_target_true (j ∷ is) place (suc n) t m i e found h =
-    or_right (holds t (targets place j (operation_of j.code))) (is_target t (place + 1) is) (is_target_true is (place + 1) n t m i (omega arith) found h)
+    or_right (has_number t (targets place j (operation_of j.code))) (is_target t (place + 1) is) (is_target_true is (place + 1) n t m i (omega arith) found h)
 
 -- ---- the lines
 
@@ -112,7 +112,7 @@ own_body false n i o = unnamed_body n i o
 
 -- ---- the instructions
 
-puts_back : (ls : List (List (List ℕ))) (place : ℕ) (i : Insn) (o : Operation) → AreSmall place i → ((d : ℕ) → holds (place + 1 + d) (targets_by place i o) ≡ true → Leads ls place (label_text (place + 1 + d)) d) → Puts ls place (cleared_as i (Some o)) o (words_for place i o)
+puts_back : (ls : List (List (List ℕ))) (place : ℕ) (i : Insn) (o : Operation) → AreSmall place i → ((d : ℕ) → has_number (place + 1 + d) (targets_by place i o) ≡ true → IsAtDistance ls place (label_text (place + 1 + d)) d) → Puts ls place (cleared_as i (Some o)) o (words_for place i o)
 puts_back ls place i (LoadAbsolute width) h leads = (decimal_number i.k h.k, refl, refl)
 puts_back ls place i (LoadIndirect width) h leads = (decimal_number i.k h.k, refl, refl)
 puts_back ls place i LoadConstant h leads = (decimal_number i.k h.k, refl, refl)
@@ -199,14 +199,14 @@ written_read p accepted ranges = subst (λ (ls : List (List (List ℕ))). Assemb
         let short = accepted.short in
         decimal_injective m n (omega arith) (omega arith) d
 
-    leads : (n : ℕ) (i : Insn) (o : Operation) → slice_get p n ≡ Some i → operation_of i.code ≡ Some o → FieldsFit (length p) n i o → (d : ℕ) → holds (n + 1 + d) (targets_by n i o) ≡ true → Leads ls n (label_text (n + 1 + d)) d
+    leads : (n : ℕ) (i : Insn) (o : Operation) → slice_get p n ≡ Some i → operation_of i.code ≡ Some o → FieldsFit (length p) n i o → (d : ℕ) → has_number (n + 1 + d) (targets_by n i o) ≡ true → IsAtDistance ls n (label_text (n + 1 + d)) d
     leads n i o found e fit d h =
         let t = n + 1 + d in
         let r = held t (targets_by n i o) h in
         let inside : t < length p = subst (λ (k : ℕ). k < length p) r.3 (target_inside (length p) n i o r.0 r.1 fit r.2) in
         let j = there_is p t inside in
         let q = operation_at t j.0 j.1 in
-        let marked = is_target_true p 0 n t n i (omega arith) found (ap (λ (x : Option Operation). holds t (targets n i x)) e ∙ ap (holds t) (targets_some n i o) ∙ h) in
+        let marked = is_target_true p 0 n t n i (omega arith) found (ap (λ (x : Option Operation). has_number t (targets n i x)) e ∙ ap (has_number t) (targets_some n i o) ∙ h) in
         (t, (mark_tokens (is_target t 0 p) t ++ body_for t j.0 q.0, line_at t j.0 q.0 j.1 q.1, marked_label (is_target t 0 p) t (body_for t j.0 q.0) marked), place_is t (omega arith))
 
     made : (n : ℕ) (i : Insn) (o : Operation) → slice_get p n ≡ Some i → operation_of i.code ≡ Some o → FieldsFit (length p) n i o → IsInsn ls n (body_for n i o) (cleared i)

@@ -3,7 +3,7 @@ use Rattle.std.proofs.Common.{◌≡◌, ℕ, List, [], ◌∷◌, ◌++◌, Boo
 use Rattle.std.proofs.lemmas.Bool.Decides.{nat_tests}
 use Rattle.std.proofs.lemmas.List.{append-nil}
 use Rattle.std.specs.List.{concat, filter, list_all}
-use Rattle.bpf_asm.specs.Token.{is_word_octet, is_blank, ended, mark, tokens_after, tokens, is_text, begins_no_comment}
+use Rattle.bpf_asm.specs.Token.{is_word_octet, is_blank, ended, sign_token, tokens_after, tokens, is_text, begins_no_comment}
 use Rattle.bpf_asm.proofs.Decimals.{both}
 
 concat_append : (xs ys : List (List ℕ)) → concat (xs ++ ys) ≡ concat xs ++ concat ys
@@ -34,16 +34,16 @@ marked false c r = refl
 -- one octet more, which is of a word, a comment's beginning, or neither
 stepped : (w : List ℕ) (c : ℕ) (cs : List ℕ) (word comment : Bool) → is_word_octet c ≡ word → nat_eq c 59 ≡ comment → not comment ≡ true
     → concat (tokens_after (w ++ c ∷ []) cs) ≡ (w ++ c ∷ []) ++ filter is_text cs → concat (tokens_after [] cs) ≡ filter is_text cs
-    → concat (cond word (tokens_after (w ++ c ∷ []) cs) (cond comment (ended w) ((ended w ++ mark c) ++ tokens_after [] cs))) ≡ w ++ filter is_text (c ∷ cs)
+    → concat (cond word (tokens_after (w ++ c ∷ []) cs) (cond comment (ended w) ((ended w ++ sign_token c) ++ tokens_after [] cs))) ≡ w ++ filter is_text (c ∷ cs)
 stepped w c cs true comment is semi free on rest =
     on ∙ append_assoc w (c ∷ []) (filter is_text cs) ∙ ap (λ (b : Bool). w ++ cond b (c ∷ filter is_text cs) (filter is_text cs)) (sym (word_text c is))
 stepped w c cs false true is semi free on rest = absurd (cc)
 stepped w c cs false false is semi free on rest =
-    concat_append (ended w ++ mark c) (tokens_after [] cs)
-    ∙ ap (λ (x : List ℕ). x ++ concat (tokens_after [] cs)) (concat_append (ended w) (mark c))
-    ∙ append_assoc (concat (ended w)) (concat (mark c)) (concat (tokens_after [] cs))
-    ∙ ap (λ (x : List ℕ). x ++ (concat (mark c) ++ concat (tokens_after [] cs))) (concat_ended w)
-    ∙ ap (λ (x : List ℕ). w ++ (concat (mark c) ++ x)) rest
+    concat_append (ended w ++ sign_token c) (tokens_after [] cs)
+    ∙ ap (λ (x : List ℕ). x ++ concat (tokens_after [] cs)) (concat_append (ended w) (sign_token c))
+    ∙ append_assoc (concat (ended w)) (concat (sign_token c)) (concat (tokens_after [] cs))
+    ∙ ap (λ (x : List ℕ). x ++ (concat (sign_token c) ++ concat (tokens_after [] cs))) (concat_ended w)
+    ∙ ap (λ (x : List ℕ). w ++ (concat (sign_token c) ++ x)) rest
     ∙ ap (λ (x : List ℕ). w ++ x) (marked (is_blank c) c (filter is_text cs))
 
 kept : (w line : List ℕ) → list_all begins_no_comment line ≡ true → concat (tokens_after w line) ≡ w ++ filter is_text line
@@ -60,7 +60,7 @@ cut w [] rest = refl
 cut w (c ∷ cs) rest =
     let word = cut (w ++ c ∷ []) cs rest in
     let next = cut [] cs rest in
-    λ i. cond (is_word_octet c) (word i) (cond (nat_eq c 59) (ended w) ((ended w ++ mark c) ++ next i))
+    λ i. cond (is_word_octet c) (word i) (cond (nat_eq c 59) (ended w) ((ended w ++ sign_token c) ++ next i))
 
 pub comment_cut : (front rest : List ℕ) → tokens (front ++ 59 ∷ rest) ≡ tokens front
 comment_cut front rest = cut [] front rest

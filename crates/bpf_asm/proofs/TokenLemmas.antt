@@ -3,7 +3,7 @@ use Rattle.std.proofs.Common.{◌≡◌, ℕ, suc, ◌+◌, ◌-◌, ◌<◌, �
 use Rattle.std.proofs.lemmas.Bool.Decides.{nat_tests}
 use Rattle.std.proofs.lemmas.List.{append-nil, drop_all, take-append-drop}
 use Rattle.std.specs.List.{list_all, position, position_or_len}
-use Rattle.bpf_asm.specs.Token.{is_word_octet, is_blank, is_text, ended, mark, tokens_after, tokens, starts_word}
+use Rattle.bpf_asm.specs.Token.{is_word_octet, is_blank, is_text, ended, sign_token, tokens_after, tokens, starts_word}
 use Rattle.bpf_asm.specs.Reading.{ends_word}
 use Rattle.bpf_asm.proofs.Decimals.{both}
 
@@ -16,7 +16,7 @@ pub word_run : (w v text : List ℕ) → list_all is_word_octet v ≡ true → t
 word_run w [] text h = ap (λ (x : List ℕ). tokens_after x text) (sym (append-nil w))
 word_run w (c ∷ v) text h =
     let p = both (is_word_octet c) (list_all is_word_octet v) h in
-    ap (λ (b : Bool). cond b (tokens_after (w ++ c ∷ []) (v ++ text)) (cond (nat_eq c 59) (ended w) ((ended w ++ mark c) ++ tokens_after [] (v ++ text)))) p.0
+    ap (λ (b : Bool). cond b (tokens_after (w ++ c ∷ []) (v ++ text)) (cond (nat_eq c 59) (ended w) ((ended w ++ sign_token c) ++ tokens_after [] (v ++ text)))) p.0
     ∙ word_run (w ++ c ∷ []) v text p.1
     ∙ ap (λ (x : List ℕ). tokens_after x text) (append_assoc w (c ∷ []) v)
 
@@ -28,9 +28,9 @@ pub after_break : (w text : List ℕ) → Breaks text → tokens_after w text �
 after_break w [] h = sym (append-nil (ended w))
 after_break w (c ∷ cs) h =
     let rest = tokens_after [] cs in
-    let left = ap (λ (b : Bool). cond b (tokens_after (w ++ c ∷ []) cs) (cond (nat_eq c 59) (ended w) ((ended w ++ mark c) ++ rest))) h in
-    let right = ap (λ (b : Bool). cond b (tokens_after (c ∷ []) cs) (cond (nat_eq c 59) [] (mark c ++ rest))) h in
-    left ∙ parted (nat_eq c 59) (ended w) (mark c) rest ∙ ap (λ (x : List (List ℕ)). ended w ++ x) (sym right)
+    let left = ap (λ (b : Bool). cond b (tokens_after (w ++ c ∷ []) cs) (cond (nat_eq c 59) (ended w) ((ended w ++ sign_token c) ++ rest))) h in
+    let right = ap (λ (b : Bool). cond b (tokens_after (c ∷ []) cs) (cond (nat_eq c 59) [] (sign_token c ++ rest))) h in
+    left ∙ parted (nat_eq c 59) (ended w) (sign_token c) rest ∙ ap (λ (x : List (List ℕ)). ended w ++ x) (sym right)
 
 -- ---- where the first octet lies that passes
 
@@ -108,8 +108,8 @@ comment_first text cs c e h = ap tokens e ∙ ap (λ (x : ℕ). tokens (x ∷ cs
 
 mark_by : (c : ℕ) (cs : List ℕ) → is_blank c ≡ false → is_word_octet c ≡ false → nat_eq c 59 ≡ false → tokens (c ∷ cs) ≡ (c ∷ []) ∷ tokens cs
 mark_by c cs text word more =
-    ap (λ (b : Bool). cond b (tokens_after (c ∷ []) cs) (cond (nat_eq c 59) [] (mark c ++ tokens cs))) word
-    ∙ ap (λ (b : Bool). cond b [] (mark c ++ tokens cs)) more
+    ap (λ (b : Bool). cond b (tokens_after (c ∷ []) cs) (cond (nat_eq c 59) [] (sign_token c ++ tokens cs))) word
+    ∙ ap (λ (b : Bool). cond b [] (sign_token c ++ tokens cs)) more
     ∙ ap (λ (b : Bool). cond b [] ((c ∷ []) ∷ []) ++ tokens cs) text
 
 pub mark_first : (text cs : List ℕ) (c : ℕ) → text ≡ c ∷ cs → BeginsText text → is_word_octet c ≡ false → nat_eq c 59 ≡ false → tokens text ≡ (c ∷ []) ∷ tokens cs

@@ -60,14 +60,14 @@ pub record IsBody (body : List (List ℕ)) (code : ℕ) (operation : Operation) 
   pub spelled : body ≡ mnemonic operation ∷ spelled_with (kinds operation) ws
 
 -- the label names the place that is so far behind the next one
-abbrev pub Leads : List (List (List ℕ)) → ℕ → List ℕ → ℕ → Type 0
-Leads ls place label distance = (n : ℕ) × LabelAt ls n label × (place_of ls n ≡ place + 1 + distance)
+abbrev pub IsAtDistance : List (List (List ℕ)) → ℕ → List ℕ → ℕ → Type 0
+IsAtDistance ls place label distance = (n : ℕ) × LabelAt ls n label × (place_of ls n ≡ place + 1 + distance)
 
 -- what the words of an operation at a place put into its instruction
 abbrev pub Puts : List (List (List ℕ)) → ℕ → Insn → Operation → List (List ℕ) → Type 0
-Puts ls place i Jump (l ∷ []) = Leads ls place l i.k × (i.jt ≡ 0) × (i.jf ≡ 0)
-Puts ls place i (Branch test Constant) (w ∷ l ∷ m ∷ []) = IsNumber w i.k × Leads ls place l i.jt × Leads ls place m i.jf
-Puts ls place i (Branch test Index) (l ∷ m ∷ []) = (i.k ≡ 0) × Leads ls place l i.jt × Leads ls place m i.jf
+Puts ls place i Jump (l ∷ []) = IsAtDistance ls place l i.k × (i.jt ≡ 0) × (i.jf ≡ 0)
+Puts ls place i (Branch test Constant) (w ∷ l ∷ m ∷ []) = IsNumber w i.k × IsAtDistance ls place l i.jt × IsAtDistance ls place m i.jf
+Puts ls place i (Branch test Index) (l ∷ m ∷ []) = (i.k ≡ 0) × IsAtDistance ls place l i.jt × IsAtDistance ls place m i.jf
 Puts ls place i operation (w ∷ []) = IsNumber w i.k × (i.jt ≡ 0) × (i.jf ≡ 0)
 Puts ls place i operation [] = (i.k ≡ 0) × (i.jt ≡ 0) × (i.jf ≡ 0)
 Puts ls place i _ _ = ⊥
@@ -174,9 +174,9 @@ pub record IsFirstFault (ls : List (List (List ℕ))) (fault : AsmFault) : Type 
   pub first : (when : ℕ) (other : AsmFault) → FaultAt ls when other → time ≤ when
 
 -- what an assembler may answer in place of a program: the first fault, or no memory where the text has no fault
-abbrev pub IsAnswer : List (List (List ℕ)) → AsmFault → Type 0
-IsAnswer ls faults.NoMemory = (time : ℕ) (fault : AsmFault) → FaultAt ls time fault → ⊥
-IsAnswer ls fault = IsFirstFault ls fault
+abbrev pub IsAssemblyFault : List (List (List ℕ)) → AsmFault → Type 0
+IsAssemblyFault ls faults.NoMemory = (time : ℕ) (fault : AsmFault) → FaultAt ls time fault → ⊥
+IsAssemblyFault ls fault = IsFirstFault ls fault
 
 -- the number of a fault
 abbrev pub fault_number : AsmFault → ℕ

@@ -4,7 +4,7 @@ use Rattle.std.specs.Option.{option_map}
 use Rattle.std.specs.Str.{bytes_eq}
 use Rattle.bpf_check.specs.declared.operation.Operation.{Operation}
 use Rattle.bpf_asm.specs.Form.{mnemonic}
-use Rattle.bpf_asm.specs.Token.{is_word_octet, is_numeral, starts_word, is_label}
+use Rattle.bpf_asm.specs.Token.{is_word_octet, is_number_text, starts_word, is_label}
 use Rattle.bpf_asm.specs.Spelling.{Kind, a_number, a_label, exactly, kinds}
 
 -- an octet that is in no word
@@ -21,7 +21,7 @@ abbrev pub number_front : List (List ℕ) → Option Front
 number_front [] = Some (record { word = []; left = [] })
 number_front ([] ∷ ts) = None
 number_front ((c ∷ cs) ∷ ts) =
-    if is_numeral (c ∷ cs) then Some (record { word = c ∷ cs; left = ts })
+    if is_number_text (c ∷ cs) then Some (record { word = c ∷ cs; left = ts })
     else (if starts_word (c ∷ cs) then None else Some (record { word = []; left = (c ∷ cs) ∷ ts }))
 
 -- the label at the front of the tokens

@@ -4,7 +4,7 @@ use Rattle.bpf_check.specs.declared.operation.Operation.{Operation}
 use Rattle.bpf_asm.specs.declared.form.Piece.{Piece}
 use Rattle.bpf_asm.specs.declared.form.Piece.TheVariants.{Number, Label}
 use Rattle.bpf_asm.specs.Form.{fixed, pieces}
-use Rattle.bpf_asm.specs.Token.{ended, is_numeral, is_label}
+use Rattle.bpf_asm.specs.Token.{ended, is_number_text, is_label}
 
 -- a number, a label, or always the same token
 pub data Kind : Type 0 where
@@ -36,7 +36,7 @@ abbrev pub AreOpen : List Kind → List (List ℕ) → Type 0
 AreOpen [] [] = Unit {0}
 AreOpen [] (w ∷ ws) = ⊥
 AreOpen (a_number ∷ ks) [] = ⊥
-AreOpen (a_number ∷ ks) (w ∷ ws) = (is_numeral w ≡ true) × AreOpen ks ws
+AreOpen (a_number ∷ ks) (w ∷ ws) = (is_number_text w ≡ true) × AreOpen ks ws
 AreOpen (a_label ∷ ks) [] = ⊥
 AreOpen (a_label ∷ ks) (w ∷ ws) = (is_label w ≡ true) × AreOpen ks ws
 AreOpen (exactly token ∷ ks) ws = AreOpen ks ws

@@ -24,14 +24,14 @@ targets place i None = []
 targets place i (Some operation) = targets_by place i operation
 
 -- the list has the number
-abbrev pub holds : ℕ → List ℕ → Bool
-holds x [] = false
-holds x (y ∷ ys) = (y == x) || holds x ys
+abbrev pub has_number : ℕ → List ℕ → Bool
+has_number x [] = false
+has_number x (y ∷ ys) = (y == x) || has_number x ys
 
 -- some instruction of these, of which the first lies at a place, jumps to the target
 abbrev pub is_target : ℕ → ℕ → List Insn → Bool
 is_target target place [] = false
-is_target target place (i ∷ is) = holds target (targets place i (operation_of i.code)) || is_target target (place + 1) is
+is_target target place (i ∷ is) = has_number target (targets place i (operation_of i.code)) || is_target target (place + 1) is
 
 -- the label of the first of these places
 abbrev pub first_label : List ℕ → List ℕ

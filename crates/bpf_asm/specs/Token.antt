@@ -19,15 +19,15 @@ ended [] = []
 ended (c ∷ cs) = (c ∷ cs) ∷ []
 
 -- a token of one octet, where it isn't a blank
-abbrev pub mark : ℕ → List (List ℕ)
-mark c = if is_blank c then [] else (c ∷ []) ∷ []
+abbrev pub sign_token : ℕ → List (List ℕ)
+sign_token c = if is_blank c then [] else (c ∷ []) ∷ []
 
 -- the tokens of what is left of a line, where `word` stands before it and goes on; `;` begins a comment
 abbrev pub tokens_after : List ℕ → List ℕ → List (List ℕ)
 tokens_after word [] = ended word
 tokens_after word (c ∷ cs) =
     if is_word_octet c then tokens_after (word ++ c ∷ []) cs
-    else (if c == 59 then ended word else (ended word ++ mark c) ++ tokens_after [] cs)
+    else (if c == 59 then ended word else (ended word ++ sign_token c) ++ tokens_after [] cs)
 
 -- the tokens of a line
 abbrev pub tokens : List ℕ → List (List ℕ)
@@ -42,8 +42,8 @@ abbrev pub after_two : List ℕ → List ℕ
 after_two word = drop (min 2 (length word)) word
 
 -- digits, or `0x` and hexadecimal digits, perhaps none
-unfoldable pub is_numeral : List ℕ → Bool
-is_numeral word =
+unfoldable pub is_number_text : List ℕ → Bool
+is_number_text word =
     if bytes_eq (first_two word) (codes "0x") then list_all is_ascii_hexdigit (after_two word)
     else list_all is_ascii_digit word
 

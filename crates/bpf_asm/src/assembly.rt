@@ -5,7 +5,7 @@ ghost use Rattle.bpf_check.specs.declared.insn.Insn.{Insn};
 ghost use Rattle.bpf_check.specs.Accepted.{most_insns};
 ghost use Rattle.bpf_asm.specs.Token.{tokens};
 ghost use Rattle.bpf_asm.specs.Labels.{named};
-ghost use Rattle.bpf_asm.specs.Assembly.{body_of, place_of, token_lines, Assembles, IsFirstFault, IsAnswer};
+ghost use Rattle.bpf_asm.specs.Assembly.{body_of, place_of, token_lines, Assembles, IsFirstFault, IsAssemblyFault};
 ghost use Rattle.bpf_asm.specs.Drafts.{Counted, CountRefused, IsTable, NoneBefore, HasInsn, InsnRefused};
 
 use crate::draft::draft_in;
@@ -73,7 +73,7 @@ fn insns_of(alloc: Global, text: &[u8], names: &Names<'_>) -> Result<Vec<Insn>, 
     requires short { let ls = token_lines text.now in place_of ls (length ls) ≤ most_insns }
     requires none { let ls = token_lines text.now in NoneBefore ls (3 * length ls) }
     ensures { let ls = token_lines text.now in MatchResult result
-        (λ v. Assembles ls v.items) (λ fault. IsAnswer ls fault) }
+        (λ v. Assembles ls v.items) (λ fault. IsAssemblyFault ls fault) }
 {
     let mut kept = Some(Vec::new(alloc));
     let mut rest = text;
@@ -97,7 +97,7 @@ fn insns_of(alloc: Global, text: &[u8], names: &Names<'_>) -> Result<Vec<Insn>, 
 // What a text stands for.
 fn read(alloc: Global, text: &[u8]) -> Result<Vec<Insn>, AsmFault>
     ensures { let ls = token_lines text.now in MatchResult result
-        (λ v. Assembles ls v.items) (λ fault. IsAnswer ls fault) }
+        (λ v. Assembles ls v.items) (λ fault. IsAssemblyFault ls fault) }
 {
     let names = names_of(alloc, text)?;
     insns_of(alloc, text, &names)
@@ -107,13 +107,13 @@ fn read(alloc: Global, text: &[u8]) -> Result<Vec<Insn>, AsmFault>
 ///
 /// Of each line come first the faults of its label, then of its mnemonic, the form behind it and its
 /// number, then the limit of 4,096 instructions. When all lines were read, the labels of jumps come in
-/// their order. A label behind the last instruction names the place past the end. `NoMemory` comes
+/// their order. Where a label stands behind all instructions, its place is their number. `NoMemory` comes
 /// only where the text has no fault.
 pub fn assemble(alloc: Global, text: &[u8]) -> Result<Vec<Insn>, AsmFault>
     ensures program { IfOk result (λ v. Assembles (token_lines text.now) v.items) }
     ensures only { (p : List Insn) → Assembles (token_lines text.now) p
         → MatchResult result (λ v. v.items ≡ p) (λ fault. fault ≡ AsmFault.NoMemory) }
-    ensures fault { IfErr result (λ fault. IsAnswer (token_lines text.now) fault) }
+    ensures fault { IfErr result (λ fault. IsAssemblyFault (token_lines text.now) fault) }
 {
     read(alloc, text)
 }

@@ -1,7 +1,7 @@
 //! Assembler text of classic BPF programs, to instructions and back: `assemble` and `to_text`.
 //!
-//! One instruction stands on a line, lower case; a line may begin with a label and `:`, or have only
-//! that; `;` begins a comment. Numbers are decimal, or hexadecimal behind `0x`.
+//! Each line has one instruction in lower case, a label with `:` in front of it, or the label alone;
+//! what follows `;` is a comment. Numbers are decimal, or hexadecimal behind `0x`.
 #![tactic(auto)]
 
 mod assembly;

@@ -7,7 +7,7 @@ ghost use Rattle.bpf_asm.specs.declared.form.Piece.{Piece};
 ghost use Rattle.bpf_asm.specs.Assembly.{token_lines, Assembles};
 ghost use Rattle.bpf_asm.specs.Cleared.{cleared};
 ghost use Rattle.bpf_asm.specs.Marks.{AreMarks};
-ghost use Rattle.bpf_asm.specs.Text.{label_text, targets, targets_by, holds, pieces_text, operands_text, insn_text, mark_text, program_text};
+ghost use Rattle.bpf_asm.specs.Text.{label_text, targets, targets_by, has_number, pieces_text, operands_text, insn_text, mark_text, program_text};
 
 use crate::form::{Piece, fixed_of, mnemonic_of, pieces_of};
 use bpf_check::operation::{Operation, decode};
@@ -145,7 +145,7 @@ fn mark(marks: &mut [bool], target: usize)
 fn mark_targets(marks: &mut [bool], at: usize, insn: &Insn)
     requires { at ≤ 65536 }
     ensures { (place : ℕ) → place < length marks.old
-        → slice_index_or marks.new place false ≡ (slice_index_or marks.old place false || holds place (targets at insn.now (operation_of insn.now.code))) }
+        → slice_index_or marks.new place false ≡ (slice_index_or marks.old place false || has_number place (targets at insn.now (operation_of insn.now.code))) }
 {
     let after = at + 1;
     match decode(insn.code) {

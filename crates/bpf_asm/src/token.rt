@@ -3,7 +3,7 @@
 ghost use Rattle.std.specs.Prelude.{◌≡◌, true, MatchOption, [], ◌∷◌};
 ghost use Rattle.std.specs.List.{list_all, position};
 ghost use Rattle.std.specs.Char.{is_ascii_digit, is_ascii_hexdigit};
-ghost use Rattle.bpf_asm.specs.Token.{is_word_octet, is_text, tokens, is_numeral, starts_word, is_label};
+ghost use Rattle.bpf_asm.specs.Token.{is_word_octet, is_text, tokens, is_number_text, starts_word, is_label};
 ghost use Rattle.bpf_asm.specs.Reading.{ends_word};
 
 fn is_word_octet_of(c: u8) -> bool
@@ -71,9 +71,9 @@ fn all_hexdigits(text: &[u8]) -> bool
 }
 
 /// Whether a token is digits, or `0x` and hexadecimal digits, perhaps none.
-#[tactic(auto, unfolding(crate::specs::Token::is_numeral))]
+#[tactic(auto, unfolding(crate::specs::Token::is_number_text))]
 pub(crate) fn is_numeral_of(token: &[u8]) -> bool
-    ensures { result ≡ is_numeral token.now }
+    ensures { result ≡ is_number_text token.now }
 {
     let (front, digits) = token.split_at(2.min(token.len()));
     if front == b"0x".as_slice() {

@@ -11,7 +11,7 @@ use Rattle.bpf_check.specs.declared.operation.Arithmetic.TheVariants.{Divide, Mo
 use Rattle.bpf_check.specs.declared.operation.Operation.{Operation}
 use Rattle.bpf_check.specs.declared.operation.Operation.TheVariants.{LoadScratch, IndexScratch, StoreAccumulator, StoreIndex, Compute, Jump, Branch, ReturnConstant, ReturnAccumulator}
 use Rattle.bpf_check.specs.Operation.{operation_of}
-use Rattle.bpf_check.specs.Accepted.{most_insns, FieldsFit, IsFine, IsReturn, IsAccepted, UsesScratch, DividesByConstant, JumpsOut, IsFaultAt, HasFault, IsFirstFault}
+use Rattle.bpf_check.specs.Accepted.{most_insns, FieldsFit, IsFine, IsReturn, IsAccepted, UsesScratch, DividesByConstant, JumpsOut, IsFaultAt, IsFirstFault}
 use Rattle.bpf_check.specs.Refusal.{refusal}
 use Rattle.bpf_check.proofs.Faults.{first_at, first_at_end, first_empty, first_too_long}
 use Rattle.bpf_check.proofs.RefusalLemmas.{accepted-none, first-some}

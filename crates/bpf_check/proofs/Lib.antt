@@ -5,3 +5,4 @@ pub mod ListingNumbers
 pub mod ListingFaults
 pub mod ListingText
 pub mod SamePrograms
+pub mod Words

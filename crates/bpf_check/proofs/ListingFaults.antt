@@ -10,7 +10,7 @@ use Rattle.bpf_check.specs.Insn.{InRange}
 use Rattle.bpf_check.specs.Accepted.{most_insns}
 use Rattle.bpf_check.proofs.ListingNumbers.{lt_or_le}
 use Rattle.bpf_check.specs.LineReading.{LineFault, CountFault, NoText, IsFirstText}
-use Rattle.bpf_check.specs.Listing.{words, value, Says, SaysAt, fields, IsListing, IsAnswer, NotFour, FourTooLarge, IsTooLarge, FaultIn, HasFault, NoneBefore}
+use Rattle.bpf_check.specs.Listing.{words, value, Says, SaysAt, fields, IsListing, IsListingFault, NotFour, FourTooLarge, IsTooLarge, FaultIn, HasFault, NoneBefore}
 
 some_same : {A : Type 0} (o : Option A) (x y : A) → o ≡ Some x → o ≡ Some y → x ≡ y
 some_same o x y p q = cc
@@ -134,7 +134,7 @@ one_listing ls p q a b =
     same_list p q (one_count ls (length p) (length q) a.count b.count)
     (λ n i j x y. same_fields i j (one_said ls (n + 1) (fields i) (fields j) (a.each n i x).0 (b.each n j y).0))
 
-pub count_answer : (ls : List (List ℕ)) (l : List ℕ) (fault : ListingFault) → slice_get ls 0 ≡ Some l → CountFault l fault → IsAnswer ls fault
+pub count_answer : (ls : List (List ℕ)) (l : List ℕ) (fault : ListingFault) → slice_get ls 0 ≡ Some l → CountFault l fault → IsListingFault ls fault
 count_answer ls l BadCount found h = record {
   has = λ n s. h n (subst (λ (x : List ℕ). Says x (n ∷ [])) (some_same (slice_get ls 0) s.0 l s.1 found) s.2);
   first = λ other has. omega arith;
@@ -163,7 +163,7 @@ line_fault ls count place line l P counted below found e h = record {
 none_at : (ls : List (List ℕ)) (a b : ℕ) → a ≡ b → NoneBefore ls a → NoneBefore ls b
 none_at ls a b e none = subst (NoneBefore ls) e none
 
-pub line_answer : (ls : List (List ℕ)) (count place at : ℕ) (l : List ℕ) (fault : ListingFault) → NoneBefore ls (place + 2) → SaysAt ls 0 (count ∷ []) → place < count → slice_get ls (place + 1) ≡ Some l → at ≡ place + 2 → LineFault l at fault → IsAnswer ls fault
+pub line_answer : (ls : List (List ℕ)) (count place at : ℕ) (l : List ℕ) (fault : ListingFault) → NoneBefore ls (place + 2) → SaysAt ls 0 (count ∷ []) → place < count → slice_get ls (place + 1) ≡ Some l → at ≡ place + 2 → LineFault l at fault → IsListingFault ls fault
 line_answer ls count place at l BadCount none counted below found e h = absurd h
 line_answer ls count place at l TooLong none counted below found e h = absurd h
 line_answer ls count place at l Missing none counted below found e h = absurd h
@@ -178,7 +178,7 @@ line_answer ls count place at l (OutOfRange line) none counted below found e h =
 line_answer ls count place at l (Extra line) none counted below found e h = absurd h
 line_answer ls count place at l NoMemory none counted below found e h = absurd h
 
-pub missing_answer : (ls : List (List ℕ)) (count place : ℕ) → NoneBefore ls (place + 2) → SaysAt ls 0 (count ∷ []) → place < count → length ls ≤ place + 1 → IsAnswer ls Missing
+pub missing_answer : (ls : List (List ℕ)) (count place : ℕ) → NoneBefore ls (place + 2) → SaysAt ls 0 (count ∷ []) → place < count → length ls ≤ place + 1 → IsListingFault ls Missing
 missing_answer ls count place none counted below few = record {
   has = (count, counted, omega arith);
   first = λ other h. (let low = none other h in omega arith);
@@ -198,7 +198,7 @@ each_more ls p new each says range place i e =
       | inr h ↦ rw h.0 (subst (λ (j : Insn). SaysAt ls (length p + 1) (fields j) × InRange j) h.1 (says, range))
     ]
 
-pub only_memory : (ls : List (List ℕ)) (p : List Insn) (fault : ListingFault) → IsListing ls p → IsAnswer ls fault → fault ≡ NoMemory
+pub only_memory : (ls : List (List ℕ)) (p : List Insn) (fault : ListingFault) → IsListing ls p → IsListingFault ls fault → fault ≡ NoMemory
 only_memory ls p BadCount is a = absurd (no_fault ls p BadCount is a.has)
 only_memory ls p TooLong is a = absurd (no_fault ls p TooLong is a.has)
 only_memory ls p Missing is a = absurd (no_fault ls p Missing is a.has)
@@ -207,7 +207,7 @@ only_memory ls p (OutOfRange line) is a = absurd (no_fault ls p (OutOfRange line
 only_memory ls p (Extra line) is a = absurd (no_fault ls p (Extra line) is a.has)
 only_memory ls p NoMemory is a = refl
 
-pub only_answer : {V : Type 0} (items : V → List Insn) (r : Result V ListingFault) (ls : List (List ℕ)) → MatchResult r (λ v. IsListing ls (items v)) (λ f. IsAnswer ls f) → (p : List Insn) → IsListing ls p → MatchResult r (λ v. items v ≡ p) (λ f. f ≡ NoMemory)
+pub only_answer : {V : Type 0} (items : V → List Insn) (r : Result V ListingFault) (ls : List (List ℕ)) → MatchResult r (λ v. IsListing ls (items v)) (λ f. IsListingFault ls f) → (p : List Insn) → IsListing ls p → MatchResult r (λ v. items v ≡ p) (λ f. f ≡ NoMemory)
 only_answer items (Ok v) ls h p is = one_listing ls (items v) p h is
 only_answer items (Err f) ls h p is = only_memory ls p f is h
 
@@ -264,7 +264,7 @@ not_less : (m n : ℕ) → (m < n → ⊥) → n ≤ m
 not_less m n h = elim (lt_or_le m n) [ inl l ↦ absurd (h l) | inr l ↦ l ]
 
 -- where the lines behind the instructions have a word, the text has this fault first
-pub extra_answer : (ls rest : List (List ℕ)) (count more line : ℕ) → NoneBefore ls (count + 2) → SaysAt ls 0 (count ∷ []) → count < length ls → drop (count + 1) ls ≡ rest → IsFirstText rest more → line ≡ count + 2 + more → IsAnswer ls (Extra line)
+pub extra_answer : (ls rest : List (List ℕ)) (count more line : ℕ) → NoneBefore ls (count + 2) → SaysAt ls 0 (count ∷ []) → count < length ls → drop (count + 1) ls ≡ rest → IsFirstText rest more → line ≡ count + 2 + more → IsListingFault ls (Extra line)
 extra_answer ls rest count more line none counted inside left text e = record { has = has; first = first }
   where
     at : (k n : ℕ) → n ≡ count + 1 + k → slice_get rest k ≡ slice_get ls n
@@ -289,7 +289,7 @@ extra_answer ls rest count more line none counted inside left text e = record { 
     first NoMemory h = absurd h
 
 -- where no line behind the instructions has a word, the text has no fault
-pub memory_answer : (ls rest : List (List ℕ)) (count : ℕ) → NoneBefore ls (count + 2) → SaysAt ls 0 (count ∷ []) → count ≤ most_insns → count < length ls → drop (count + 1) ls ≡ rest → NoText rest → IsAnswer ls NoMemory
+pub memory_answer : (ls rest : List (List ℕ)) (count : ℕ) → NoneBefore ls (count + 2) → SaysAt ls 0 (count ∷ []) → count ≤ most_insns → count < length ls → drop (count + 1) ls ≡ rest → NoText rest → IsListingFault ls NoMemory
 memory_answer ls rest count none counted short inside left blank BadCount h = h count counted
 memory_answer ls rest count none counted short inside left blank TooLong h = let c = one_count ls count h.0 counted h.1 in omega (arith, h.2)
 memory_answer ls rest count none counted short inside left blank Missing h = let c = one_count ls count h.0 counted h.1 in omega (arith, h.2)

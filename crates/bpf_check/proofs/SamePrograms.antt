@@ -1,5 +1,5 @@
 -- Programs that compare equal are the same list.
-use Rattle.std.proofs.Common.{◌≡◌, ℕ, List, [], ◌∷◌, Bool, true, false, ◌&&◌, refl, sym, ◌∙◌, subst, arith, rules}
+use Rattle.std.proofs.Common.{◌≡◌, ℕ, List, [], ◌∷◌, Bool, true, false, ◌&&◌, refl, sym, subst, arith, rules}
 use Rattle.std.specs.Prelude.{IsTrue, ◌↔◌, ◌==◌}
 use Rattle.std.proofs.lemmas.Bool.Decides.{nat_tests}
 use Rattle.std.specs.Cmp.{IsEquivalence}
@@ -46,6 +46,12 @@ list_itself xs ys e =
     let laws : IsEquivalence (pointwise same_insn) = search (comparing, rules) depth 9 in
     subst (λ (zs : List Insn). pointwise same_insn xs zs ≡ true) e (laws.refl xs)
 
--- the law: two programs compare equal exactly where they are the same list
-pub same_program : (xs ys : List Insn) (b : Bool) → b ≡ pointwise same_insn xs ys → IsTrue b ↔ (xs ≡ ys)
-same_program xs ys b is = (λ yes. same_list xs ys (sym is ∙ yes), λ e. is ∙ list_itself xs ys e)
+-- tests of which each holds where the other does
+same_test : (a b : Bool) → (a ≡ true → b ≡ true) → (b ≡ true → a ≡ true) → a ≡ b
+same_test true b f g = sym (f refl)
+same_test false true f g = g refl
+same_test false false f g = refl
+
+-- the law: what holds exactly of equal programs is the comparison instruction by instruction
+pub same_program : (xs ys : List Insn) (b : Bool) → IsTrue b ↔ (xs ≡ ys) → b ≡ pointwise same_insn xs ys
+same_program xs ys b is = same_test b (pointwise same_insn xs ys) (λ yes. list_itself xs ys (is.0 yes)) (λ yes. is.1 (same_list xs ys yes))

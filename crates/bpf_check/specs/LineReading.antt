@@ -3,7 +3,7 @@ use Rattle.std.specs.Prelude.{◌≡◌, ◌≢◌, ℕ, ◌-◌, ◌<◌, ◌^�
 use Rattle.bpf_check.specs.declared.listing.ListingFault.{ListingFault}
 use Rattle.bpf_check.specs.declared.listing.ListingFault.TheVariants.{BadCount, BadLine, OutOfRange, TooLong}
 use Rattle.bpf_check.specs.Accepted.{most_insns}
-use Rattle.bpf_check.specs.Listing.{is_blank, is_numeral, value, words, Says, NotFour, FourTooLarge}
+use Rattle.bpf_check.specs.Listing.{is_blank, are_digits, value, words, Says, NotFour, FourTooLarge}
 
 -- ends a line
 abbrev pub is_line_feed : ℕ → Bool
@@ -20,13 +20,13 @@ capped word = min (value word) (2 ^ 64 - 1)
 -- the first of the words, if there is one, is no number
 abbrev pub NoNumber : List (List ℕ) → Type 0
 NoNumber [] = Unit {0}
-NoNumber (word ∷ more) = is_numeral word ≡ false
+NoNumber (word ∷ more) = are_digits word ≡ false
 
 -- the first of the words is this number, or a larger one than 64 bits hold, and the others come behind it
 pub record Begins (ws : List (List ℕ)) (n : ℕ) (more : List (List ℕ)) : Type 0 where
   pub word : List ℕ
   pub first : ws ≡ word ∷ more
-  pub numeral : is_numeral word ≡ true
+  pub numeral : are_digits word ≡ true
   pub number : n ≡ capped word
 
 -- the line is one number, perhaps a larger one than 64 bits hold

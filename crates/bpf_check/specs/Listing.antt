@@ -31,12 +31,12 @@ abbrev pub value : List ℕ → ℕ
 value word = value_after 0 word
 
 -- digits alone
-abbrev pub is_numeral : List ℕ → Bool
-is_numeral word = list_all is_ascii_digit word
+abbrev pub are_digits : List ℕ → Bool
+are_digits word = list_all is_ascii_digit word
 
 -- the line has these numbers and nothing else
 pub record Says (line : List ℕ) (ns : List ℕ) : Type 0 where
-  pub numerals : list_all is_numeral (words line) ≡ true
+  pub numerals : list_all are_digits (words line) ≡ true
   pub values : map value (words line) ≡ ns
 
 -- the line at a place has these numbers
@@ -106,9 +106,9 @@ pub record IsFirstFault (ls : List (List ℕ)) (fault : ListingFault) : Type 0 w
   pub first : NoneBefore ls (rank ls fault)
 
 -- what a reader may answer in place of a program: the first fault, or no memory where the text has no fault
-abbrev pub IsAnswer : List (List ℕ) → ListingFault → Type 0
-IsAnswer ls NoMemory = (other : ListingFault) → HasFault ls other → ⊥
-IsAnswer ls fault = IsFirstFault ls fault
+abbrev pub IsListingFault : List (List ℕ) → ListingFault → Type 0
+IsListingFault ls NoMemory = (other : ListingFault) → HasFault ls other → ⊥
+IsListingFault ls fault = IsFirstFault ls fault
 
 -- the number of a fault
 abbrev pub fault_number : ListingFault → ℕ

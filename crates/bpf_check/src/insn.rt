@@ -1,5 +1,6 @@
 //! One instruction.
 
+ghost use Rattle.std.specs.Prelude.{◌≡◌, ◌+◌, ◌*◌};
 ghost use Rattle.bpf_check.specs.Insn.{InRange};
 
 /// An instruction of classic BPF, as the four numbers that it is written with.
@@ -24,5 +25,17 @@ impl Insn {
         let _jt = self.jt;
         let _jf = self.jf;
         let _k = self.k;
+    }
+
+    // The four numbers in the order in which they lie in memory, as one: so that programs are compared a word at a time.
+    #[inline(always)]
+    pub(crate) fn word(&self) -> u64
+        ensures value { result ≡ self.now.code + self.now.jt * 65536 + self.now.jf * 16777216 + self.now.k * 4294967296 }
+        ensures range { InRange self.now }
+    {
+        self.code as u64
+            + self.jt as u64 * 65_536
+            + self.jf as u64 * 16_777_216
+            + self.k as u64 * 4_294_967_296
     }
 }

@@ -9,7 +9,7 @@ ghost use Rattle.bpf_check.specs.declared.insn.Insn.{Insn};
 ghost use Rattle.bpf_check.specs.Accepted.{most_insns};
 ghost use Rattle.bpf_check.specs.Insn.{InRange};
 ghost use Rattle.bpf_check.specs.LineReading.{is_line_feed, is_text, capped, NoNumber, Begins, NotOne, IsOne, AreFour, LineFault, CountFault, NoText, IsFirstText};
-ghost use Rattle.bpf_check.specs.Listing.{is_blank, words, is_numeral, Says, fields, NotFour, IsListing, IsAnswer, IsTooLarge, fault_number, fault_line};
+ghost use Rattle.bpf_check.specs.Listing.{is_blank, words, are_digits, Says, fields, NotFour, IsListing, IsListingFault, IsTooLarge, fault_number, fault_line};
 
 use crate::checked::MOST_INSNS;
 use crate::insn::Insn;
@@ -135,8 +135,8 @@ fn next_word(line: &[u8]) -> Option<(&[u8], &[u8])>
 
 // The number of a word, or the largest where it is larger.
 fn number_of(word: &[u8]) -> Option<u64>
-    ensures { MatchOption result (is_numeral word.now ≡ false)
-        (λ n. (is_numeral word.now ≡ true) × (n ≡ capped word.now)) }
+    ensures { MatchOption result (are_digits word.now ≡ false)
+        (λ n. (are_digits word.now ≡ true) × (n ≡ capped word.now)) }
 {
     let mut n: u64 = 0;
     for c in word {
@@ -255,7 +255,7 @@ fn first_text_in(text: &[u8]) -> Option<usize>
 
 // What a text stands for.
 fn read(alloc: Global, text: &[u8]) -> Result<Vec<Insn>, ListingFault>
-    ensures { MatchResult result (λ v. IsListing (lines text.now) v.items) (λ fault. IsAnswer (lines text.now) fault) }
+    ensures { MatchResult result (λ v. IsListing (lines text.now) v.items) (λ fault. IsListingFault (lines text.now) fault) }
 {
     let Some((first, behind)) = next_line(text) else {
         return Err(ListingFault::BadCount);
@@ -287,7 +287,7 @@ pub fn read_listing(alloc: Global, text: &[u8]) -> Result<Vec<Insn>, ListingFaul
     ensures listing { IfOk result (λ v. IsListing (lines text.now) v.items) }
     ensures only { (p : List Insn) → IsListing (lines text.now) p
         → MatchResult result (λ v. v.items ≡ p) (λ fault. fault ≡ ListingFault.NoMemory) }
-    ensures fault { IfErr result (λ fault. IsAnswer (lines text.now) fault) }
+    ensures fault { IfErr result (λ fault. IsListingFault (lines text.now) fault) }
 {
     read(alloc, text)
 }

@@ -45,6 +45,6 @@ StandsFor text p = Reads text (is_listing text) p
 -- why no program is made of a text: as a listing or assembler text it stands for no instructions, or the checker refuses those
 -- that it stands for
 abbrev pub IsFaultOf : List ℕ → ProgramFault → Type 0
-IsFaultOf text (Listing fault) = (is_listing text ≡ true) × listing.IsAnswer (lines text) fault
-IsFaultOf text (Assembler fault) = (is_listing text ≡ false) × assembler.IsAnswer (token_lines text) fault
+IsFaultOf text (Listing fault) = (is_listing text ≡ true) × listing.IsListingFault (lines text) fault
+IsFaultOf text (Assembler fault) = (is_listing text ≡ false) × assembler.IsAssemblyFault (token_lines text) fault
 IsFaultOf text (Check fault) = (p : List Insn) × StandsFor text p × IsFirstFault p fault

@@ -1,0 +1,10 @@
+use Rattle.std.proofs.Common.{◌≡◌, ℕ, ◌<◌}
+use Rattle.bpf_check.proofs.Words.{insn_at}
+use Rattle.bpf_check.proofs.checked.is_same_program.Given as goal
+
+-- no difference is kept exactly where the instructions so far are the same
+abbrev pub invariant-loop-place : goal.invariant-loop-place
+invariant-loop-place l = record {
+  same : l.differences ≡ 0 → (k : ℕ) → k < l.place → insn_at l.one k ≡ insn_at l.other k;
+  none : l.one ≡ l.other → l.differences ≡ 0;
+}
