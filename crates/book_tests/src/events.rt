@@ -1,7 +1,7 @@
 //! A node, and events for it.
 
 use bpf_check::{Checked, Insn, check};
-use filter_slots::{Datagram, End, Moment, Socket};
+use filter_slots::{Datagram, End, Moment, Slot, Socket};
 use node_core::{Config, Event, Mode, Network, Node, Outcome};
 use object_store::{CacheKey, Object, SharedObject};
 use std::alloc::Global;
@@ -102,7 +102,7 @@ pub(crate) fn limit(alloc: Global, k: u32) -> Option<Arc<Checked>> {
 /// The ICP socket's filter lets through only so many octets of a packet from now on.
 pub(crate) fn swap(alloc: Global, k: u32) -> Option<Event> {
     Some(Event::Swap {
-        socket: Socket::Icp,
+        slot: Slot::Socket(Socket::Icp),
         program: Some(limit(alloc, k)?),
     })
 }

@@ -2,7 +2,7 @@
 
 use crate::events::{QUERY, arrival, fetched, request, swap};
 use bpf_check::Checked;
-use filter_slots::{Moment, Socket};
+use filter_slots::{Moment, Slot, Socket};
 use node_core::{Event, Mode, Outcome};
 use std::alloc::Global;
 use std::sync::Arc;
@@ -81,15 +81,15 @@ pub(crate) fn again(event: &Event) -> Option<Event> {
             now: *now,
         }),
         Event::Gone { client } => Some(Event::Gone { client: *client }),
-        Event::Swap { socket, program } => swap_again(*socket, program),
+        Event::Swap { slot, program } => swap_again(*slot, program),
     }
 }
 
-/// The same program for the same socket once more.
-fn swap_again(socket: Socket, program: &Option<Arc<Checked>>) -> Option<Event> {
+/// The same program for the same slot once more.
+fn swap_again(slot: Slot, program: &Option<Arc<Checked>>) -> Option<Event> {
     let program = match program {
         Some(program) => Some(Arc::try_clone(program).ok()?),
         None => None,
     };
-    Some(Event::Swap { socket, program })
+    Some(Event::Swap { slot, program })
 }

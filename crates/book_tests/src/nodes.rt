@@ -105,7 +105,7 @@ fn clients_join_and_are_turned_away(rt: HostRuntime) -> Result<(), Fail> {
 /// Whether a query that was judged by a filter that rejects it is answered MISS.
 fn is_missed_when_judged(alloc: Global, node: &mut Node) -> Option<bool> {
     let datagram = datagram_of(alloc, Socket::Icp, QUERY)?;
-    let judged = Judged::new(datagram, Some(limit(alloc, 0)?));
+    let judged = Judged::new(datagram, Some(limit(alloc, 0)?), None);
     let mut out = Out::new(alloc).ok()?;
     node.step_judged(alloc, &judged, Moment::new(5)?, &mut out)
         .ok()?;

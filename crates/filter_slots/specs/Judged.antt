@@ -1,8 +1,19 @@
--- A datagram, and the program or none that it was judged by.
+-- A datagram, and the programs that it was judged by: its socket's or none, and its sender's or none.
 use Rattle.std.specs.Prelude.{List, Option}
 use Rattle.bpf_check.specs.declared.insn.Insn.{Insn}
 use Rattle.filter_slots.specs.Datagram.{DatagramFields}
+use Rattle.filter_slots.specs.Filters.{Filters}
+use Rattle.filter_slots.specs.Verdict.{sockets_program, neighbours_program}
 
 pub record JudgedFields : Type 0 where
   pub datagram : DatagramFields
-  pub program : Option (List Insn)
+  pub first : Option (List Insn)
+  pub second : Option (List Insn)
+
+-- the datagram as it is judged by the programs in force
+abbrev pub judged_under : Filters → DatagramFields → JudgedFields
+judged_under filters d = record {
+  datagram = d;
+  first = sockets_program filters d;
+  second = neighbours_program filters d;
+}

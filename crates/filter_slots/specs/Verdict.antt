@@ -1,13 +1,15 @@
--- The verdict in force for a datagram: that of the program in its socket's slot, on the packet that
--- filters see of it.
-use Rattle.std.specs.Prelude.{ℕ, List, Option, Some, None}
+-- The verdict in force for a datagram. Two programs judge it: that of its socket's slot sees the whole packet, and that of its
+-- sender's slot, where the sender is a configured neighbour, what the first lets through.
+use Rattle.std.specs.Prelude.{ℕ, ◌+◌, min, List, Option, Some, None}
 use Rattle.bpf_check.specs.declared.insn.Insn.{Insn}
 use Rattle.bpf_run.specs.Packet.{filter_packet}
 use Rattle.bpf_run.specs.Verdict.{verdict_of, steps_of}
+use Rattle.filter_slots.specs.declared.slot.Slot.TheVariants as slots
+use Rattle.filter_slots.specs.Cut.{cut_of}
 use Rattle.filter_slots.specs.Datagram.{DatagramFields}
-use Rattle.filter_slots.specs.Filters.{Filters, slot}
+use Rattle.filter_slots.specs.Filters.{Filters, slot, program_for}
 
--- a program's verdict on a datagram; without a program the whole packet is let through
+-- one program's verdict on a datagram; without a program the whole packet is let through
 abbrev pub verdict_by : DatagramFields → Option (List Insn) → ℕ
 verdict_by d None = 4294967295
 verdict_by d (Some program) = verdict_of program (filter_packet d.from d.to d.payload)
@@ -17,10 +19,31 @@ abbrev pub steps_by : DatagramFields → Option (List Insn) → ℕ
 steps_by d None = 0
 steps_by d (Some program) = steps_of program (filter_packet d.from d.to d.payload)
 
+-- the datagram with what a verdict leaves of its payload
+abbrev pub cut_to : DatagramFields → ℕ → DatagramFields
+cut_to d value = record d { payload = cut_of d.payload value }
+
+-- the verdict of two programs: the smaller of the first one's, and of the second one's on what the first leaves. So it is 0 where
+-- either is 0.
+abbrev pub verdict_by_both : DatagramFields → Option (List Insn) → Option (List Insn) → ℕ
+verdict_by_both d first second = min (verdict_by d first) (verdict_by (cut_to d (verdict_by d first)) second)
+
+-- the steps of both; the second is judged also where the first leaves nothing
+abbrev pub steps_by_both : DatagramFields → Option (List Insn) → Option (List Insn) → ℕ
+steps_by_both d first second = steps_by d first + steps_by (cut_to d (verdict_by d first)) second
+
+-- the program in the slot of the datagram's socket
+abbrev pub sockets_program : Filters → DatagramFields → Option (List Insn)
+sockets_program filters d = slot filters (slots.Socket d.socket)
+
+-- the program in the slot of the neighbour that the datagram is from
+abbrev pub neighbours_program : Filters → DatagramFields → Option (List Insn)
+neighbours_program filters d = program_for filters.neighbours d.socket d.from
+
 -- the verdict in force
 abbrev pub verdict_in_force : Filters → DatagramFields → ℕ
-verdict_in_force filters d = verdict_by d (slot filters d.socket)
+verdict_in_force filters d = verdict_by_both d (sockets_program filters d) (neighbours_program filters d)
 
 -- the steps that it takes
 abbrev pub steps_in_force : Filters → DatagramFields → ℕ
-steps_in_force filters d = steps_by d (slot filters d.socket)
+steps_in_force filters d = steps_by_both d (sockets_program filters d) (neighbours_program filters d)

@@ -2,8 +2,10 @@
 
 ghost use Rattle.std.specs.Prelude.{◌≡◌, ◌≤◌, ◌↔◌, length, IsOk, IfOk, IfErr};
 ghost use Rattle.bpf_run.specs.Packet.{filter_packet, most_payload};
+ghost use Rattle.filter_slots.specs.Cut.{cut_of};
 ghost use Rattle.filter_slots.specs.Datagram.{ends_of};
 
+use crate::cutting::cut;
 use bpf_run::packet::MOST_PAYLOAD;
 use bpf_run::{End, Packet, Socket};
 use std::marker::Model;
@@ -94,6 +96,17 @@ impl Datagram {
         ensures { result ≡ filter_packet self.now.from self.now.to self.now.payload }
     {
         match Packet::new(self.from, self.to, &self.payload) {
+            Some(packet) => packet,
+            None => unreachable!(),
+        }
+    }
+
+    /// The packet that a filter sees of it when its payload is cut to what a verdict leaves.
+    #[inline(always)]
+    pub(crate) fn packet_cut(&self, value: u32) -> Packet<'_>
+        ensures { result ≡ filter_packet self.now.from self.now.to (cut_of self.now.payload value) }
+    {
+        match Packet::new(self.from, self.to, cut(self, value)) {
             Some(packet) => packet,
             None => unreachable!(),
         }

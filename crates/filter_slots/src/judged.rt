@@ -1,23 +1,28 @@
-//! Datagrams that are judged before it is known which program is in force.
+//! Datagrams that are judged before it is known which programs are in force.
 
-ghost use Rattle.std.specs.Prelude.{◌≡◌, IsTrue};
+ghost use Rattle.std.specs.Prelude.{◌≡◌, IsTrue, IfOk};
 ghost use Rattle.std.specs.Option.{option_map, option_copied};
 ghost use Rattle.std.specs.Arc.{arc_value};
-ghost use Rattle.filter_slots.specs.Verdict.{verdict_by, steps_by, verdict_in_force, steps_in_force};
+ghost use Rattle.filter_slots.specs.Judged.{judged_under};
+ghost use Rattle.filter_slots.specs.Verdict.{verdict_by_both, steps_by_both, verdict_in_force, steps_in_force};
 
 use crate::datagram::Datagram;
+use crate::judging::judge_by;
 use crate::slots::Slots;
 use bpf_check::Checked;
-use bpf_run::{Verdict, judge};
+use bpf_run::Verdict;
+use std::alloc::AllocError;
 use std::marker::Model;
 use std::sync::Arc;
 
-/// A datagram with the verdict of a program or none on it, as of a slot that holds that program.
-/// Contracts see the datagram and the program.
+/// A datagram with the verdict of two programs on it, each of which may be missing: as of a slot of
+/// its socket that holds the first, and a slot of its sender that holds the second. Contracts see
+/// the datagram and the programs.
 #[derive(Drop)]
 pub struct Judged {
     datagram: Arc<Datagram>,
-    program: Option<Arc<Checked>>,
+    first: Option<Arc<Checked>>,
+    second: Option<Arc<Checked>>,
     verdict: Verdict,
 }
 
@@ -26,32 +31,38 @@ impl Model for Judged {
     ghost use Rattle.std.specs.Option.{option_map};
     ghost use Rattle.std.specs.Arc.{arc_value};
     ghost use Rattle.filter_slots.specs.Judged.{JudgedFields};
-    ghost use Rattle.filter_slots.specs.Verdict.{verdict_by, steps_by};
+    ghost use Rattle.filter_slots.specs.Verdict.{verdict_by_both, steps_by_both};
 
     ghost Value = { JudgedFields };
 
-    ghost view = { λ j. record { datagram = arc_value j.datagram; program = option_map (λ arc. arc_value arc) j.program } };
+    ghost view = { λ j. record { datagram = arc_value j.datagram; first = option_map (λ arc. arc_value arc) j.first; second = option_map (λ arc. arc_value arc) j.second } };
 
-    ghost invariant = { λ j. (j.verdict.value ≡ verdict_by (arc_value j.datagram) (option_map (λ arc. arc_value arc) j.program)) × (j.verdict.steps ≡ steps_by (arc_value j.datagram) (option_map (λ arc. arc_value arc) j.program)) };
+    ghost invariant = { λ j. (j.verdict.value ≡ verdict_by_both (arc_value j.datagram) (option_map (λ arc. arc_value arc) j.first) (option_map (λ arc. arc_value arc) j.second)) × (j.verdict.steps ≡ steps_by_both (arc_value j.datagram) (option_map (λ arc. arc_value arc) j.first) (option_map (λ arc. arc_value arc) j.second)) };
 }
 
 impl Judged {
-    /// Judges a datagram by this program, or by none. It takes no memory.
-    pub fn new(datagram: Arc<Datagram>, program: Option<Arc<Checked>>) -> Judged
-        ensures { result ≡ record { datagram = arc_value datagram; program = option_map (λ arc. arc_value arc) program } }
+    /// Judges a datagram by two programs, or by one, or by none: the first is that of its socket's
+    /// slot, the second that of its sender's. It takes no memory.
+    pub fn new(
+        datagram: Arc<Datagram>,
+        first: Option<Arc<Checked>>,
+        second: Option<Arc<Checked>>,
+    ) -> Judged
+        ensures { result ≡ record { datagram = arc_value datagram; first = option_map (λ arc. arc_value arc) first; second = option_map (λ arc. arc_value arc) second } }
     {
-        let verdict = verdict_by(&program, &datagram);
+        let verdict = judge_by(&datagram, first.as_ref(), second.as_ref());
         Judged {
             datagram,
-            program,
+            first,
+            second,
             verdict,
         }
     }
 
-    /// What its program, if it has one, says of its datagram.
+    /// What its programs say of its datagram.
     pub fn verdict(&self) -> Verdict
-        ensures value { result.value ≡ verdict_by self.now.datagram self.now.program }
-        ensures steps { result.steps ≡ steps_by self.now.datagram self.now.program }
+        ensures value { result.value ≡ verdict_by_both self.now.datagram self.now.first self.now.second }
+        ensures steps { result.steps ≡ steps_by_both self.now.datagram self.now.first self.now.second }
     {
         self.verdict
     }
@@ -63,40 +74,56 @@ impl Judged {
         &self.datagram
     }
 
-    /// The program that it was judged by, if there was one.
-    pub fn program(&self) -> &Option<Arc<Checked>>
-        ensures { option_map (λ arc. arc_value arc) result.now ≡ self.now.program }
+    /// The program that it was judged by as that of its socket's slot, if there was one.
+    pub fn first(&self) -> &Option<Arc<Checked>>
+        ensures { option_map (λ arc. arc_value arc) result.now ≡ self.now.first }
     {
-        &self.program
+        &self.first
+    }
+
+    /// The program that it was judged by as that of its sender's slot, if there was one.
+    pub fn second(&self) -> &Option<Arc<Checked>>
+        ensures { option_map (λ arc. arc_value arc) result.now ≡ self.now.second }
+    {
+        &self.second
     }
 }
 
 impl Slots {
-    /// The verdict in force on a datagram that is judged already: the one that it has, where the program in the slot
-    /// of its socket is equal to its own or both have none; otherwise the datagram is judged here.
+    /// Judges a datagram by the programs in force on it, which get one more owner each. An error
+    /// says that one has too many.
+    pub fn judge(&self, datagram: Arc<Datagram>) -> Result<Judged, AllocError>
+        ensures { IfOk result (λ judged. judged ≡ judged_under self.now (arc_value datagram)) }
+    {
+        let (first, second) = self.pair(&datagram);
+        let first = owned(first)?;
+        let second = owned(second)?;
+        Ok(Judged::new(datagram, first, second))
+    }
+
+    /// The verdict in force on a datagram that is judged already: the one that it has, where the
+    /// programs in the slots of its socket and its sender are equal to its own, or both are
+    /// missing; otherwise the datagram is judged here.
     pub fn force_judged(&self, judged: &Judged) -> Verdict
         ensures value { result.value ≡ verdict_in_force self.now judged.now.datagram }
         ensures steps { result.steps ≡ steps_in_force self.now judged.now.datagram }
     {
         let datagram = judged.datagram();
-        if is_same(self.installed(datagram.socket()), judged.program()) {
+        let (first, second) = self.pair(datagram);
+        if is_same(first, judged.first()) && is_same(second, judged.second()) {
             return judged.verdict();
         }
-        self.force(datagram)
+        judge_by(datagram, first, second)
     }
 }
 
-// The verdict of a program or none on a datagram.
-fn verdict_by(program: &Option<Arc<Checked>>, datagram: &Datagram) -> Verdict
-    ensures value { result.value ≡ verdict_by datagram.now (option_map (λ arc. arc_value arc) program.now) }
-    ensures steps { result.steps ≡ steps_by datagram.now (option_map (λ arc. arc_value arc) program.now) }
+// The same program with one more owner.
+fn owned(program: Option<&Arc<Checked>>) -> Result<Option<Arc<Checked>>, AllocError>
+    ensures { IfOk result (λ copy. option_map (λ arc. arc_value arc) copy ≡ option_map (λ arc. arc_value arc) (option_copied program.entry)) }
 {
     match program {
-        None => Verdict {
-            value: u32::MAX,
-            steps: 0,
-        },
-        Some(program) => judge(program, &datagram.packet()),
+        None => Ok(None),
+        Some(program) => Ok(Some(Arc::try_clone(program)?)),
     }
 }
 

@@ -1,19 +1,22 @@
 //! Laws of the definitions.
 
-ghost use Rattle.std.specs.Prelude.{◌≡◌, List, ℕ, Some};
+ghost use Rattle.std.specs.Prelude.{◌≡◌, ℕ, List, Some};
 ghost use Rattle.bpf_check.specs.declared.insn.Insn.{Insn};
 ghost use Rattle.bpf_run.specs.Packet.{filter_packet};
 ghost use Rattle.bpf_run.specs.Chain.{Gives};
+ghost use Rattle.filter_slots.specs.Cut.{cut_of};
 ghost use Rattle.filter_slots.specs.Datagram.{DatagramFields};
-ghost use Rattle.filter_slots.specs.Filters.{Filters, slot, AreAccepted};
-ghost use Rattle.filter_slots.specs.Verdict.{verdict_in_force, steps_in_force};
+ghost use Rattle.filter_slots.specs.Filters.{Filters, AreAccepted};
+ghost use Rattle.filter_slots.specs.Verdict.{verdict_by, steps_by, cut_to, sockets_program, neighbours_program};
 
 use bpf_run::laws::verdict_is_given;
 
-/// In a slot with an accepted program the verdict and the steps in force are those of the program's
-/// run on the packet that filters see.
+/// Where both slots have accepted programs, the two verdicts and steps that those in force are made
+/// of are those of the programs' runs: the first on the packet that filters see, the second on the
+/// packet of what the first lets through.
 pub fn verdict_in_force_is_given()
-    ensures { (filters : Filters) (d : DatagramFields) (p : List Insn) → AreAccepted filters → slot filters d.socket ≡ Some p → Gives p (filter_packet d.from d.to d.payload) (verdict_in_force filters d) (steps_in_force filters d) }
+    ensures first { (filters : Filters) (d : DatagramFields) (p : List Insn) → AreAccepted filters → sockets_program filters d ≡ Some p → Gives p (filter_packet d.from d.to d.payload) (verdict_by d (Some p)) (steps_by d (Some p)) }
+    ensures second { (filters : Filters) (d : DatagramFields) (value : ℕ) (p : List Insn) → AreAccepted filters → neighbours_program filters d ≡ Some p → Gives p (filter_packet d.from d.to (cut_of d.payload value)) (verdict_by (cut_to d value) (Some p)) (steps_by (cut_to d value) (Some p)) }
 {
     verdict_is_given()
 }

@@ -1,9 +1,9 @@
 //! One thread swaps a filter while others submit datagrams that they judged by what they saw of it.
 ghost use Rattle.std.specs.Prelude.{◌≡◌, ◌<◌, ◌≤◌};
 
-use crate::events::{query, swap};
+use crate::events::{SLOTS, query, swap};
 use crate::orders::desk_of;
-use filter_slots::{Judged, Moment, Socket};
+use filter_slots::Moment;
 use node_book::{Clerk, Desk, Programs, Report, Seat, Seated};
 use node_core::{Counters, Out};
 use std::alloc::Global;
@@ -20,13 +20,14 @@ const DATAGRAMS: u32 = 10_000;
 
 const SWAPS: u32 = 2_000;
 
-/// Swaps the filter so often, by turns to one that rejects everything and to none.
+/// Swaps filters so often, by turns to one that rejects everything and to none: the one of the socket and that of who asks.
 fn swap_often<C: Clerk>(alloc: Global, clerk: &mut C) -> Option<()> {
     let mut out = Out::new(alloc).ok()?;
     for i in 0..SWAPS {
         out.clear();
         let k = if i % 2 == 0 { Some(0) } else { None };
-        clerk.submit(alloc, swap(alloc, k)?, &mut out).ok()?;
+        let slot = SLOTS[(i / 2 % 2) as usize];
+        clerk.submit(alloc, swap(alloc, slot, k)?, &mut out).ok()?;
     }
     Some(())
 }
@@ -37,8 +38,7 @@ fn ask_often<C: Clerk>(alloc: Global, clerk: &mut C) -> Option<u64> {
     let mut sent = 0u64;
     for i in 0..DATAGRAMS {
         out.clear();
-        let program = clerk.programs().ok()?.clear(Socket::Icp);
-        let judged = Judged::new(query(alloc)?, program);
+        let judged = clerk.judge(query(alloc)?).ok()?;
         clerk
             .submit_judged(alloc, &judged, Moment::new(i as u64)?, &mut out)
             .ok()?;

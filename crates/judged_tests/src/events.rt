@@ -1,8 +1,10 @@
 //! A node, and datagrams and programs for it.
 
 use bpf_check::{Checked, Insn, check};
-use filter_slots::{Datagram, End, Judged, Moment, Socket};
-use node_core::{Config, Event, Network, Node};
+use filter_slots::{Datagram, End, Judged, Moment, Slot, Socket};
+use neighbours::{Neighbour, Role};
+use node_core::{Config, Event, Mode, Network, Node};
+use object_store::CacheKey;
 use std::alloc::Global;
 use std::sync::Arc;
 
@@ -31,6 +33,24 @@ const OWN_HTCP: End = End {
     port: 4827,
 };
 
+/// The slots whose programs judge the query.
+pub(crate) const SLOTS: [Slot; 2] = [Slot::Socket(Socket::Icp), Slot::Neighbour(0)];
+
+/// Who asks is a neighbour.
+fn neighbours(alloc: Global) -> Option<Vec<Neighbour>> {
+    let mut neighbours = Vec::new(alloc);
+    let asker = Neighbour {
+        kind: Role::Parent,
+        protocol: Socket::Icp,
+        end: ASKER,
+        http_port: 8_080,
+        weight: 1,
+        key: None,
+    };
+    neighbours.push(asker).ok()?;
+    Some(neighbours)
+}
+
 /// The settings of a node at 10.0.0.1, which answers 10.0.0.0/8.
 fn settings(alloc: Global) -> Option<Config> {
     let mut allowed = Vec::new(alloc);
@@ -47,7 +67,7 @@ fn settings(alloc: Global) -> Option<Config> {
         origin: true,
         entries: 100,
         octets: 10_000,
-        neighbours: Vec::new(alloc),
+        neighbours: neighbours(alloc)?,
         keys: Vec::new(alloc),
     })
 }
@@ -76,26 +96,59 @@ pub(crate) fn program(alloc: Global, k: u32) -> Option<Arc<Checked>> {
     Arc::new(alloc, program).ok()
 }
 
-/// The query as a program judged it that gives every packet the verdict k.
-pub(crate) fn judged_by(alloc: Global, k: u32) -> Option<Judged> {
-    Some(Judged::new(query(alloc)?, Some(program(alloc, k)?)))
+/// The query as it was judged by a program that gives every packet the verdict k, or by none, in one slot, and by none in the
+/// other.
+pub(crate) fn judged_by(alloc: Global, slot: Slot, k: Option<u32>) -> Option<Judged> {
+    let program = program_if(alloc, k)?;
+    match slot {
+        Slot::Socket(_) => Some(Judged::new(query(alloc)?, program, None)),
+        Slot::Neighbour(_) => Some(Judged::new(query(alloc)?, None, program)),
+    }
 }
 
-/// The query arrives.
-pub(crate) fn arrival(alloc: Global, now: Moment) -> Option<Arc<Event>> {
+/// A program that gives every packet the verdict k, or none.
+fn program_if(alloc: Global, k: Option<u32>) -> Option<Option<Arc<Checked>>> {
+    match k {
+        Some(k) => Some(Some(program(alloc, k)?)),
+        None => Some(None),
+    }
+}
+
+/// The moment of a second.
+pub(crate) fn at(second: u64) -> Option<Moment> {
+    Moment::new(second.saturating_mul(1_000))
+}
+
+/// The query arrives at this second.
+pub(crate) fn arrival(alloc: Global, second: u64) -> Option<Arc<Event>> {
     let datagram = query(alloc)?;
+    let now = at(second)?;
     Arc::new(alloc, Event::Datagram { datagram, now }).ok()
 }
 
-/// The ICP socket's filter is replaced by one that gives every packet the verdict k, or taken out.
-pub(crate) fn swap(alloc: Global, k: Option<u32>) -> Option<Arc<Event>> {
-    let program = match k {
-        Some(k) => Some(program(alloc, k)?),
-        None => None,
+/// It is this second.
+pub(crate) fn tick(alloc: Global, second: u64) -> Option<Arc<Event>> {
+    let now = at(second)?;
+    Arc::new(alloc, Event::Timer { now }).ok()
+}
+
+/// A client asks at this second for a key of its own.
+pub(crate) fn request(alloc: Global, second: u64) -> Option<Arc<Event>> {
+    let mut octets = b"http://a/".to_vec(alloc).ok()?;
+    for _ in 0..second % 1_000 {
+        octets.push(b'a').ok()?;
+    }
+    let request = Event::Request {
+        client: second,
+        key: CacheKey::new(alloc, octets).ok()?,
+        mode: Mode::Shared,
+        now: at(second)?,
     };
-    let swap = Event::Swap {
-        socket: Socket::Icp,
-        program,
-    };
-    Arc::new(alloc, swap).ok()
+    Arc::new(alloc, request).ok()
+}
+
+/// A slot's filter is replaced by one that gives every packet the verdict k, or taken out.
+pub(crate) fn swap(alloc: Global, slot: Slot, k: Option<u32>) -> Option<Arc<Event>> {
+    let program = program_if(alloc, k)?;
+    Arc::new(alloc, Event::Swap { slot, program }).ok()
 }

@@ -10,3 +10,5 @@ mod events;
 mod orders;
 #[cfg(test)]
 mod pumping;
+#[cfg(test)]
+mod silence;

@@ -1,9 +1,9 @@
-//! A filter that is swapped between the judging of a datagram and its taking.
+//! A filter, of the socket or of who asks, that is swapped between the judging of a datagram and its taking.
 ghost use Rattle.std.specs.Prelude.{◌≡◌, ◌<◌, ◌≤◌, [], OnSome, IfSome};
 ghost use Rattle.node_book.specs.Book.{count_of};
 
-use crate::events::{MISS, arrival, judged_by, node_of, query, swap};
-use filter_slots::{Judged, Moment, Socket};
+use crate::events::{MISS, SLOTS, arrival, at, judged_by, node_of, swap};
+use filter_slots::{Moment, Slot};
 use node_book::{Booked, Clerk, Desk, Lone, Report, Seat, Seated, TakeFault};
 use node_core::{Action, Counters, Node, Out, same_event};
 use std::alloc::Global;
@@ -61,14 +61,6 @@ const ROWS: [Row; 7] = [
     },
 ];
 
-/// The query as it was judged.
-fn judged_of(alloc: Global, judged: Option<u32>) -> Option<Judged> {
-    match judged {
-        Some(k) => judged_by(alloc, k),
-        None => Some(Judged::new(query(alloc)?, None)),
-    }
-}
-
 /// Whether an answer to the query was sent, and nothing else, or nothing at all. None says that something else was done.
 fn is_answer(out: &Out) -> Option<bool> {
     match out.actions() {
@@ -89,11 +81,11 @@ fn counted(in_force: Option<u32>) -> Counters {
 }
 
 /// Has a clerk take a swap and then the query, which was judged before; whether it is answered.
-fn answered<C: Clerk>(alloc: Global, clerk: &mut C, row: &Row) -> Option<bool> {
-    let judged = judged_of(alloc, row.judged)?;
+fn answered<C: Clerk>(alloc: Global, clerk: &mut C, slot: Slot, row: &Row) -> Option<bool> {
+    let judged = judged_by(alloc, slot, row.judged)?;
     let mut out = Out::new(alloc).ok()?;
     clerk
-        .submit(alloc, swap(alloc, row.in_force)?, &mut out)
+        .submit(alloc, swap(alloc, slot, row.in_force)?, &mut out)
         .ok()?;
     out.clear();
     clerk
@@ -106,9 +98,11 @@ fn answered<C: Clerk>(alloc: Global, clerk: &mut C, row: &Row) -> Option<bool> {
 fn a_node_by_itself_judges_again(rt: HostRuntime) -> Result<(), Fail> {
     let alloc = rt.alloc();
     for row in &ROWS {
-        let mut clerk = Lone::new(alloc, node_of(alloc).ok_or("a node")?);
-        assert!(rt; answered(alloc, &mut clerk, row) == Some(row.is_answered));
-        assert!(rt; clerk.node().stats().icp == counted(row.in_force));
+        for slot in SLOTS {
+            let mut clerk = Lone::new(alloc, node_of(alloc).ok_or("a node")?);
+            assert!(rt; answered(alloc, &mut clerk, slot, row) == Some(row.is_answered));
+            assert!(rt; clerk.node().stats().icp == counted(row.in_force));
+        }
     }
     Ok(())
 }
@@ -119,10 +113,11 @@ fn answered_at<L: Ledger, R: Wait>(
     alloc: Global,
     desk: &Desk<L>,
     seat: Seat<L>,
+    slot: Slot,
     row: &Row,
 ) -> Option<(bool, Counters, Seat<L>)> {
     let mut clerk = Seated::new(alloc, rt, desk, seat);
-    let is_answered = answered(alloc, &mut clerk, row)?;
+    let is_answered = answered(alloc, &mut clerk, slot, row)?;
     Some((is_answered, desk.stats(rt).icp, clerk.into_seat()))
 }
 
@@ -153,6 +148,7 @@ fn told<L: Ledger, R: Wait>(
     rt: &R,
     alloc: Global,
     blank: Blank,
+    slot: Slot,
     row: &Row,
 ) -> Option<(bool, Counters, Report)>
     requires name { blank.name ≡ L.name }
@@ -161,7 +157,7 @@ fn told<L: Ledger, R: Wait>(
 {
     let (desk, mut seats) = desk_of::<L>(alloc, blank, 4, 1)?;
     let seat = seats.pop()?;
-    let (is_answered, icp, seat) = answered_at(rt, alloc, &desk, seat, row)?;
+    let (is_answered, icp, seat) = answered_at(rt, alloc, &desk, seat, slot, row)?;
     seats.push(seat).ok()?;
     Some((is_answered, icp, desk.settle(seats).ok()?))
 }
@@ -174,20 +170,22 @@ fn a_desk_judges_again(rt: HostRuntime) -> Result<(), Fail> {
         matched: 2,
     };
     for row in &ROWS {
-        let told = told::<Brand, _>(&rt, rt.alloc(), Blank::new(1), row);
-        assert!(rt; told == Some((row.is_answered, counted(row.in_force), report)));
+        for slot in SLOTS {
+            let told = told::<Brand, _>(&rt, rt.alloc(), Blank::new(1), slot, row);
+            assert!(rt; told == Some((row.is_answered, counted(row.in_force), report)));
+        }
     }
     Ok(())
 }
 
 /// Whether a book that takes the query judged keeps the event of its arrival, and a full volume takes none.
 fn is_kept(alloc: Global) -> Option<bool> {
-    let now = Moment::new(5)?;
-    let judged = judged_by(alloc, 65_535)?;
+    let now = at(5)?;
+    let judged = judged_by(alloc, SLOTS[0], Some(65_535))?;
     let mut booked = book_of(alloc, 1)?;
     let mut out = Out::new(alloc).ok()?;
     let receipt = booked.take_judged(alloc, &judged, now, &mut out).ok()?;
-    let is_same = same_event(&*receipt.event, &*arrival(alloc, now)?);
+    let is_same = same_event(&*receipt.event, &*arrival(alloc, 5)?);
     out.clear();
     let refused = booked.take_judged(alloc, &judged, now, &mut out).err();
     Some(is_same && refused == Some(TakeFault::VolumeFull) && booked.count() == 1)

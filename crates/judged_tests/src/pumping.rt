@@ -1,9 +1,9 @@
 //! The loop between a wire and a clerk judges what it receives by the clerk's programs.
 ghost use Rattle.std.specs.Prelude.{◌≡◌};
 
-use crate::events::{ASKER, MISS, node_of, query, swap};
+use crate::events::{ASKER, MISS, SLOTS, node_of, query, swap};
 use crate::orders::desk_of;
-use filter_slots::{Moment, Socket};
+use filter_slots::{Moment, Slot};
 use mio_queries::{MemoryWire, PumpFault, Pumped, Received, Sending, WireFault, pump};
 use node_book::{Clerk, Lone, Report, Seat, Seated};
 use node_core::Out;
@@ -113,11 +113,11 @@ fn are_answers(sent: &[Sending], count: u64) -> bool {
             .all(|one| one.to == ASKER && one.payload.as_slice() == MISS)
 }
 
-/// Whether pumping gives what the row says, once the clerk has taken the row's filter.
-fn holds<C: Clerk>(alloc: Global, clerk: &mut C, row: &Row) -> Option<bool> {
+/// Whether pumping gives what the row says, once the clerk has taken the row's filter in a slot.
+fn holds<C: Clerk>(alloc: Global, clerk: &mut C, slot: Slot, row: &Row) -> Option<bool> {
     let mut out = Out::new(alloc).ok()?;
     clerk
-        .submit(alloc, swap(alloc, row.filter)?, &mut out)
+        .submit(alloc, swap(alloc, slot, row.filter)?, &mut out)
         .ok()?;
     let mut wire = wire_of(alloc, row.fails)?;
     let gives = pump(alloc, &mut wire, clerk, row.turns);
@@ -128,8 +128,10 @@ fn holds<C: Clerk>(alloc: Global, clerk: &mut C, row: &Row) -> Option<bool> {
 fn a_node_by_itself_is_pumped(rt: HostRuntime) -> Result<(), Fail> {
     let alloc = rt.alloc();
     for row in &ROWS {
-        let mut clerk = Lone::new(alloc, node_of(alloc).ok_or("a node")?);
-        assert!(rt; holds(alloc, &mut clerk, row) == Some(true));
+        for slot in SLOTS {
+            let mut clerk = Lone::new(alloc, node_of(alloc).ok_or("a node")?);
+            assert!(rt; holds(alloc, &mut clerk, slot, row) == Some(true));
+        }
     }
     Ok(())
 }
@@ -137,7 +139,7 @@ fn a_node_by_itself_is_pumped(rt: HostRuntime) -> Result<(), Fail> {
 /// Whether pumping gives what the rows say, one after the other.
 fn all_hold<C: Clerk>(alloc: Global, clerk: &mut C) -> Option<bool> {
     for row in &ROWS {
-        if !holds(alloc, clerk, row)? {
+        if !holds(alloc, clerk, SLOTS[0], row)? {
             return Some(false);
         }
     }

@@ -151,18 +151,8 @@ fn submit_datagram<C: Clerk>(
     ensures taken { OnOk result (HasServed (C.told clerk.old) (C.told clerk.new) (arrives (arc_value datagram) now ∷ []) (out.new ∷ []) []) }
     ensures refused { OnErr result (C.told clerk.new ≡ C.told clerk.old) }
 {
-    let judged = judge(clerk, datagram)?;
+    let judged = clerk.judge(datagram)?;
     submit_judged(alloc, clerk, &judged, now, out)
-}
-
-/// Judges a datagram by the clerk's programs.
-fn judge<C: Clerk>(clerk: &mut C, datagram: Arc<Datagram>) -> Result<Judged, NoMemory>
-    ensures datagram { IfOk result (λ judged. judged.datagram ≡ arc_value datagram) }
-    ensures same { C.told clerk.new ≡ C.told clerk.old }
-{
-    let mut programs = clerk.programs()?;
-    let program = programs.clear(datagram.socket());
-    Ok(Judged::new(datagram, program))
 }
 
 /// Has the clerk take a judged datagram.

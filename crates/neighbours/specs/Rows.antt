@@ -34,7 +34,7 @@ weight_at neighbours n = unwrap_or (option_map (λ (neighbour : Neighbour). neig
 abbrev pub is_up : Mark → Bool
 is_up mark = nat_lt mark.misses 20
 
--- the first sample r gives 8r, a later one S - S/8 + r; an r above 65,535 counts as 65,535
+-- the first sample r gives 8r, a later one S - S/8 + r; a longer sample than 65,535 ms is taken for that
 abbrev pub smoothed : Option ℕ → ℕ → ℕ
 smoothed None ms = 8 * min ms 65535
 smoothed (Some s) ms = (s - s / 8) + min ms 65535

@@ -139,6 +139,14 @@ impl Table {
         self.marks[n].time
     }
 
+    /// How many rounds it has missed since it was last heard of, at most 20.
+    pub fn misses(&self, n: usize) -> u8
+        requires { n < length self.now.neighbours }
+        ensures { result ≡ (mark_at self.now.marks n).misses }
+    {
+        self.marks[n].misses
+    }
+
     /// It replied: it has no misses.
     pub fn replied(&mut self, n: usize)
         requires { n < length self.old.neighbours }

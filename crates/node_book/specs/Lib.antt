@@ -3,6 +3,7 @@ pub mod Claims
 pub mod Entries
 pub mod Good
 pub mod Kept
+pub mod NeighbourView
 pub mod Seats
 pub mod Settled
 pub mod Shown

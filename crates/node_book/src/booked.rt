@@ -209,8 +209,8 @@ impl Booked {
         })
     }
 
-    /// Takes a datagram that is judged already, as `take` takes the event that it arrives now. Its verdict counts where its
-    /// program is equal to the one in force, or both have none; otherwise it is judged here.
+    /// Takes a datagram that is judged already, as `take` takes the event that it arrives now. Its verdict counts where each of
+    /// its programs is equal to the one in force, or both have none; otherwise it is judged here.
     pub fn take_judged(
         &mut self,
         alloc: Global,

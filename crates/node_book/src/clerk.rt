@@ -3,12 +3,13 @@ ghost use Rattle.std.specs.Prelude.{◌≡◌, ◌≤◌, ◌+◌, ◌∷◌, []
 ghost use Rattle.std.specs.Option.{option_map};
 ghost use Rattle.std.specs.Arc.{arc_value};
 ghost use Rattle.pending_fetch.specs.Fetches.{fetch_of};
+ghost use Rattle.filter_slots.specs.Judged.{judged_under};
 ghost use Rattle.node_core.specs.Happening.{arrives, happening};
 ghost use Rattle.node_book.specs.Told.{Told, Submits, passing};
 
 use crate::NoMemory;
 use crate::ledgered::SubmitFault;
-use filter_slots::{Judged, Moment, Slots};
+use filter_slots::{Datagram, Judged, Moment, Slots};
 use node_core::{Action, Answer, Event, Out, Payload};
 use object_store::CacheKey;
 use std::alloc::Global;
@@ -37,8 +38,8 @@ pub trait Clerk {
         ensures refused { OnErr result ((told self.new ≡ told self.old) × (taken self.new ≡ taken self.old) × (out.new ≡ [])) }
         ensures ended { IsErrOf result SubmitFault.Ended → IfSome (told self.old) (λ t. t.next ≡ 18446744073709551615) };
 
-    /// Takes a datagram that is judged already, as `submit` takes the event that it arrives now. Its verdict counts where its
-    /// program is equal to the one in force, or both have none; otherwise it is judged again.
+    /// Takes a datagram that is judged already, as `submit` takes the event that it arrives now. Its verdict counts where each
+    /// of its programs is equal to the one in force, or both have none; otherwise it is judged again.
     fn submit_judged(
         &mut self,
         alloc: Global,
@@ -59,6 +60,18 @@ pub trait Clerk {
         ensures same { told self.new ≡ told self.old }
         ensures counted { taken self.new ≡ taken self.old }
         ensures programs { IfOk result (λ programs. IfSome (told self.old) (λ t. programs ≡ t.state.filters)) };
+
+    /// Judges a datagram by these programs, of which those that judge it get one more owner. An error says that there was no
+    /// memory, or that a program has too many owners. A clerk that has the programs at hand need not copy all of them for it.
+    fn judge(&mut self, datagram: Arc<Datagram>) -> Result<Judged, NoMemory>
+        ensures same { told self.new ≡ told self.old }
+        ensures counted { taken self.new ≡ taken self.old }
+        ensures datagram { IfOk result (λ judged. judged.datagram ≡ arc_value datagram) }
+        ensures programs { IfOk result (λ judged. IfSome (told self.old) (λ t. judged ≡ judged_under t.state.filters (arc_value datagram))) }
+    {
+        let programs = self.programs()?;
+        programs.judge(datagram)
+    }
 
     /// Is given an action that is no Send. An error says that there was no memory: nothing was passed on.
     fn pass(&mut self, alloc: Global, action: &Action) -> Result<(), NoMemory>

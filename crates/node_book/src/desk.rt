@@ -10,6 +10,7 @@ ghost use Rattle.node_book.specs.Settled.{Settles};
 use crate::NoMemory;
 use crate::booked::Booked;
 use crate::ledgered::{Ledgered, Spent, SubmitFault};
+use crate::neighbour_view::{NeighbourView, views_of};
 use crate::seat::{Seat, seats_of};
 use crate::settle::{Report, SettleFault};
 use filter_slots::{Judged, Moment, Slots};
@@ -114,8 +115,8 @@ impl<L: Ledger> Desk<L> {
         submitted
     }
 
-    /// Takes a datagram that is judged already, as `submit` takes the event that it arrives now. Its verdict counts where its
-    /// program is equal to the one in force, or both have none; otherwise it is judged there, while the lock is held.
+    /// Takes a datagram that is judged already, as `submit` takes the event that it arrives now. Its verdict counts where each
+    /// of its programs is equal to the one in force, or both have none; otherwise it is judged there, while the lock is held.
     pub fn submit_judged<R: Wait>(
         &self,
         rt: &R,
@@ -152,6 +153,15 @@ impl<L: Ledger> Desk<L> {
     /// What the node has counted. It waits for the lock.
     pub fn stats<R: Wait>(&self, rt: &R) -> Stats {
         self.ledgered.lock(rt).booked().node().stats()
+    }
+
+    /// What is known of each neighbour, in the order of the configuration. It waits for the lock.
+    pub fn neighbours<R: Wait>(
+        &self,
+        rt: &R,
+        alloc: Global,
+    ) -> Result<Vec<NeighbourView>, NoMemory> {
+        views_of(alloc, self.ledgered.lock(rt).booked().node())
     }
 
     /// The key of a pending fetch, with one more owner. It waits for the lock.

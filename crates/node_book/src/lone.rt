@@ -4,7 +4,7 @@ ghost use Rattle.std.specs.Prelude.{◌≡◌, []};
 use crate::NoMemory;
 use crate::clerk::{Clerk, copy_action};
 use crate::ledgered::SubmitFault;
-use filter_slots::{Judged, Moment, Slots};
+use filter_slots::{Datagram, Judged, Moment, Slots};
 use node_core::{Action, Event, Node, Out};
 use object_store::CacheKey;
 use std::alloc::Global;
@@ -94,6 +94,10 @@ impl Clerk for Lone {
 
     fn programs(&mut self) -> Result<Slots, NoMemory> {
         self.node.programs().copy()
+    }
+
+    fn judge(&mut self, datagram: Arc<Datagram>) -> Result<Judged, NoMemory> {
+        self.node.programs().judge(datagram)
     }
 
     fn pass(&mut self, alloc: Global, action: &Action) -> Result<(), NoMemory> {

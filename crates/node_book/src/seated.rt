@@ -7,7 +7,7 @@ use crate::desk::Desk;
 use crate::ledgered::SubmitFault;
 use crate::programs::Programs;
 use crate::seat::Seat;
-use filter_slots::{Judged, Moment, Slots};
+use filter_slots::{Datagram, Judged, Moment, Slots};
 use node_core::{Action, Event, Out};
 use object_store::CacheKey;
 use std::alloc::Global;
@@ -92,6 +92,10 @@ impl<'a, L: Ledger, R: Wait> Clerk for Seated<'a, L, R> {
 
     fn programs(&mut self) -> Result<Slots, NoMemory> {
         self.programs.read(self.rt, self.desk)
+    }
+
+    fn judge(&mut self, datagram: Arc<Datagram>) -> Result<Judged, NoMemory> {
+        self.programs.judge(self.rt, self.desk, datagram)
     }
 
     fn pass(&mut self, alloc: Global, action: &Action) -> Result<(), NoMemory> {

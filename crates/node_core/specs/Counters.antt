@@ -47,7 +47,7 @@ one_of here test filters (asks client key mode now) = 0
 one_of here test filters (ticks now) = 0
 one_of here test filters (ends number attempt outcome now) = 0
 one_of here test filters (leaves client) = 0
-one_of here test filters (swaps socket program) = 0
+one_of here test filters (swaps place program) = 0
 
 -- how many datagrams of a socket pass a test, under the filters then in force
 abbrev pub count_of : (Socket → Bool) → (Filters → DatagramFields → Bool) → Filters → List Happening → ℕ

@@ -3,14 +3,14 @@ use Rattle.std.specs.Prelude.{ℕ, List, Option}
 use Rattle.std.specs.Option.{option_map}
 use Rattle.std.specs.Arc.{arc_value}
 use Rattle.bpf_check.specs.declared.insn.Insn.{Insn}
-use Rattle.bpf_run.specs.declared.ends.Socket.{Socket}
 use Rattle.filter_slots.specs.Datagram.{DatagramFields}
+use Rattle.filter_slots.specs.declared.slot.Slot.{Slot}
 use Rattle.node_core.specs.declared.event.Event.{Event}
 use Rattle.node_core.specs.declared.event.Event.TheVariants as event
 use Rattle.plain_node.specs.declared.event.Mode.{Mode}
 use Rattle.plain_node.specs.declared.event.Outcome.{Outcome}
 
--- a datagram arrives at a moment; a client asks for a key; time goes by; a fetch's attempt ends; a client goes away; or a socket's program is
+-- a datagram arrives at a moment; a client asks for a key; time goes by; a fetch's attempt ends; a client goes away; or a slot's program is
 -- replaced or taken out
 pub data Happening : Type 0 where
   arrives : (datagram : DatagramFields) (now : ℕ) → Happening
@@ -18,7 +18,7 @@ pub data Happening : Type 0 where
   ticks : (now : ℕ) → Happening
   ends : (number attempt : ℕ) (outcome : Outcome) (now : ℕ) → Happening
   leaves : (client : ℕ) → Happening
-  swaps : (socket : Socket) (program : Option (List Insn)) → Happening
+  swaps : (place : Slot) (program : Option (List Insn)) → Happening
 
 -- what an event says
 abbrev pub happening : Event → Happening
@@ -27,4 +27,4 @@ happening (event.Request client key mode now) = asks client key mode now
 happening (event.Timer now) = ticks now
 happening (event.Fetched number attempt result now) = ends number attempt result now
 happening (event.Gone client) = leaves client
-happening (event.Swap socket program) = swaps socket (option_map (λ arc. arc_value arc) program)
+happening (event.Swap place program) = swaps place (option_map (λ arc. arc_value arc) program)

@@ -14,7 +14,7 @@ swapped filters (asks client key mode now) = filters
 swapped filters (ticks now) = filters
 swapped filters (ends number attempt outcome now) = filters
 swapped filters (leaves client) = filters
-swapped filters (swaps socket program) = with_slot filters socket program
+swapped filters (swaps place program) = with_slot filters place program
 
 -- the filters in force after the events
 abbrev pub filters_after : Filters → List Happening → Filters
@@ -37,7 +37,7 @@ kept_event filters (asks client key mode now) = Some (Requested client key mode 
 kept_event filters (ticks now) = Some (Ticked now)
 kept_event filters (ends number attempt outcome now) = Some (Ended number attempt outcome now)
 kept_event filters (leaves client) = Some (Left client)
-kept_event filters (swaps socket program) = None
+kept_event filters (swaps place program) = None
 
 -- what is kept at each place, under the filters in force there
 abbrev pub kept_places : Filters → List Happening → List (Option PlainEvent)

@@ -1,6 +1,9 @@
 -- A node as contracts see it, and what it is for it to have taken events.
-use Rattle.std.specs.Prelude.{◌≡◌, ℕ, Bool, true, false, List, [], ◌∷◌, Option, Some, None}
-use Rattle.filter_slots.specs.Filters.{Filters, no_filters}
+use Rattle.std.specs.Prelude.{◌≡◌, ◌⊎◌, Bool, true, false, List, [], ◌∷◌, map, Option, Some, None}
+use Rattle.bpf_run.specs.declared.ends.End.{End}
+use Rattle.bpf_run.specs.declared.ends.Socket.{Socket}
+use Rattle.filter_slots.specs.Filters.{Filters, no_filters, has_slot}
+use Rattle.neighbours.specs.declared.neighbour.Neighbour.{Neighbour}
 use Rattle.pending_fetch.specs.Fetches.{fetch_of}
 use Rattle.plain_node.specs.declared.action.Action.{Action}
 use Rattle.plain_node.specs.Settings.{Setup}
@@ -24,11 +27,15 @@ pub record State : Type 0 where
 abbrev pub no_counts : Counters
 no_counts = record { judged = 0; rejected = 0; cut = 0; malformed = 0 }
 
--- the state before the first event
+-- the socket that a neighbour's datagrams come in by, and the end that they are from
+abbrev pub sender_of : Neighbour → Socket × End
+sender_of neighbour = (neighbour.protocol, neighbour.end)
+
+-- the state before the first event: no slot has a program, and each neighbour has a slot
 abbrev pub opening : Setup → State
 opening setup = record {
   plain = opening_node setup;
-  filters = no_filters;
+  filters = no_filters (map sender_of setup.neighbours);
   stats = record { icp = no_counts; htcp = no_counts };
 }
 
@@ -61,7 +68,8 @@ keeps_key node (Some (Ended number attempt outcome now)) = false
 keeps_key node (Some (Left client)) = false
 
 -- an event takes no memory: a datagram for which none is sent and no key is written, such as a rejected one; a request that joins a fetch
--- or is told a status; a tick; a result whose object isn't used; a client that goes away; and a swap that empties a slot
+-- or is told a status; a tick; a result whose object isn't used; a client that goes away; and a swap that empties a slot, or is
+-- of a slot that there isn't
 abbrev pub TakesNone : State → Happening → Type 0
 TakesNone old (arrives datagram now) =
     (sends_none (actions_at old (arrives datagram now)) ≡ true)
@@ -71,4 +79,4 @@ TakesNone old (ticks now) = Unit {0}
 TakesNone old (ends number attempt outcome now) =
     ends_none old.plain attempt outcome (fetch_of number old.plain.fetches.list) ≡ true
 TakesNone old (leaves client) = Unit {0}
-TakesNone old (swaps socket program) = program ≡ None
+TakesNone old (swaps place program) = (program ≡ None) ⊎ (has_slot old.filters place ≡ false)

@@ -1,32 +1,37 @@
--- The swaps among events: the last of a socket's slot, and whether all put in programs that the checker accepts.
-use Rattle.std.specs.Prelude.{List, [], ◌∷◌, Option, Some, None, IfSome}
+-- The swaps among events: the last of a slot, and whether all put in programs that the checker accepts.
+use Rattle.std.specs.Prelude.{◌==◌, Bool, false, List, [], ◌∷◌, Option, Some, None, IfSome, if◌then◌else◌}
 use Rattle.bpf_check.specs.Accepted.{IsAccepted}
 use Rattle.bpf_check.specs.declared.insn.Insn.{Insn}
-use Rattle.bpf_run.specs.declared.ends.Socket.{Socket}
-use Rattle.bpf_run.specs.declared.ends.Socket.TheVariants.{Icp, Htcp}
+use Rattle.filter_slots.specs.declared.slot.Slot.{Slot}
+use Rattle.filter_slots.specs.declared.slot.Slot.TheVariants as slots
+use Rattle.filter_slots.specs.Filters.{same_socket}
 use Rattle.node_core.specs.Happening.{Happening, arrives, asks, ticks, ends, leaves, swaps}
 
--- what an event puts into a socket's slot, if it does
-abbrev pub swap_of : Socket → Happening → Option (Option (List Insn))
-swap_of Icp (swaps Icp program) = Some program
-swap_of Icp (swaps Htcp program) = None
-swap_of Htcp (swaps Icp program) = None
-swap_of Htcp (swaps Htcp program) = Some program
-swap_of socket (arrives datagram now) = None
-swap_of socket (asks client key mode now) = None
-swap_of socket (ticks now) = None
-swap_of socket (ends number attempt outcome now) = None
-swap_of socket (leaves client) = None
+-- the same slot
+abbrev pub same_slot : Slot → Slot → Bool
+same_slot (slots.Socket a) (slots.Socket b) = same_socket a b
+same_slot (slots.Socket a) (slots.Neighbour n) = false
+same_slot (slots.Neighbour m) (slots.Socket b) = false
+same_slot (slots.Neighbour m) (slots.Neighbour n) = m == n
+
+-- what an event puts into a slot, if it does
+abbrev pub swap_of : Slot → Happening → Option (Option (List Insn))
+swap_of place (swaps other program) = if same_slot place other then Some program else None
+swap_of place (arrives datagram now) = None
+swap_of place (asks client key mode now) = None
+swap_of place (ticks now) = None
+swap_of place (ends number attempt outcome now) = None
+swap_of place (leaves client) = None
 
 -- the second, if there is one, else the first
 abbrev pub later_of : {A : Type 0} → Option A → Option A → Option A
 later_of first None = first
 later_of first (Some x) = Some x
 
--- what the last swap of a socket puts into its slot
-abbrev pub last_swap : Socket → List Happening → Option (Option (List Insn))
-last_swap socket [] = None
-last_swap socket (first ∷ events) = later_of (swap_of socket first) (last_swap socket events)
+-- what the last swap of a slot puts into it
+abbrev pub last_swap : Slot → List Happening → Option (Option (List Insn))
+last_swap place [] = None
+last_swap place (first ∷ events) = later_of (swap_of place first) (last_swap place events)
 
 -- each program that is put in is one that the checker accepts
 abbrev pub PutsInAccepted : List Happening → Type 0
@@ -36,4 +41,4 @@ PutsInAccepted (asks client key mode now ∷ events) = PutsInAccepted events
 PutsInAccepted (ticks now ∷ events) = PutsInAccepted events
 PutsInAccepted (ends number attempt outcome now ∷ events) = PutsInAccepted events
 PutsInAccepted (leaves client ∷ events) = PutsInAccepted events
-PutsInAccepted (swaps socket program ∷ events) = IfSome program IsAccepted × PutsInAccepted events
+PutsInAccepted (swaps place program ∷ events) = IfSome program IsAccepted × PutsInAccepted events

@@ -6,7 +6,7 @@ ghost use Rattle.node_core.specs.Happening.{arrives, asks, ends, happening, leav
 
 use crate::event::Event;
 use bpf_check::Checked;
-use filter_slots::{Datagram, Moment, Socket, same_datagram};
+use filter_slots::{Datagram, Moment, Slot, same_datagram};
 use object_store::{CacheKey, same_object};
 use plain_node::{Mode, Outcome, Tally};
 use std::sync::Arc;
@@ -49,7 +49,7 @@ pub fn same_event(a: &Event, b: &Event) -> bool
             now,
         } => is_end(b, *fetch, *attempt, result, *now),
         Event::Gone { client } => is_parting(b, *client),
-        Event::Swap { socket, program } => is_swap(b, *socket, program),
+        Event::Swap { slot, program } => is_swap(b, *slot, program),
     }
 }
 
@@ -118,15 +118,15 @@ fn is_parting(event: &Event, client: u64) -> bool
     }
 }
 
-// Whether an event gives this socket this program, or takes its program out.
-fn is_swap(event: &Event, socket: Socket, program: &Option<Arc<Checked>>) -> bool
-    ensures { IsTrue result ↔ (swaps socket (option_map (λ arc. arc_value arc) program.now) ≡ happening event.now) }
+// Whether an event gives this slot this program, or takes its program out.
+fn is_swap(event: &Event, slot: Slot, program: &Option<Arc<Checked>>) -> bool
+    ensures { IsTrue result ↔ (swaps slot (option_map (λ arc. arc_value arc) program.now) ≡ happening event.now) }
 {
     match event {
         Event::Swap {
-            socket: place,
+            slot: place,
             program: other,
-        } => socket == *place && same_program(program, other),
+        } => slot == *place && same_program(program, other),
         _ => false,
     }
 }

@@ -4,7 +4,7 @@ ghost use Rattle.node_core.specs.Happening.{happening};
 ghost use Rattle.node_core.specs.Swaps.{PutsInAccepted};
 
 use bpf_check::Checked;
-use filter_slots::{Datagram, Moment, Socket};
+use filter_slots::{Datagram, Moment, Slot};
 use object_store::CacheKey;
 use plain_node::{Mode, Outcome};
 use std::sync::Arc;
@@ -39,9 +39,9 @@ pub enum Event {
     Gone {
         client: u64,
     },
-    /// The filter of a socket is replaced, or taken out.
+    /// The filter of a socket or of a neighbour is replaced, or taken out. Where there is no such slot nothing changes.
     Swap {
-        socket: Socket,
+        slot: Slot,
         program: Option<Arc<Checked>>,
     },
 }

@@ -1,8 +1,8 @@
 //! Laws of the definitions, for the layers above.
-ghost use Rattle.std.specs.Prelude.{◌≡◌, ℕ, List, ◌∷◌, [], ◌++◌, length, unwrap_or};
-ghost use Rattle.bpf_run.specs.declared.ends.Socket.{Socket};
+ghost use Rattle.std.specs.Prelude.{◌≡◌, ℕ, true, List, ◌∷◌, [], ◌++◌, length, unwrap_or};
 ghost use Rattle.filter_slots.specs.Datagram.{DatagramFields};
-ghost use Rattle.filter_slots.specs.Filters.{Filters, slot, AreAccepted};
+ghost use Rattle.filter_slots.specs.declared.slot.Slot.{Slot};
+ghost use Rattle.filter_slots.specs.Filters.{Filters, has_slot, slot, AreAccepted};
 ghost use Rattle.filter_slots.specs.Verdict.{verdict_in_force};
 ghost use Rattle.plain_node.specs.declared.action.Action.{Action};
 ghost use Rattle.node_core.specs.Happening.{Happening, arrives};
@@ -69,10 +69,13 @@ pub fn kept_law()
         ≡ kept_places filters before ++ kept_event (filters_after filters before) event ∷ kept_places (filters_after filters (before ++ event ∷ [])) after }
 {}
 
-/// The program in force is that of the last swap of its slot, or the one that stood there first.
+/// The program in force in a slot is that of the last swap of the slot, or the one that stood there first. No event makes a slot
+/// or takes one away.
 pub fn filters_law()
-    ensures { (socket : Socket) (filters : Filters) (events : List Happening) →
-        slot (filters_after filters events) socket ≡ unwrap_or (last_swap socket events) (slot filters socket) }
+    ensures programs { (place : Slot) (filters : Filters) (events : List Happening) → has_slot filters place ≡ true →
+        slot (filters_after filters events) place ≡ unwrap_or (last_swap place events) (slot filters place) }
+    ensures slots { (place : Slot) (filters : Filters) (events : List Happening) →
+        has_slot (filters_after filters events) place ≡ has_slot filters place }
 {}
 
 /// Where each program that is put in is one that the checker accepts, so is each program in force: the verdicts in force are then

@@ -1,4 +1,4 @@
-//! The node: a state machine over events. A datagram is judged by the filter of its socket, cut to its verdict,
+//! The node: a state machine over events. A datagram is judged by the filters of its socket and its sender, cut to the verdict,
 //! and what is left is taken by a node that knows of no filter (`plain_node`).
 #![tactic(auto)]
 

@@ -1,8 +1,8 @@
 //! The node: filters in front of the plain node, counters beside it.
-ghost use Rattle.std.specs.Prelude.{◌≡◌, ◌≤◌, ◌∷◌, [], length, true, false, IfOk, IfErr, OnOk, OnErr, IsOk, None, unwrap_or, option_copied};
+ghost use Rattle.std.specs.Prelude.{◌≡◌, ◌≤◌, ◌∷◌, [], length, map, true, false, IfOk, IfErr, OnOk, OnErr, IsOk, None, unwrap_or, option_copied};
 ghost use Rattle.std.specs.Option.{option_map};
 ghost use Rattle.std.specs.Arc.{arc_value};
-ghost use Rattle.filter_slots.specs.Filters.{AreAccepted, with_slot};
+ghost use Rattle.filter_slots.specs.Filters.{AreAccepted, AreNeighbours, has_slot, no_filters, with_slot};
 ghost use Rattle.filter_slots.specs.Verdict.{verdict_in_force};
 ghost use Rattle.neighbours.specs.Faults.{IsTable};
 ghost use Rattle.object_store.specs.Store.{IsStore};
@@ -16,12 +16,14 @@ ghost use Rattle.node_core.specs.Happening.{happening, arrives};
 ghost use Rattle.node_core.specs.Kept.{kept_datagram};
 ghost use Rattle.node_core.specs.Run.{plain_after, actions_of};
 ghost use Rattle.node_core.specs.Raised.{counted_datagram};
+ghost use Rattle.node_core.specs.State.{sender_of};
 
 use crate::NoMemory;
 use crate::event::Event;
 use crate::stats::{Counters, Stats};
 use bpf_check::Checked;
-use filter_slots::{Datagram, Judged, Moment, Slots, Socket, cut};
+use filter_slots::{Datagram, End, Judged, Moment, Slot, Slots, Socket, cut};
+use neighbours::{Neighbour, Table};
 use object_store::CacheKey;
 use plain_node::{Config, Core, Mode, NodeFault, Out, Outcome};
 use std::alloc::Global;
@@ -48,17 +50,22 @@ impl Node {
     ghost use Rattle.node_core.specs.State.{HasTaken, TakesNone, opening, keeps_key};
     ghost use Rattle.plain_node.specs.Memory.{sends_none, asks_none, ends_none};
 
-    /// The node of a configuration, with no filter, nothing stored, nothing pending and nothing counted. Errors: what is wrong
-    /// with the neighbours and keys, else a prefix or a limit out of its range, else that there was no memory.
+    /// The node of a configuration, with a slot for each neighbour and no filter, nothing stored, nothing pending and nothing
+    /// counted. Errors: what is wrong with the neighbours and keys, else a prefix or a limit out of its range, else that there was
+    /// no memory.
     pub fn new(alloc: Global, config: Config) -> Result<Node, NodeFault>
         ensures opens { IfOk result (λ node. node ≡ opening (setup_of config)) }
         ensures faultless { OnOk result (setup_fault (setup_of config) ≡ None) }
         ensures fault { IfErr result (λ fault. fault ≡ unwrap_or (setup_fault (setup_of config)) NodeFault.NoMemory) }
     {
+        let senders = senders_of(alloc, &config.neighbours);
         let core = Core::new(alloc, config)?;
+        let Ok(senders) = senders else {
+            return Err(NodeFault::NoMemory);
+        };
         Ok(Node {
             core,
-            slots: Slots::new(),
+            slots: slots_for(&senders),
             stats: Stats {
                 icp: Counters::ZERO,
                 htcp: Counters::ZERO,
@@ -96,6 +103,13 @@ impl Node {
         &self.slots
     }
 
+    /// The neighbours, and what their replies told.
+    pub fn neighbours(&self) -> &Table
+        ensures { result.now ≡ self.now.plain.rows }
+    {
+        self.core.neighbours()
+    }
+
     /// The key of a pending fetch.
     pub fn key_of(&self, fetch: u32) -> Option<&CacheKey>
         ensures { option_copied result ≡ option_map (λ (f : PendingFetch). f.key) (fetch_of fetch self.now.plain.fetches.list) }
@@ -131,8 +145,8 @@ impl Node {
         result
     }
 
-    /// Takes one datagram that is judged already. Its verdict counts where its program is equal to the one in force, or both have
-    /// none; otherwise the datagram is judged here. So it is taken exactly as by `step`, and errors are those of `step`.
+    /// Takes one datagram that is judged already. Its verdict counts where each of its two programs is equal to the one in force, or
+    /// both have none; otherwise the datagram is judged here. So it is taken exactly as by `step`, and errors are those of `step`.
     pub fn step_judged(
         &mut self,
         alloc: Global,
@@ -181,7 +195,7 @@ impl Node {
                 self.gone(*client);
                 Ok(())
             }
-            Event::Swap { socket, program } => self.swap(*socket, program),
+            Event::Swap { slot, program } => self.swap(*slot, program),
         }
     }
 
@@ -194,10 +208,7 @@ impl Node {
         out: &mut Out,
     ) -> Result<(), NoMemory>
         requires { out.old ≡ [] }
-        ensures plain { OnOk result (self.new.plain ≡ plain_after self.old.plain (kept_datagram self.old.filters datagram.now now)) }
-        ensures actions { OnOk result (out.new ≡ actions_of self.old.plain (kept_datagram self.old.filters datagram.now now)) }
-        ensures filters { OnOk result (self.new.filters ≡ self.old.filters) }
-        ensures stats { OnOk result (self.new.stats ≡ counted_datagram self.old.stats self.old.filters datagram.now) }
+        ensures taken { OnOk result (HasTaken self.old self.new (arrives datagram.now now ∷ []) (out.new ∷ [])) }
         ensures refused { OnErr result ((self.new ≡ self.old) × (out.new ≡ [])) }
         ensures silent { sends_none (actions_of self.old.plain (kept_datagram self.old.filters datagram.now now)) ≡ true → keeps_key self.old.plain (kept_datagram self.old.filters datagram.now now) ≡ false → IsOk result }
     {
@@ -296,23 +307,50 @@ impl Node {
         self.core.leave(client);
     }
 
-    /// Replaces a program, or takes it out.
-    fn swap(&mut self, socket: Socket, program: &Option<Arc<Checked>>) -> Result<(), NoMemory>
+    /// Replaces a program, or takes it out. Where there is no such slot nothing changes.
+    #[tactic(auto, using(crate::proofs::Swaps::with_nowhere))]
+    fn swap(&mut self, slot: Slot, program: &Option<Arc<Checked>>) -> Result<(), NoMemory>
         ensures plain { OnOk result (self.new.plain ≡ self.old.plain) }
-        ensures filters { OnOk result (self.new.filters ≡ with_slot self.old.filters socket (option_map (λ arc. arc_value arc) program.now)) }
+        ensures filters { OnOk result (self.new.filters ≡ with_slot self.old.filters slot (option_map (λ arc. arc_value arc) program.now)) }
         ensures stats { OnOk result (self.new.stats ≡ self.old.stats) }
         ensures refused { OnErr result (self.new ≡ self.old) }
         ensures emptied { program.now ≡ None → IsOk result }
+        ensures nowhere { has_slot self.old.filters slot ≡ false → IsOk result }
     {
+        if !self.slots.has(slot) {
+            return Ok(());
+        }
         match program {
             None => {
-                let _ = self.slots.clear(socket);
+                let _ = self.slots.clear(slot);
             }
             Some(program) => {
                 let program = Arc::try_clone(program)?;
-                let _ = self.slots.install(socket, program);
+                let _ = self.slots.install(slot, program);
             }
         }
         Ok(())
+    }
+}
+
+/// The sockets and ends of the neighbours.
+fn senders_of(alloc: Global, neighbours: &[Neighbour]) -> Result<Vec<(Socket, End)>, NoMemory>
+    ensures { IfOk result (λ senders. senders.items ≡ map sender_of neighbours.now) }
+{
+    let mut senders = Vec::with_capacity(alloc, neighbours.len())?;
+    for neighbour in neighbours {
+        senders.push((neighbour.protocol, neighbour.end))?;
+    }
+    Ok(senders)
+}
+
+/// No program, and a slot for each of these neighbours.
+fn slots_for(senders: &[(Socket, End)]) -> Slots
+    requires { AreNeighbours senders.now }
+    ensures { result ≡ no_filters senders.now }
+{
+    match Slots::new(senders) {
+        Some(slots) => slots,
+        None => unreachable!(),
     }
 }

@@ -1,0 +1,21 @@
+-- What is shown of each neighbour.
+use Rattle.std.specs.Prelude.{ℕ, is_some}
+use Rattle.filter_slots.specs.declared.slot.Slot.TheVariants as slots
+use Rattle.filter_slots.specs.Filters.{slot}
+use Rattle.neighbours.specs.declared.neighbour.Neighbour.{Neighbour}
+use Rattle.neighbours.specs.Rows.{mark_at, is_up}
+use Rattle.node_core.specs.State.{State}
+use Rattle.node_book.specs.declared.neighbour_view.NeighbourView.{NeighbourView}
+
+-- what is shown of a neighbour at a place: where it is asked, what its mark says, and whether its slot has a program
+abbrev pub view_of : State → ℕ → Neighbour → NeighbourView
+view_of state n neighbour =
+    let mark = mark_at state.plain.rows.marks n in
+    record {
+      protocol = neighbour.protocol;
+      end = neighbour.end;
+      is_up = is_up mark;
+      time = mark.time;
+      misses = mark.misses;
+      has_filter = is_some (slot state.filters (slots.Neighbour n));
+    }
