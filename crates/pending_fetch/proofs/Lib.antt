@@ -5,7 +5,10 @@ pub mod Nexts
 pub mod Places
 pub mod Keeping
 pub mod Waits
-pub mod Held
-pub mod Views
+pub mod Spots
+pub mod Keyed
+pub mod Waiting
+pub mod Sorted
+pub mod Calling
 pub mod Queues
 pub mod Rising

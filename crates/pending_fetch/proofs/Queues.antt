@@ -1,15 +1,20 @@
 -- What each change of the list does to the queue of its undecided rounds.
-use Rattle.std.proofs.Common.{◌≡◌, ℕ, ◌+◌, ◌<◌, ◌≤◌, Bool, true, false, not, eqb, nat_le, List, [], ◌∷◌, ◌++◌, length, map, filter, refl, ap, sym, ◌∙◌, subst, arith, nat_eq, ◌==◌, ◌||◌, ◌&&◌, if◌then◌else◌, Some, None}
-use Rattle.std.specs.Prelude.{Option}
+use Rattle.std.proofs.Common.{◌≡◌, ℕ, zero, suc, get_or, take, drop, ◌+◌, ◌<◌, ◌≤◌, Bool, true, false, not, eqb, nat_le, List, [], ◌∷◌, ◌++◌, length, map, filter, refl, ap, sym, ◌∙◌, subst, arith, nat_eq, ◌==◌, ◌||◌, ◌&&◌, if◌then◌else◌, Some, None}
+use Rattle.std.specs.Prelude.{Option, Result, Ok, Err, IfSome}
 use Rattle.std.specs.Option.{option_map}
-use Rattle.std.specs.List.{list_any, list_all, find, IsDistinct}
+use Rattle.std.specs.List.{list_any, list_all, find, IsDistinct, AllByRecursion}
+use Rattle.std.specs.List.Sorted.{IsSearchInRange, IsBinarySearchResult}
+use Rattle.std.specs.Ordering.{nat_cmp}
+use Rattle.std.specs.Result.{result_ok}
+use Rattle.std.proofs.lemmas.Cmp.{ranked}
+use Rattle.std.proofs.lemmas.Bool.Decides.{nat_tests}
 use Rattle.std.proofs.lemmas.Bool.{eqb-true}
 use Rattle.std.proofs.lemmas.List.Elements.{filter-append}
 use Rattle.peer_select.specs.Poll.{Poll, decided, ended}
 use Rattle.pending_fetch.specs.declared.undecided.Undecided.{Undecided}
 use Rattle.pending_fetch.specs.Fetches.{PendingFetch, numbers, starts, fetch_of, has_number, changed, without, without_client, left, fresh, with_end, with_waiter, with_next, is_due, first_due}
 use Rattle.pending_fetch.specs.Legal.{IsLegal, is_rising}
-use Rattle.pending_fetch.specs.Queue.{as_undecided, queue_of, entry_of, entry_at, listed, dequeued, settled, first_of_queue, IsQueue}
+use Rattle.pending_fetch.specs.Queue.{numbers_queued, as_undecided, queue_of, entry_of, entry_at, listed, dequeued, settled, first_of_queue, IsQueue}
 use Rattle.pending_fetch.proofs.Words.{Keeps, none_later}
 
 nothing_more : (q : List Undecided) → q ++ [] ≡ [] ++ q
@@ -208,3 +213,96 @@ queue_room room queue list h few =
     let under : length list < 256 = is_under (length list) 256 few in
     let short : length (queue_of list) ≤ length list = length-queue list in
     omega (arith, ap length h.queue_is)
+
+-- ---- a search by halves
+pub found_entry : (queue : List Undecided) (number : ℕ) (r : Result ℕ ℕ) → IsSearchInRange r (length queue) → IsBinarySearchResult (λ (e : Undecided). nat_cmp e.number number) queue r →
+    IfSome (result_ok r) (λ place. (place < length queue) × ((d : Undecided) → (get_or queue place d).number ≡ number))
+found_entry queue number (Ok i) in_range equal = (in_range, λ d. ranked (get_or queue i d).number number _ (sym (equal d)))
+found_entry queue number (Err i) in_range parted = tt
+
+none_dequeued : (number x : ℕ) (queue : List Undecided) → x ≡ number → AllByRecursion (λ y. nat_eq x y ≡ false) (numbers_queued queue) → dequeued number queue ≡ queue
+none_dequeued number x [] e h = refl
+none_dequeued number x (u ∷ queue) e h =
+    let here : eqb u.number number ≡ false = grind (arith, nat_tests, h.0) in
+    rw here (ap (λ l. u ∷ l) (none_dequeued number x queue e h.1))
+
+apart_at : (x : ℕ) (queue : List Undecided) (i : ℕ) (d : Undecided) → AllByRecursion (λ y. nat_eq x y ≡ false) (numbers_queued queue) → i < length queue → nat_eq x (get_or queue i d).number ≡ false
+apart_at x [] i d h l = absurd (omega arith)
+apart_at x (u ∷ queue) zero d h l = h.0
+apart_at x (u ∷ queue) (suc i) d h l = apart_at x queue i d h.1 (omega arith)
+
+cut_at : (queue : List Undecided) (number i n : ℕ) → n ≡ suc i → i < length queue → ((d : Undecided) → (get_or queue i d).number ≡ number) → IsDistinct nat_eq (numbers_queued queue) →
+    take i queue ++ drop n queue ≡ dequeued number queue
+unfolding IsDistinct
+cut_at queue number i zero e l is d = absurd (omega arith)
+cut_at [] number i (suc n) e l is d = absurd (omega arith)
+cut_at (u ∷ queue) number zero (suc n) e l is d =
+    let same : u.number ≡ number = is u in
+    let here : eqb u.number number ≡ true = grind (arith, nat_tests) in
+    let none : n ≡ 0 = omega arith in
+    ap (λ k. drop k queue) none ∙ sym (none_dequeued number u.number queue same d.0) ∙ sym (ap (λ v. if not v then u ∷ dequeued number queue else dequeued number queue) here)
+cut_at (u ∷ queue) number (suc i) (suc n) e l is d =
+    let apart : nat_eq u.number (get_or queue i u).number ≡ false = apart_at u.number queue i u d.0 (omega arith) in
+    let same : (get_or queue i u).number ≡ number = is u in
+    let here : eqb u.number number ≡ false = ap (nat_eq u.number) (sym same) ∙ apart in
+    ap (λ q. u ∷ q) (cut_at queue number i n (omega arith) (omega arith) is d.1) ∙ sym (ap (λ v. if not v then u ∷ dequeued number queue else dequeued number queue) here)
+
+pub cut_dequeued : (queue : List Undecided) (number i : ℕ) → i < length queue → ((d : Undecided) → (get_or queue i d).number ≡ number) → IsDistinct nat_eq (numbers_queued queue) →
+    take i queue ++ drop (i + 1) queue ≡ dequeued number queue
+cut_dequeued queue number i l is d = cut_at queue number i (i + 1) (omega arith) l is d
+
+entries_apart : (x : ℕ) (list : List PendingFetch) → AllByRecursion (λ y. nat_eq x y ≡ false) (numbers list) → AllByRecursion (λ y. nat_eq x y ≡ false) (numbers_queued (queue_of list))
+entries_apart x [] h = tt
+entries_apart x (f ∷ list) h =
+    elim (decided f.round) as (λ v. AllByRecursion (λ y. nat_eq x y ≡ false) (numbers_queued (map as_undecided (if not v then f ∷ filter (λ (g : PendingFetch). not (decided g.round)) list else filter (λ (g : PendingFetch). not (decided g.round)) list)))) [
+      | true ↦ entries_apart x list h.1
+      | false ↦ (h.0, entries_apart x list h.1)
+    ]
+
+queue_distinct : (list : List PendingFetch) → IsDistinct nat_eq (numbers list) → IsDistinct nat_eq (numbers_queued (queue_of list))
+unfolding IsDistinct
+queue_distinct [] h = tt
+queue_distinct (f ∷ list) h =
+    elim (decided f.round) as (λ v. IsDistinct nat_eq (numbers_queued (map as_undecided (if not v then f ∷ filter (λ (g : PendingFetch). not (decided g.round)) list else filter (λ (g : PendingFetch). not (decided g.round)) list)))) [
+      | true ↦ queue_distinct list h.1
+      | false ↦ (entries_apart f.number list h.0, queue_distinct list h.1)
+    ]
+
+pub entries_distinct : (room : ℕ) (queue : List Undecided) (list : List PendingFetch) → IsQueue room queue list → IsDistinct nat_eq (numbers list) → IsDistinct nat_eq (numbers_queued queue)
+entries_distinct room queue list h d = let P : List Undecided → Type 0 = λ q. IsDistinct nat_eq (numbers_queued q) in subst P (sym h.queue_is) (queue_distinct list d)
+
+-- a decided fetch isn't in the queue
+decided_absent : (number : ℕ) (f : PendingFetch) (list : List PendingFetch) → IsDistinct nat_eq (numbers list) → fetch_of number list ≡ Some f → decided f.round ≡ true → dequeued number (queue_of list) ≡ queue_of list
+unfolding IsDistinct
+decided_absent number f [] d e h = absurd cc
+decided_absent number f (x ∷ list) d e h =
+    ap (dequeued number) (queue-cons x list) ∙ dequeued-append number (entry_of x) (queue_of list)
+    ∙ elim (eqb x.number number) as (λ v. eqb x.number number ≡ v → (if v then Some x else fetch_of number list) ≡ Some f → dequeued number (entry_of x) ++ dequeued number (queue_of list) ≡ entry_of x ++ queue_of list) [
+      | true ↦ λ t s.
+          let same : x ≡ f = cc in
+          let over : decided x.round ≡ true = ap (λ (g : PendingFetch). decided g.round) same ∙ h in
+          let number_is : x.number ≡ number = eqb-true x.number number t in
+          let none : has_number number list ≡ false = sym (ap (λ n. has_number n list) number_is) ∙ none_later [] x list d in
+          ap (λ q. q ++ dequeued number (queue_of list)) (dequeued-entry-same number x t) ∙ dequeued-absent number list none
+          ∙ ap (λ v. (if v then [] else as_undecided x ∷ []) ++ queue_of list) (sym over)
+      | false ↦ λ t s.
+          ap (λ q. q ++ dequeued number (queue_of list)) (dequeued-entry-other number x t)
+          ∙ ap (λ q. entry_of x ++ q) (decided_absent number f list d.1 s h)
+    ] refl e
+    ∙ sym (queue-cons x list)
+
+pub queue_gone : (number room after : ℕ) (f : PendingFetch) (old new : List PendingFetch) (queue more : List Undecided) (over : Bool) → IsQueue room queue old → after ≡ room →
+    IsDistinct nat_eq (numbers old) → fetch_of number old ≡ Some f → over ≡ decided f.round →
+    new ≡ without number old → more ≡ (if over then queue else dequeued number queue) → IsQueue after more new
+queue_gone number room after f old new queue more over h same d e o is put =
+    queue_closed number room after old new queue more h same is (put ∙ elim over as (λ v. v ≡ decided f.round → (if v then queue else dequeued number queue) ≡ dequeued number queue) [
+      | true ↦ λ t. h.queue_is ∙ sym (decided_absent number f old d e (sym t)) ∙ ap (dequeued number) (sym h.queue_is)
+      | false ↦ λ t. refl
+    ] o)
+
+pub cut_lent : (queue lent : List Undecided) (number i : ℕ) → lent ≡ queue → (i < length lent) × ((d : Undecided) → (get_or lent i d).number ≡ number) → IsDistinct nat_eq (numbers_queued queue) →
+    take i queue ++ drop (i + 1) queue ≡ dequeued number queue
+cut_lent queue lent number i e at d =
+    let P : List Undecided → Type 0 = λ q. (i < length q) × ((d : Undecided) → (get_or q i d).number ≡ number) in
+    let here : P queue = subst P e at in
+    cut_dequeued queue number i here.0 here.1 d

@@ -2,6 +2,7 @@ pub mod Fetches
 pub mod Numbers
 pub mod Calls
 pub mod Legal
-pub mod Slots
+pub mod Kept
+pub mod Indexes
 pub mod Places
 pub mod Queue

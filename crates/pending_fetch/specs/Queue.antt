@@ -24,6 +24,10 @@ abbrev pub listed : Option Undecided → List Undecided
 listed None = []
 listed (Some entry) = entry ∷ []
 
+-- the numbers in the queue
+abbrev pub numbers_queued : List Undecided → List ℕ
+numbers_queued queue = map (λ (entry : Undecided). entry.number) queue
+
 -- the queue without a number
 abbrev pub dequeued : ℕ → List Undecided → List Undecided
 dequeued number queue = filter (λ (entry : Undecided). not (entry.number == number)) queue

@@ -1,14 +1,15 @@
 //! The pending fetches, each with its round and the clients that wait for it.
 #![tactic(auto)]
 
+mod clients;
 mod fault;
 mod fetch;
 mod kept;
+mod keys;
 mod laws;
 mod order;
 mod pending;
 mod queue;
-mod slot;
 mod slots;
 mod undecided;
 

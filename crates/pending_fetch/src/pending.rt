@@ -6,17 +6,17 @@ ghost use Rattle.pending_fetch.specs.Numbers.{IsNext};
 ghost use Rattle.pending_fetch.specs.Fetches.{changed, with_reply, with_end, with_next, numbers, starts, fetch_of, has_number, shared_number, all_waiters, waits, waiters_of, left, without, first_due, next_number, opened, fresh, owner_of};
 ghost use Rattle.pending_fetch.specs.Calls.{is_crowded, is_full, join_fault, join_answer, join_list, may_advance, fits, told, shown};
 ghost use Rattle.pending_fetch.specs.Legal.{IsLegal};
-ghost use Rattle.pending_fetch.specs.Slots.{as_fetch, slot_told};
 
+use crate::clients::Clients;
 use crate::fault::{JoinFault, OpenFault};
 use crate::fetch::Fetch;
-use crate::kept::KeptRound;
+use crate::kept::KeptFetch;
+use crate::keys::Keys;
 use crate::order::Order;
-use crate::queue::{copy_of_queue, dequeue, due_in, enqueue, entry_for, settle};
-use crate::slot::Slot;
+use crate::queue::{close_entry, copy_of_queue, due_in, enqueue, entry_for, settle};
 use crate::slots::{
-    advance_in, are_crowded, are_many, close_in, copies_of, copy_of_clients, expire_in, has_client,
-    join_at, leave_in, open_in, place_of, place_of_shared, reply_in, waiters_in,
+    add, advance_in, are_many, copies_of, expire_in, join_in, keys_of, leave_in, place_of, prepare,
+    reply_in, take_out, waiters_in,
 };
 use crate::undecided::Undecided;
 use neighbours::{Moment, Table};
@@ -25,29 +25,31 @@ use peer_select::{Kind, Round, matching_law, unchanged_law};
 use std::alloc::{AllocError, Global};
 use std::marker::Model;
 
-/// The pending fetches in order of opening. At most 256 are pending, and at most 1,024 clients wait for them.
+/// The pending fetches in order of opening. At most 256 are pending, and at most 1,024 clients wait for them. Beside them stand their
+/// numbers, the numbers by key and by client, and the queue of those whose rounds are undecided.
 #[derive(Drop)]
 pub struct Pending {
     last: u32,
     order: Order,
-    slots: Vec<Slot>,
-    clients: Vec<u64>,
+    slots: Vec<KeptFetch>,
+    keys: Keys,
+    clients: Clients,
     undecided: Vec<Undecided>,
 }
 
 impl Model for Pending {
     ghost use Rattle.std.specs.Prelude.{◌≡◌, vec_capacity};
     ghost use Rattle.pending_fetch.specs.Fetches.{Fetches, numbers};
-    ghost use Rattle.pending_fetch.specs.Slots.{held, IsHeld};
+    ghost use Rattle.pending_fetch.specs.Indexes.{IsIndexed};
     ghost use Rattle.pending_fetch.specs.Queue.{IsQueue};
 
     ghost Value = { Fetches };
 
-    ghost view = { λ p. record { last = p.last; list = held p.slots.items p.clients.items } };
+    ghost view = { λ p. record { last = p.last; list = p.slots.items } };
 
-    ghost invariant = { λ p. IsHeld (vec_capacity p.clients) p.slots.items p.clients.items
-        × IsQueue (vec_capacity p.undecided) p.undecided.items (held p.slots.items p.clients.items)
-        × (p.order ≡ numbers (held p.slots.items p.clients.items)) };
+    ghost invariant = { λ p. IsIndexed p.slots.items p.keys p.clients
+        × IsQueue (vec_capacity p.undecided) p.undecided.items p.slots.items
+        × (p.order ≡ numbers p.slots.items) };
 }
 
 impl Pending {
@@ -55,13 +57,14 @@ impl Pending {
     pub fn new(alloc: Global) -> Result<Pending, AllocError>
         ensures { IfOk result (λ pending. pending ≡ record { last = 0; list = [] }) }
     {
-        let clients = Vec::with_capacity(alloc, 1024)?;
+        let clients = Clients::new(alloc)?;
         let undecided = Vec::with_capacity(alloc, 256)?;
         let order = Order::new(alloc)?;
         Ok(Pending {
             last: 0,
             order,
             slots: Vec::new(alloc),
+            keys: Keys::new(alloc),
             clients,
             undecided,
         })
@@ -71,7 +74,8 @@ impl Pending {
     pub fn copy(&self, alloc: Global) -> Result<Pending, AllocError>
         ensures { IfOk result (λ pending. pending ≡ self.now) }
     {
-        let clients = copy_of_clients(&self.clients, alloc)?;
+        let clients = self.clients.copy(alloc)?;
+        let keys = keys_of(&self.slots, alloc)?;
         let slots = copies_of(&self.slots, alloc)?;
         let undecided = copy_of_queue(&self.undecided, alloc)?;
         let order = self.order.copy(alloc)?;
@@ -79,6 +83,7 @@ impl Pending {
             last: self.last,
             order,
             slots,
+            keys,
             clients,
             undecided,
         })
@@ -103,13 +108,14 @@ impl Pending {
     pub fn waits(&self, client: u64) -> bool
         ensures { result ≡ waits client self.now.list }
     {
-        has_client(&self.clients, client)
+        self.clients.number_of(client).is_some()
     }
 
     fn is_crowded(&self) -> bool
         ensures { result ≡ is_crowded self.now.list }
     {
-        are_crowded(&self.clients)
+        self.clients.facts();
+        self.clients.are_crowded()
     }
 
     fn is_many(&self) -> bool
@@ -160,14 +166,17 @@ impl Pending {
         if self.is_full() {
             return Err(OpenFault::Full);
         }
+        self.clients.facts();
         let number = self.next_number();
         let entry = entry_for(number, &round);
-        let Ok(slot) = first_slot(alloc, number, key, client, shared, round) else {
+        let Ok(fetch) = KeptFetch::new(alloc, number, key, client, shared, round) else {
             return Err(OpenFault::NoMemory);
         };
-        if open_in(&mut self.slots, &mut self.clients, slot, client).is_err() {
+        if prepare(&mut self.slots, &mut self.keys, &fetch).is_err() {
             return Err(OpenFault::NoMemory);
         }
+        add(&mut self.slots, fetch);
+        self.clients.join(client, number);
         enqueue(&mut self.undecided, entry);
         self.order.push(number);
         self.last = number;
@@ -181,13 +190,15 @@ impl Pending {
         ensures last { self.new.last ≡ self.old.last }
         ensures list { self.new.list ≡ join_list client self.old.list (shared_number key.now self.old.list) (join_fault client self.old.list) }
     {
-        let Some(place) = place_of_shared(&self.slots, key.as_slice()) else {
+        let Some(number) = self.keys.number_of(key.as_slice()) else {
             return None;
         };
         if let Some(fault) = self.join_fault(client) {
             return Some(Err(fault));
         }
-        join_at(&mut self.slots, &mut self.clients, place, client);
+        self.clients.facts();
+        join_in(&mut self.slots, &self.order, number, client);
+        self.clients.join(client, number);
         Some(Ok(()))
     }
 
@@ -195,22 +206,30 @@ impl Pending {
     pub fn leave(&mut self, client: u64)
         ensures { self.new ≡ record self.old { list = left client self.old.list } }
     {
-        leave_in(&mut self.slots, &mut self.clients, client);
+        let Some(number) = self.clients.number_of(client) else {
+            return;
+        };
+        leave_in(&mut self.slots, &self.order, number, client);
+        self.clients.leave(client);
     }
 
     /// The clients that wait for the fetch of this number, in order of joining.
     pub fn waiters(&self, number: u32) -> &[u64]
         ensures { result.now ≡ waiters_of number self.now.list }
     {
-        waiters_in(&self.slots, &self.order, &self.clients, number)
+        waiters_in(&self.slots, &self.order, number)
     }
 
     /// Removes the fetch of this number with its waiters.
     pub fn close(&mut self, number: u32)
         ensures { self.new ≡ record self.old { list = without number self.old.list } }
     {
-        close_in(&mut self.slots, &mut self.order, &mut self.clients, number);
-        dequeue(&mut self.undecided, number);
+        let Some(fetch) = take_out(&mut self.slots, &mut self.order, number) else {
+            return;
+        };
+        self.keys.close(&fetch);
+        self.clients.close(number, fetch.waiters());
+        close_entry(&mut self.undecided, number, fetch.is_decided());
     }
 
     /// The number of the first fetch, in order of opening, whose round is undecided and started 2,000 ms ago or earlier.
@@ -227,7 +246,7 @@ impl Pending {
         let Some(place) = place_of(&self.slots, &self.order, number) else {
             return None;
         };
-        Some(lent(&self.slots[place]))
+        Some(self.slots[place].lent())
     }
 
     /// The peer at place n replies to the round of this fetch; s is its smoothed time just after this reply's sample.
@@ -271,49 +290,6 @@ fn decided_where(found: bool) -> Option<bool>
     ensures { result ≡ (if found then Some true else None) }
 {
     if found { Some(true) } else { None }
-}
-
-fn first_slot(
-    alloc: Global,
-    number: u32,
-    key: CacheKey,
-    client: u64,
-    shared: bool,
-    round: Round,
-) -> Result<Slot, AllocError>
-    ensures fetch { IfOk result (λ slot. as_fetch slot (client ∷ []) ≡ fresh number key client shared round) }
-    ensures one { IfOk result (λ slot. slot.waiting ≡ 1) }
-{
-    let round = KeptRound::new(alloc, round)?;
-    Ok(Slot {
-        number,
-        key,
-        owner: owner_for(client, shared),
-        attempt: 0,
-        round,
-        waiting: 1,
-    })
-}
-
-fn owner_for(client: u64, shared: bool) -> Option<u64>
-    ensures { result ≡ owner_of client shared }
-{
-    if shared {
-        return None;
-    }
-    Some(client)
-}
-
-fn lent(slot: &Slot) -> Fetch<'_>
-    ensures { shown result ≡ slot_told slot.now }
-{
-    Fetch {
-        key: &slot.key,
-        shared: slot.owner.is_none(),
-        owner: slot.owner,
-        attempt: slot.attempt,
-        round: slot.round.get(),
-    }
 }
 
 #[cfg(test)]

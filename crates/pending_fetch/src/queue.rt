@@ -1,8 +1,10 @@
 //! The queue of undecided rounds in order of opening, which is the order of their ends since the clock never goes back.
 
-ghost use Rattle.std.specs.Prelude.{◌≡◌, ◌<◌, ◌≤◌, ◌++◌, ◌∷◌, [], length, Some, None, IfOk, vec_capacity, if◌then◌else◌};
+ghost use Rattle.std.specs.Prelude.{◌≡◌, ℕ, ◌+◌, ◌<◌, ◌≤◌, ◌++◌, ◌∷◌, [], length, take, drop, nat_eq, Some, None, IfOk, IfSome, vec_capacity, slice_index_or, if◌then◌else◌};
+ghost use Rattle.std.specs.List.{IsDistinct};
 ghost use Rattle.peer_select.specs.Poll.{decided};
-ghost use Rattle.pending_fetch.specs.Queue.{entry_at, listed, dequeued, settled, first_of_queue};
+ghost use Rattle.pending_fetch.specs.declared.undecided.Undecided.{Undecided};
+ghost use Rattle.pending_fetch.specs.Queue.{numbers_queued, entry_at, listed, dequeued, settled, first_of_queue};
 
 use crate::undecided::Undecided;
 use neighbours::Moment;
@@ -45,8 +47,36 @@ pub fn enqueue(queue: &mut Vec<Undecided>, entry: Option<Undecided>)
     }
 }
 
-/// The fetch of this number is gone.
+/// The fetch of this number is gone from the queue.
 pub fn dequeue(queue: &mut Vec<Undecided>, number: u32)
+    requires { IsDistinct nat_eq (numbers_queued queue.old.items) }
+    ensures items { queue.new.items ≡ dequeued number queue.old.items }
+    ensures room { vec_capacity queue.new ≡ vec_capacity queue.old }
+{
+    match place_of(queue, number) {
+        Some(place) => remove_at(queue, place),
+        None => remove_all(queue, number),
+    }
+}
+
+// A place where the number stands. It is looked for by halves, which finds it while the numbers rise; else it may be missed.
+fn place_of(queue: &[Undecided], number: u32) -> Option<usize>
+    ensures { IfSome result (λ place. (place < length queue.now) × ((d : Undecided) → (slice_index_or queue.now place d).number ≡ number)) }
+{
+    queue
+        .binary_search_by_key(&number, |entry| entry.number)
+        .ok()
+}
+
+fn remove_at(queue: &mut Vec<Undecided>, place: usize)
+    requires { place < length queue.old.items }
+    ensures items { queue.new.items ≡ take place queue.old.items ++ drop (place + 1) queue.old.items }
+    ensures room { vec_capacity queue.new ≡ vec_capacity queue.old }
+{
+    queue.remove(place);
+}
+
+fn remove_all(queue: &mut Vec<Undecided>, number: u32)
     ensures items { queue.new.items ≡ dequeued number queue.old.items }
     ensures room { vec_capacity queue.new ≡ vec_capacity queue.old }
 {
@@ -55,6 +85,7 @@ pub fn dequeue(queue: &mut Vec<Undecided>, number: u32)
 
 /// The fetch of this number was changed, by whether its round is decided now.
 pub fn settle(queue: &mut Vec<Undecided>, number: u32, decided: Option<bool>)
+    requires { IsDistinct nat_eq (numbers_queued queue.old.items) }
     ensures items { queue.new.items ≡ settled decided number queue.old.items }
     ensures room { vec_capacity queue.new ≡ vec_capacity queue.old }
 {
@@ -62,6 +93,17 @@ pub fn settle(queue: &mut Vec<Undecided>, number: u32, decided: Option<bool>)
         Some(true) => dequeue(queue, number),
         Some(false) => {}
         None => {}
+    }
+}
+
+/// The fetch of this number is closed; where its round was decided, it isn't in the queue.
+pub fn close_entry(queue: &mut Vec<Undecided>, number: u32, decided: bool)
+    requires { IsDistinct nat_eq (numbers_queued queue.old.items) }
+    ensures items { queue.new.items ≡ (if decided then queue.old.items else dequeued number queue.old.items) }
+    ensures room { vec_capacity queue.new ≡ vec_capacity queue.old }
+{
+    if !decided {
+        dequeue(queue, number);
     }
 }
 

@@ -9,3 +9,4 @@ pub mod Opens
 pub mod RoundLemmas
 pub mod Servings
 pub mod Tries
+pub mod UriKeyLemmas

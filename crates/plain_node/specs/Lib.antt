@@ -14,3 +14,4 @@ pub mod Signatures
 pub mod Signed
 pub mod Sources
 pub mod Tally
+pub mod UriKeys

@@ -177,6 +177,13 @@ impl Core {
         self.table.facts();
     }
 
+    /// The neighbours, and what their replies told.
+    pub fn neighbours(&self) -> &Table
+        ensures { result.now ≡ self.now.rows }
+    {
+        &self.table
+    }
+
     /// The key of a pending fetch.
     pub fn key_of(&self, fetch: u32) -> Option<&CacheKey>
         ensures { option_copied result ≡ option_map (λ (f : PendingFetch). f.key) (fetch_of fetch self.now.fetches.list) }

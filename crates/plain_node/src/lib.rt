@@ -9,6 +9,7 @@ mod event;
 mod finding;
 mod htcp_replies;
 mod htcp_requests;
+pub mod laws;
 mod messages;
 mod outcomes;
 mod queries;

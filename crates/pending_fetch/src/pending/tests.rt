@@ -1,11 +1,10 @@
 ghost use Rattle.std.specs.Prelude.{◌≡◌, nat_le};
 ghost use Rattle.std.specs.List.{list_all};
-ghost use Rattle.pending_fetch.specs.Fetches.{starts};
-ghost use Rattle.pending_fetch.specs.declared.slot.Slot.{Slot};
+ghost use Rattle.pending_fetch.specs.Fetches.{PendingFetch, starts};
 
 use super::Pending;
 use crate::JoinFault;
-use crate::slot::Slot;
+use crate::kept::KeptFetch;
 use neighbours::{End, Moment, Neighbour, Role, Socket, Table};
 use object_store::CacheKey;
 use peer_select::Round;
@@ -54,12 +53,16 @@ fn starts_by(pending: &Pending, start: Moment) -> bool
     start_by(&pending.slots, start)
 }
 
-fn start_by(slots: &[Slot], start: Moment) -> bool
-    ensures { result ≡ list_all (λ (slot : Slot). nat_le slot.round.start start) slots.now }
+fn start_by(slots: &[KeptFetch], start: Moment) -> bool
+    ensures { result ≡ list_all (λ (fetch : PendingFetch). nat_le fetch.round.start start) slots.now }
 {
-    slots
-        .iter()
-        .all(|slot| slot.round.get().began().millis() <= start.millis())
+    slots.iter().all(|slot| starts(slot, start))
+}
+
+fn starts(slot: &KeptFetch, start: Moment) -> bool
+    ensures { result ≡ nat_le slot.now.round.start start }
+{
+    slot.lent().round.began().millis() <= start.millis()
 }
 
 // Opens a private fetch, where the client waits for none and its round starts late enough.

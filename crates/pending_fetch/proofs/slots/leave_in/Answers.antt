@@ -1,13 +1,13 @@
-use Rattle.std.proofs.Common.{sym}
-use Rattle.pending_fetch.proofs.Held.{counted_again}
+use Rattle.std.proofs.Common.{None, Some, ap, sym, ◌∙◌, length, arith}
+use Rattle.pending_fetch.specs.Fetches.{PendingFetch, with_waiter, without_client, with_reply, with_end, with_next, waiters_in}
+use Rattle.pending_fetch.proofs.Spots.{shift, none_changed, set_changed}
 use Rattle.pending_fetch.proofs.slots.leave_in.Goals as goal
 
-pub returns-clause-list : goal.returns-clause-list
-returns-clause-list c =
-    (counted_again c.args.client c.args.slots.now.items c.recount.new.slots c.deref_mut.result.now c.args.clients.now.items c.deref.result.now c.remove_client.new.clients.items c.args.slots.now.len
-    c.requires.counted c.recount.ensures c.deref_mut.ensures.value c.deref.ensures.value c.remove_client.ensures.items (sym c.deref_mut.ensures.len)).0
+pub returns-in_default : goal.returns-in_default
+returns-in_default c = none_changed (λ (fetch : PendingFetch). record fetch { waiters = without_client c.args.client fetch.waiters }) c.args.number c.args.slots.now.items (shift c.args.number c.deref.result.now c.args.slots.now.items c.place_of.result None c.place_of.ensures c.deref.ensures.value c.in_default.is)
 
-pub returns-clause-counted : goal.returns-clause-counted
-returns-clause-counted c =
-    (counted_again c.args.client c.args.slots.now.items c.recount.new.slots c.deref_mut.result.now c.args.clients.now.items c.deref.result.now c.remove_client.new.clients.items c.args.slots.now.len
-    c.requires.counted c.recount.ensures c.deref_mut.ensures.value c.deref.ensures.value c.remove_client.ensures.items (sym c.deref_mut.ensures.len)).1
+pub returns : goal.returns
+returns c =
+    set_changed (λ (fetch : PendingFetch). record fetch { waiters = without_client c.args.client fetch.waiters }) c.args.number c.args.slots.now.items c.in-Some.place c.index_mut.result.now c.leave.new.self
+    (shift c.args.number c.deref.result.now c.args.slots.now.items c.place_of.result (Some c.in-Some.place) c.place_of.ensures c.deref.ensures.value c.in-Some.is)
+    (c.leave.ensures ∙ ap (λ (fetch : PendingFetch). record fetch { waiters = without_client c.args.client fetch.waiters }) c.index_mut.ensures.value)

@@ -1,6 +1,6 @@
 use Rattle.std.proofs.Common.{ap, ◌∙◌, ◌==◌}
 use Rattle.std.specs.List.{position}
-use Rattle.pending_fetch.proofs.Held.{position-numbers}
+use Rattle.pending_fetch.proofs.Spots.{position-numbers}
 use Rattle.pending_fetch.proofs.slots.place_of.Goals as goal
 
 pub returns : goal.returns

@@ -1,28 +1,41 @@
-use Rattle.std.proofs.Common.{vec_capacity}
-use Rattle.pending_fetch.specs.Fetches.{without}
-use Rattle.pending_fetch.specs.Slots.{held}
-use Rattle.pending_fetch.proofs.Views.{put_view, held_closed, few_clients}
-use Rattle.pending_fetch.proofs.Queues.{queue_closed}
-use Rattle.pending_fetch.proofs.Views.{order_held}
-use Rattle.pending_fetch.proofs.Views.{order_in}
+use Rattle.std.proofs.Common.{ℕ, None, Some, refl, length, ap, sym, ◌∙◌, arith, vec_capacity, ◌==◌, if◌then◌else◌}
+use Rattle.pending_fetch.specs.Fetches.{Fetches, PendingFetch, without, numbers}
+use Rattle.std.specs.List.{list_any}
+use Rattle.pending_fetch.specs.Queue.{queue_of}
+use Rattle.pending_fetch.specs.Indexes.{number_beside}
+use Rattle.pending_fetch.proofs.Queues.{queue_kept, queue_gone, entries_distinct}
+use Rattle.pending_fetch.proofs.Calling.{put_view, gone_already, indexed_kept, indexed_closed, own_are}
 use Rattle.pending_fetch.proofs.pending.Pending.close.Goals as goal
 
 pub invariant_of-self : goal.invariant_of-self
-invariant_of-self c = (
-  held_closed c.args.number (vec_capacity c.self.inside.clients) (vec_capacity c.close_in.new.clients) c.self.inside.slots.items c.close_in.new.slots.items
-      c.self.inside.clients.items c.close_in.new.clients.items c.self.invariant.0 c.close_in.ensures.room c.close_in.ensures.counted c.close_in.ensures.list,
-  queue_closed c.args.number (vec_capacity c.self.inside.undecided) (vec_capacity c.dequeue.new.queue) (held c.self.inside.slots.items c.self.inside.clients.items) (held c.close_in.new.slots.items c.close_in.new.clients.items)
-      c.self.inside.undecided.items c.dequeue.new.queue.items c.self.invariant.1 c.dequeue.ensures.room c.close_in.ensures.list c.dequeue.ensures.items,
-  order_held c.close_in.new.order c.close_in.new.slots.items c.close_in.new.clients.items c.close_in.ensures.order,
+invariant_of-self c =
+    let same = gone_already c.args.number c.self.inside.slots.items c.take_out.new.slots.items c.take_out.ensures.list (sym c.take_out.ensures.taken ∙ c.in_default.is) in (
+      indexed_kept c.self.inside.slots.items c.take_out.new.slots.items c.self.inside.keys c.self.inside.keys c.self.inside.clients c.self.invariant.0 same (λ k. refl),
+      queue_kept (vec_capacity c.self.inside.undecided) c.self.inside.slots.items c.take_out.new.slots.items c.self.inside.undecided.items c.self.invariant.1 (ap queue_of same),
+      c.take_out.ensures.order,
+    )
+
+pub returns-in_default : goal.returns-in_default
+returns-in_default c =
+    put_view c.self.inside.last c.take_out.new.slots.items c.self.inside.slots.items (without c.args.number) c.args.self.now c.take_out.ensures.list c.self.view_is
+
+pub close-requires-2 : goal.close-requires-2
+close-requires-2 c = λ other.
+    own_are c.args.number c.in-Some.fetch c.self.inside.slots.items c.self.inside.keys c.self.inside.clients c.self.invariant.0 (sym c.take_out.ensures.taken ∙ c.in-Some.is) other
+    ∙ sym (ap (list_any (λ waiter. waiter == other)) c.waiters.ensures)
+
+pub close_entry-requires : goal.close_entry-requires
+close_entry-requires c = entries_distinct (vec_capacity c.self.inside.undecided) c.self.inside.undecided.items c.self.inside.slots.items c.self.invariant.1 c.self.invariant.0.legal.numbered
+
+pub invariant_of-self-2 : goal.invariant_of-self-2
+invariant_of-self-2 c = (
+  indexed_closed c.args.number c.in-Some.fetch c.self.inside.slots.items c.take_out.new.slots.items c.self.inside.keys c.close.new.self c.self.inside.clients c.close-2.new.self c.self.invariant.0 (sym c.take_out.ensures.taken ∙ c.in-Some.is) c.take_out.ensures.list c.close.ensures
+      (λ other. c.close-2.ensures other ∙ ap (λ w. if list_any (λ waiter. waiter == other) w then None else number_beside c.self.inside.clients other) c.waiters.ensures),
+  queue_gone c.args.number (vec_capacity c.self.inside.undecided) (vec_capacity c.close_entry.new.queue) c.in-Some.fetch c.self.inside.slots.items c.take_out.new.slots.items c.self.inside.undecided.items c.close_entry.new.queue.items
+      c.is_decided.result c.self.invariant.1 c.close_entry.ensures.room c.self.invariant.0.legal.numbered (sym c.take_out.ensures.taken ∙ c.in-Some.is) c.is_decided.ensures c.take_out.ensures.list c.close_entry.ensures.items,
+  c.take_out.ensures.order,
 )
 
 pub returns : goal.returns
 returns c =
-    put_view c.self.inside.last (held c.close_in.new.slots.items c.close_in.new.clients.items) (held c.self.inside.slots.items c.self.inside.clients.items)
-    (without c.args.number) c.args.self.now c.close_in.ensures.list c.self.view_is
-
-pub close_in-requires-clause-few : goal.close_in-requires-clause-few
-close_in-requires-clause-few c = few_clients (vec_capacity c.self.inside.clients) c.self.inside.slots.items c.self.inside.clients.items c.self.invariant.0
-
-pub close_in-requires-clause-order : goal.close_in-requires-clause-order
-close_in-requires-clause-order c = order_in c.self.inside.order c.self.inside.slots.items c.self.inside.clients.items c.self.invariant.2
+    put_view c.self.inside.last c.take_out.new.slots.items c.self.inside.slots.items (without c.args.number) c.args.self.now c.take_out.ensures.list c.self.view_is

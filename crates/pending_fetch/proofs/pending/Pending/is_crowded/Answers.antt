@@ -1,8 +1,11 @@
-use Rattle.std.proofs.Common.{◌∙◌}
-use Rattle.pending_fetch.proofs.Views.{crowded_view}
+use Rattle.std.proofs.Common.{ℕ, None, Some, refl, length, ap, sym, ◌∙◌, arith, vec_capacity}
+use Rattle.pending_fetch.specs.Fetches.{Fetches, PendingFetch}
+use Rattle.std.proofs.Common.{nat_le}
+use Rattle.pending_fetch.specs.Calls.{is_crowded}
+use Rattle.pending_fetch.proofs.Calling.{many_wait}
 use Rattle.pending_fetch.proofs.pending.Pending.is_crowded.Goals as goal
 
 pub returns : goal.returns
 returns c =
-    c.are_crowded.ensures
-    ∙ crowded_view c.self.inside.last c.self.inside.slots.items c.self.inside.clients.items c.deref.result.now c.args.self.now c.self.view_is c.self.invariant.0.counted c.deref.ensures.value
+    c.are_crowded.ensures ∙ ap (nat_le 1024) (many_wait c.self.inside.slots.items c.self.inside.keys c.self.inside.clients c.self.invariant.0 c.facts.ensures)
+    ∙ ap (λ (w : Fetches). is_crowded w.list) c.self.view_is

@@ -1,8 +1,7 @@
-use Rattle.std.proofs.Common.{◌∙◌}
-use Rattle.pending_fetch.proofs.Views.{many_view}
+use Rattle.std.proofs.Common.{ℕ, None, Some, refl, length, ap, sym, ◌∙◌, arith, vec_capacity}
+use Rattle.pending_fetch.specs.Fetches.{Fetches, PendingFetch}
+use Rattle.std.proofs.Common.{nat_le}
 use Rattle.pending_fetch.proofs.pending.Pending.is_many.Goals as goal
 
 pub returns : goal.returns
-returns c =
-    c.are_many.ensures
-    ∙ many_view c.self.inside.last c.self.inside.slots.items c.deref.result.now c.self.inside.clients.items c.args.self.now c.self.view_is c.deref.ensures.value
+returns c = c.are_many.ensures ∙ ap (λ l. nat_le 256 (length l)) c.deref.ensures.value ∙ ap (λ (w : Fetches). nat_le 256 (length w.list)) c.self.view_is

@@ -1,23 +1,25 @@
-use Rattle.std.proofs.Common.{vec_capacity}
-use Rattle.pending_fetch.specs.Fetches.{left}
-use Rattle.pending_fetch.specs.Slots.{held}
-use Rattle.pending_fetch.proofs.Views.{put_view, held_left}
-use Rattle.std.proofs.Common.{ap, ◌∙◌}
+use Rattle.std.proofs.Common.{ℕ, None, Some, refl, length, ap, sym, ◌∙◌, arith, vec_capacity}
+use Rattle.pending_fetch.specs.Fetches.{Fetches, PendingFetch, left}
 use Rattle.pending_fetch.specs.Queue.{queue_of}
 use Rattle.pending_fetch.proofs.Queues.{queue_kept, queue-left}
-use Rattle.pending_fetch.proofs.Views.{order_left}
+use Rattle.pending_fetch.proofs.Waiting.{dropped}
+use Rattle.pending_fetch.proofs.Calling.{put_view, nobody_is, left_is, indexed_left, order_changed}
 use Rattle.pending_fetch.proofs.pending.Pending.leave.Goals as goal
+
+pub returns-in_default : goal.returns-in_default
+returns-in_default c =
+    sym c.self.view_is
+    ∙ put_view c.self.inside.last c.self.inside.slots.items c.self.inside.slots.items (left c.args.client) c.args.self.now (nobody_is c.args.client c.self.inside.slots.items c.self.inside.keys c.self.inside.clients c.self.invariant.0 (sym c.number_of.ensures ∙ c.in_default.is)) c.self.view_is
 
 pub invariant_of-self : goal.invariant_of-self
 invariant_of-self c = (
-  held_left c.args.client (vec_capacity c.self.inside.clients) (vec_capacity c.leave_in.new.clients) c.self.inside.slots.items c.leave_in.new.slots.items
-      c.self.inside.clients.items c.leave_in.new.clients.items c.self.invariant.0 c.leave_in.ensures.room c.leave_in.ensures.counted c.leave_in.ensures.list,
-  queue_kept (vec_capacity c.self.inside.undecided) (held c.self.inside.slots.items c.self.inside.clients.items) (held c.leave_in.new.slots.items c.leave_in.new.clients.items) c.self.inside.undecided.items c.self.invariant.1
-      (ap queue_of c.leave_in.ensures.list ∙ queue-left c.args.client (held c.self.inside.slots.items c.self.inside.clients.items)),
-  order_left c.args.client c.self.inside.order (held c.self.inside.slots.items c.self.inside.clients.items) (held c.leave_in.new.slots.items c.leave_in.new.clients.items) c.self.invariant.2 c.leave_in.ensures.list,
+  indexed_left c.args.client c.in-Some.number c.self.inside.slots.items c.leave_in.new.slots.items c.self.inside.keys c.self.inside.clients c.leave.new.self c.self.invariant.0 (sym c.number_of.ensures ∙ c.in-Some.is) c.leave_in.ensures c.leave.ensures,
+  queue_kept (vec_capacity c.self.inside.undecided) c.self.inside.slots.items c.leave_in.new.slots.items c.self.inside.undecided.items c.self.invariant.1
+      (ap queue_of (left_is c.args.client c.in-Some.number c.self.inside.slots.items c.leave_in.new.slots.items c.self.inside.keys c.self.inside.clients c.self.invariant.0 (sym c.number_of.ensures ∙ c.in-Some.is) c.leave_in.ensures) ∙ queue-left c.args.client c.self.inside.slots.items),
+  order_changed (dropped c.args.client) (λ f. refl) c.in-Some.number c.self.inside.order c.self.inside.slots.items c.leave_in.new.slots.items c.self.invariant.2 c.leave_in.ensures,
 )
 
 pub returns : goal.returns
 returns c =
-    put_view c.self.inside.last (held c.leave_in.new.slots.items c.leave_in.new.clients.items) (held c.self.inside.slots.items c.self.inside.clients.items)
-    (left c.args.client) c.args.self.now c.leave_in.ensures.list c.self.view_is
+    put_view c.self.inside.last c.leave_in.new.slots.items c.self.inside.slots.items (left c.args.client) c.args.self.now
+    (left_is c.args.client c.in-Some.number c.self.inside.slots.items c.leave_in.new.slots.items c.self.inside.keys c.self.inside.clients c.self.invariant.0 (sym c.number_of.ensures ∙ c.in-Some.is) c.leave_in.ensures) c.self.view_is

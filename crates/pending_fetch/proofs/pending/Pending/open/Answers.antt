@@ -1,56 +1,55 @@
-use Rattle.std.proofs.Common.{ap, sym, ◌∙◌, vec_capacity}
-use Rattle.pending_fetch.proofs.Views.{room_left, not_full, on_ok, opened_view, held_opened, order_opened, order_room}
-use Rattle.pending_fetch.specs.Fetches.{Fetches, numbers, fresh, next_number}
-use Rattle.pending_fetch.specs.Slots.{held}
-use Rattle.pending_fetch.specs.Queue.{entry_at, listed}
-use Rattle.pending_fetch.proofs.Queues.{queue_opened, queue_seen, queue_room, entry_listed}
+use Rattle.std.proofs.Common.{ℕ, None, Some, refl, length, ap, sym, ◌∙◌, arith, vec_capacity}
+use Rattle.pending_fetch.specs.Fetches.{Fetches, PendingFetch, numbers, fresh}
+use Rattle.std.proofs.Common.{◌++◌, ◌∷◌, []}
+use Rattle.pending_fetch.specs.Queue.{queue_of, entry_at, listed, entry_of}
+use Rattle.pending_fetch.proofs.Queues.{queue_opened, queue_seen, queue_room, queue_kept, entry_listed}
+use Rattle.pending_fetch.proofs.Calling.{on_ok, on_err, not_full, room_left, many_wait, nobody_beside, indexed_kept, indexed_opened, fetch_opened, order_opened, order_room}
 use Rattle.pending_fetch.proofs.pending.Pending.open.Goals as goal
 
-pub open_in-requires-clause-few : goal.open_in-requires-clause-few
-open_in-requires-clause-few c =
-    room_left (vec_capacity c.self.inside.clients) c.self.inside.last c.self.inside.slots.items c.self.inside.clients.items c.args.self.now c.self.view_is c.self.invariant.0
-    (not_full c.args.self.now.list (sym c.is_full.ensures ∙ c.if-is_full.false)).1
+pub invariant_of-self : goal.invariant_of-self
+invariant_of-self c = (
+  indexed_kept c.self.inside.slots.items c.prepare.new.slots.items c.self.inside.keys c.prepare.new.keys c.self.inside.clients c.self.invariant.0 c.prepare.ensures.items
+      (on_err _ _ _ c.prepare.result c.prepare.ensures.err (sym c.is_err.ensures.value ∙ c.if-is_err.true)),
+  queue_kept (vec_capacity c.self.inside.undecided) c.self.inside.slots.items c.prepare.new.slots.items c.self.inside.undecided.items c.self.invariant.1 (ap queue_of c.prepare.ensures.items),
+  c.self.invariant.2 ∙ ap numbers (sym c.prepare.ensures.items),
+)
 
-pub invariant_of-self-2 : goal.invariant_of-self-2
-invariant_of-self-2 c =
-    let done = on_ok _ _ _ c.open_in.result c.open_in.ensures.ok (sym c.is_err.ensures.value ∙ c.if-is_err.false) in (
-      held_opened (vec_capacity c.self.inside.clients) (vec_capacity c.open_in.new.clients) c.next_number-number.result c.self.inside.last c.self.inside.slots.items c.open_in.new.slots.items
-          c.self.inside.clients.items c.open_in.new.clients.items c.in-Ok.slot c.args.key c.args.client c.args.shared c.args.round c.args.self.now c.self.view_is c.self.invariant.0
-          c.open_in.ensures.room done.0 done.1 c.in-Ok.ensures.one c.in-Ok.ensures.fetch c.next_number-number.ensures
-          (sym c.is_full.ensures ∙ c.if-is_full.false) c.requires.absent c.requires.later,
-      queue_opened (vec_capacity c.self.inside.undecided) (vec_capacity c.enqueue.new.queue) c.args.self.now.list (held c.open_in.new.slots.items c.open_in.new.clients.items) (fresh (next_number c.args.self.now) c.args.key c.args.client c.args.shared c.args.round) (listed c.entry_for-entry.result)
-          c.self.inside.undecided.items c.enqueue.new.queue.items
-          (queue_seen (vec_capacity c.self.inside.undecided) c.self.inside.undecided.items (held c.self.inside.slots.items c.self.inside.clients.items) c.args.self.now.list (ap (λ (w : Fetches). w.list) c.self.view_is) c.self.invariant.1)
-          c.enqueue.ensures.room
-          (ap (λ (w : Fetches). w.list) (opened_view c.next_number-number.result c.self.inside.last c.self.inside.slots.items c.open_in.new.slots.items c.self.inside.clients.items c.open_in.new.clients.items
-          c.in-Ok.slot c.args.key c.args.client c.args.shared c.args.round c.args.self.now c.self.view_is c.self.invariant.0.counted done.0 done.1
-          c.in-Ok.ensures.one c.in-Ok.ensures.fetch c.next_number-number.ensures))
-          (ap listed c.entry_for-entry.ensures ∙ ap (λ n. listed (entry_at n c.args.round)) c.next_number-number.ensures ∙ entry_listed (next_number c.args.self.now) c.args.key c.args.client c.args.shared c.args.round)
-          c.enqueue.ensures.items,
-      order_opened c.next_number-number.result c.self.inside.order c.push.new.self c.args.self.now.list (held c.open_in.new.slots.items c.open_in.new.clients.items)
-          (fresh (next_number c.args.self.now) c.args.key c.args.client c.args.shared c.args.round)
-          (c.self.invariant.2 ∙ ap (λ (w : Fetches). numbers w.list) c.self.view_is) c.push.ensures
-          (ap (λ (w : Fetches). w.list) (opened_view c.next_number-number.result c.self.inside.last c.self.inside.slots.items c.open_in.new.slots.items c.self.inside.clients.items c.open_in.new.clients.items
-          c.in-Ok.slot c.args.key c.args.client c.args.shared c.args.round c.args.self.now c.self.view_is c.self.invariant.0.counted done.0 done.1
-          c.in-Ok.ensures.one c.in-Ok.ensures.fetch c.next_number-number.ensures))
-          (sym c.next_number-number.ensures),
-    )
+pub add-requires : goal.add-requires
+add-requires c = on_ok _ _ _ c.prepare.result c.prepare.ensures.room (sym c.is_err.ensures.value ∙ c.if-is_err.false)
 
-pub returns-clause-ok : goal.returns-clause-ok
-returns-clause-ok c =
-    let done = on_ok _ _ _ c.open_in.result c.open_in.ensures.ok (sym c.is_err.ensures.value ∙ c.if-is_err.false) in
-    opened_view c.next_number-number.result c.self.inside.last c.self.inside.slots.items c.open_in.new.slots.items c.self.inside.clients.items c.open_in.new.clients.items
-    c.in-Ok.slot c.args.key c.args.client c.args.shared c.args.round c.args.self.now c.self.view_is c.self.invariant.0.counted done.0 done.1
-    c.in-Ok.ensures.one c.in-Ok.ensures.fetch c.next_number-number.ensures
+pub join-requires-clause-few : goal.join-requires-clause-few
+join-requires-clause-few c =
+    let all = many_wait c.self.inside.slots.items c.self.inside.keys c.self.inside.clients c.self.invariant.0 c.facts.ensures in
+    let few = room_left c.self.inside.slots.items c.args.self.now.list (ap (λ (w : Fetches). w.list) c.self.view_is) (not_full c.args.self.now.list (sym c.is_full.ensures ∙ c.if-is_full.false)).1 in
+    omega (arith, all, few)
+
+pub join-requires-clause-absent : goal.join-requires-clause-absent
+join-requires-clause-absent c = nobody_beside c.args.client c.self.inside.slots.items c.args.self.now.list c.self.inside.keys c.self.inside.clients c.self.invariant.0 (ap (λ (w : Fetches). w.list) c.self.view_is) c.requires.absent
 
 pub enqueue-requires-clause-few : goal.enqueue-requires-clause-few
 enqueue-requires-clause-few c =
     queue_room (vec_capacity c.self.inside.undecided) c.self.inside.undecided.items c.args.self.now.list
-    (queue_seen (vec_capacity c.self.inside.undecided) c.self.inside.undecided.items (held c.self.inside.slots.items c.self.inside.clients.items) c.args.self.now.list
-    (ap (λ (w : Fetches). w.list) c.self.view_is) c.self.invariant.1)
+    (queue_seen (vec_capacity c.self.inside.undecided) c.self.inside.undecided.items c.self.inside.slots.items c.args.self.now.list (ap (λ (w : Fetches). w.list) c.self.view_is) c.self.invariant.1)
     (not_full c.args.self.now.list (sym c.is_full.ensures ∙ c.if-is_full.false)).0
 
 pub push-requires : goal.push-requires
-push-requires c =
-    order_room c.self.inside.order c.args.self.now.list (c.self.invariant.2 ∙ ap (λ (w : Fetches). numbers w.list) c.self.view_is)
-    (not_full c.args.self.now.list (sym c.is_full.ensures ∙ c.if-is_full.false)).0
+push-requires c = order_room c.self.inside.order c.self.inside.slots.items c.args.self.now.list c.self.invariant.2 (ap (λ (w : Fetches). w.list) c.self.view_is) (not_full c.args.self.now.list (sym c.is_full.ensures ∙ c.if-is_full.false)).0
+
+pub invariant_of-self-2 : goal.invariant_of-self-2
+invariant_of-self-2 c =
+    let is = (c.add.ensures ∙ ap (λ l. l ++ c.in-Ok.fetch ∷ []) c.prepare.ensures.items) in (
+      indexed_opened c.next_number-number.result c.self.inside.last c.self.inside.slots.items c.add.new.slots.items c.self.inside.keys c.prepare.new.keys c.self.inside.clients c.join.new.self c.in-Ok.fetch c.args.key c.args.client c.args.shared c.args.round c.args.self.now
+          c.self.view_is c.self.invariant.0 is c.in-Ok.ensures c.next_number-number.ensures (sym c.is_full.ensures ∙ c.if-is_full.false) c.requires.absent c.requires.later c.requires.unshared
+          (on_ok _ _ _ c.prepare.result c.prepare.ensures.ok (sym c.is_err.ensures.value ∙ c.if-is_err.false)) c.join.ensures,
+      queue_opened (vec_capacity c.self.inside.undecided) (vec_capacity c.enqueue.new.queue) c.self.inside.slots.items c.add.new.slots.items c.in-Ok.fetch (listed c.entry_for-entry.result)
+          c.self.inside.undecided.items c.enqueue.new.queue.items c.self.invariant.1 c.enqueue.ensures.room is
+          (ap listed c.entry_for-entry.ensures ∙ entry_listed c.next_number-number.result c.args.key c.args.client c.args.shared c.args.round ∙ ap entry_of (sym c.in-Ok.ensures))
+          c.enqueue.ensures.items,
+      order_opened c.next_number-number.result c.self.inside.order c.push.new.self c.self.inside.slots.items c.add.new.slots.items c.in-Ok.fetch c.self.invariant.2 c.push.ensures is
+          (ap (λ (f : PendingFetch). f.number) c.in-Ok.ensures),
+    )
+
+pub returns-clause-ok : goal.returns-clause-ok
+returns-clause-ok c =
+    fetch_opened c.next_number-number.result c.self.inside.last c.self.inside.slots.items c.add.new.slots.items c.in-Ok.fetch c.args.key c.args.client c.args.shared c.args.round c.args.self.now
+    c.self.view_is (c.add.ensures ∙ ap (λ l. l ++ c.in-Ok.fetch ∷ []) c.prepare.ensures.items) c.in-Ok.ensures c.next_number-number.ensures

@@ -1,8 +1,10 @@
-use Rattle.std.proofs.Common.{◌∙◌}
-use Rattle.pending_fetch.proofs.Views.{waits_view}
+use Rattle.std.proofs.Common.{ℕ, None, Some, refl, length, ap, sym, ◌∙◌, arith, vec_capacity}
+use Rattle.pending_fetch.specs.Fetches.{Fetches, PendingFetch, waits}
+use Rattle.std.specs.Prelude.{is_some}
+use Rattle.pending_fetch.proofs.Waiting.{some_number}
 use Rattle.pending_fetch.proofs.pending.Pending.waits.Goals as goal
 
 pub returns : goal.returns
 returns c =
-    c.has_client.ensures
-    ∙ waits_view c.args.client c.self.inside.last c.self.inside.slots.items c.self.inside.clients.items c.deref.result.now c.args.self.now c.self.view_is c.self.invariant.0.counted c.deref.ensures.value
+    c.is_some.ensures ∙ ap is_some (c.number_of.ensures ∙ c.self.invariant.0.waiting c.args.client) ∙ some_number c.args.client c.self.inside.slots.items
+    ∙ ap (λ (w : Fetches). waits c.args.client w.list) c.self.view_is

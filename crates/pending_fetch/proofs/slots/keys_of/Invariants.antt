@@ -1,0 +1,7 @@
+use Rattle.std.proofs.Common.{◌≡◌, ℕ, List, take}
+use Rattle.pending_fetch.specs.Fetches.{shared_number}
+use Rattle.pending_fetch.specs.Indexes.{number_under}
+use Rattle.pending_fetch.proofs.slots.keys_of.Given as goal
+
+abbrev pub invariant-loop-slot : goal.invariant-loop-slot
+invariant-loop-slot l = (key : List ℕ) → number_under key l.keys ≡ shared_number key (take l.slot-index l.slots)

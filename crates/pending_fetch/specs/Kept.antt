@@ -1,0 +1,9 @@
+-- A pending fetch as it is held.
+use Rattle.std.specs.Prelude.{ℕ}
+use Rattle.pending_fetch.specs.declared.kept.Slot.{Slot}
+use Rattle.pending_fetch.specs.Fetches.{PendingFetch}
+
+-- the fetch that a slot holds
+abbrev pub as_fetch : Slot → PendingFetch
+as_fetch slot =
+    record { number = slot.number; key = slot.key; owner = slot.owner; attempt = slot.attempt; round = slot.round; waiters = slot.waiters.items }

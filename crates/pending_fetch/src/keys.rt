@@ -1,0 +1,67 @@
+//! The numbers of the shared fetches by their keys.
+
+ghost use Rattle.std.specs.Prelude.{◌≡◌, ℕ, List, Some, None, OnOk, OnErr, if◌then◌else◌};
+ghost use Rattle.pending_fetch.specs.Fetches.{shares};
+ghost use Rattle.pending_fetch.specs.Indexes.{number_under};
+
+use crate::kept::KeptFetch;
+use object_store::CacheKey;
+use std::alloc::{AllocError, Global};
+use std::collections::HashMap;
+use std::marker::Model;
+
+/// The numbers of the shared fetches by their keys. Contracts see each key with its number.
+#[derive(Drop)]
+pub struct Keys {
+    map: HashMap<CacheKey, u32>,
+}
+
+impl Model for Keys {
+    ghost use Rattle.pending_fetch.specs.Indexes.{Keyed};
+
+    ghost Value = { Keyed };
+
+    ghost view = { λ keys. keys.map.entries };
+}
+
+impl Keys {
+    /// No keys. It takes no memory.
+    pub fn new(alloc: Global) -> Keys
+        ensures { (key : List ℕ) → number_under key result ≡ None }
+    {
+        Keys {
+            map: HashMap::new(alloc),
+        }
+    }
+
+    /// The number of the shared fetch of a key.
+    pub fn number_of(&self, key: &[u8]) -> Option<u32>
+        ensures { result ≡ number_under key.now self.now }
+    {
+        self.map.get(key).copied()
+    }
+
+    /// A fetch is opened: a shared one is found by its key from now on.
+    pub fn open(&mut self, fetch: &KeptFetch) -> Result<(), AllocError>
+        ensures ok { OnOk result ((key : List ℕ) → number_under key self.new ≡ (if shares key fetch.now then Some fetch.now.number else number_under key self.old)) }
+        ensures err { OnErr result ((key : List ℕ) → number_under key self.new ≡ number_under key self.old) }
+    {
+        if !fetch.is_shared() {
+            return Ok(());
+        }
+        let key = fetch.key().share()?;
+        match self.map.insert(key, fetch.number()) {
+            Ok(_) => Ok(()),
+            Err(_) => Err(AllocError),
+        }
+    }
+
+    /// A fetch is closed: it is no longer found by its key.
+    pub fn close(&mut self, fetch: &KeptFetch)
+        ensures { (key : List ℕ) → number_under key self.new ≡ (if shares key fetch.now then None else number_under key self.old) }
+    {
+        if fetch.is_shared() {
+            self.map.remove(fetch.key().as_slice());
+        }
+    }
+}
