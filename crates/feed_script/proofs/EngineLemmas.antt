@@ -6,7 +6,7 @@ use Rattle.feed_script.specs.declared.phase.Phase.{Phase}
 use Rattle.feed_script.specs.declared.engine.Engine.{Engine}
 use Rattle.feed_script.specs.declared.engine.Stop.{Stop}
 use Rattle.feed_script.specs.declared.engine.Stop.TheVariants.{Line, NoMemory}
-use Rattle.feed_script.specs.ScriptLine.{ScriptLine, sets, goes, happens, refuses, inquires, blank, wrong, script_line, script_of}
+use Rattle.script_lines.specs.ScriptLine.{ScriptLine, sets, goes, happens, refuses, inquires, blank, wrong, script_line, script_of}
 use Rattle.feed_script.specs.Script.{Stage, setting, started, stage_after, is_misplaced, first_misplaced}
 use Rattle.feed_script.specs.Written.{EndsWithBreak, NoBreak}
 use Rattle.feed_script.specs.Ahead.{Standing, preparing, running, stage_of, standing_of, printed, next, text_ahead, text_after, wrong_after, text_left, wrong_left, Obeys, Takes, StopsBy, Ends, EndsBy, PrintsFront}
@@ -24,14 +24,14 @@ stage-next : (s : Standing) (l : ScriptLine) → is_misplaced (stage_of s) l ≡
 stage-next (preparing s) (sets x) h = refl
 stage-next (preparing s) goes h = refl
 stage-next (preparing s) (happens o) h = refl
-stage-next (preparing s) (refuses fault) h = refl
+stage-next (preparing s) (refuses slot fault) h = refl
 stage-next (preparing s) inquires h = refl
 stage-next (preparing s) blank h = refl
 stage-next (preparing s) wrong h = refl
 stage-next (running own state) (sets x) h = refl
 stage-next (running own state) goes h = refl
 stage-next (running own state) (happens o) h = refl
-stage-next (running own state) (refuses fault) h = refl
+stage-next (running own state) (refuses slot fault) h = refl
 stage-next (running own state) inquires h = refl
 stage-next (running own state) blank h = refl
 stage-next (running own state) wrong h = refl
@@ -153,7 +153,7 @@ takes-octet old new c x partial inside phase number line = record {
 
 misplaced-wrong : (stage : Stage) → is_misplaced stage wrong ≡ true
 misplaced-wrong (setting s) = refl
-misplaced-wrong started = refl
+misplaced-wrong (started neighbours) = refl
 
 pub stops-long : (e : Engine) (c : ℕ) (x : List ℕ) → NoBreak e.line.items → nat_eq c 10 ≡ false → 262144 < length e.line.items → StopsBy e (c ∷ []) x x (Line (e.number + 1))
 stops-long e c x partial inside long =

@@ -1,10 +1,6 @@
 pub mod EngineLemmas
-pub mod FieldLemmas
-pub mod KeyLemmas
 pub mod KnownOctets
 pub mod LineLemmas
-pub mod NumberLemmas
 pub mod PhaseLemmas
-pub mod ProgramLemmas
 pub mod ScriptLemmas
 pub mod ToldLemmas

@@ -2,7 +2,7 @@
 use Rattle.std.proofs.Common.{◌≡◌, ℕ, ◌+◌, ◌-◌, ◌<◌, ◌≤◌, Bool, true, false, cond, List, [], ◌∷◌, ◌++◌, length, map, get_or, take, refl, ap, sym, ◌∙◌, arith, length-take, length-append, nat_eq}
 use Rattle.std.specs.List.{slice_split, onto_first}
 use Rattle.std.specs.Str.Lines.{lines, lines_of_parts, strip_carriage_return}
-use Rattle.feed_script.specs.ScriptLine.{ScriptLine, wrong, script_line, script_of}
+use Rattle.script_lines.specs.ScriptLine.{ScriptLine, wrong, script_line, script_of}
 use Rattle.feed_script.specs.Written.{NoBreak}
 
 abbrev is_break : ℕ → Bool

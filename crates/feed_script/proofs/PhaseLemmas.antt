@@ -12,9 +12,9 @@ use Rattle.node_core.specs.State.{opening}
 use Rattle.feed_script.specs.declared.phase.Phase.{Phase}
 use Rattle.feed_script.specs.declared.phase.Phase.TheVariants.{Before, Running}
 use Rattle.feed_script.specs.declared.station.Station.{Station}
-use Rattle.feed_script.specs.ScriptLine.{goes, allows, has_key, has_neighbour}
-use Rattle.feed_script.specs.Script.{is_misplaced, set_by, own_ends}
-use Rattle.feed_script.specs.Ahead.{stage_of, standing_of, ends_of, running, next, Moves}
+use Rattle.script_lines.specs.ScriptLine.{goes, allows, has_key, has_neighbour}
+use Rattle.feed_script.specs.Script.{is_misplaced, set_by, fixed_by}
+use Rattle.feed_script.specs.Ahead.{stage_of, standing_of, fixed_of, running, next, Moves}
 
 -- a list of a configuration has one more at its end
 pub with-network : (s : Setup) (new : List Network) (network : Network) → new ≡ s.settings.allowed ++ network ∷ []
@@ -38,11 +38,11 @@ limits-some None fault which is = absurd cc
 limits-some (Some x) fault which is = refl
 
 pub moves-go : (old : Phase) (config : Config) (station : Station) → old ≡ Before config → setup_fault (setup_of config) ≡ None
-    → station.node ≡ opening (setup_of config) → ends_of station ≡ own_ends (setup_of config).settings → Moves old goes (Running station)
+    → station.node ≡ opening (setup_of config) → fixed_of station ≡ fixed_by (setup_of config) → Moves old goes (Running station)
 moves-go old config station is fit node own = record {
   placed = ap (λ p. is_misplaced (stage_of (standing_of p)) goes) is ∙ ap is_some fit;
   after =
-      ap (running (ends_of station)) node
+      ap (running (fixed_of station)) node
       ∙ ap (λ e. running e (opening (setup_of config))) own
       ∙ sym (ap (λ p. next (standing_of p) goes) is);
 }

@@ -5,7 +5,7 @@ use Rattle.std.proofs.Math.Seq.{take-append_seam}
 use Rattle.std.specs.Io.KnownBytes.{Appends, Consumes, Keeps, IsAtEnd}
 use Rattle.feed_script.specs.declared.engine.Engine.{Engine}
 use Rattle.feed_script.specs.declared.engine.Stop.TheVariants.{Line}
-use Rattle.feed_script.specs.ScriptLine.{script_of}
+use Rattle.script_lines.specs.ScriptLine.{script_of}
 use Rattle.feed_script.specs.Script.{text, first_wrong, first_misplaced, usual}
 use Rattle.feed_script.specs.Written.{EndsWithBreak, NoBreak, WritesPrefix, WritesWhole}
 use Rattle.feed_script.specs.Ahead.{standing_of, stage_of, preparing, text_ahead, text_after, wrong_after, text_left, wrong_left, Takes, StopsBy, Ends, EndsBy, PrintsFront}

@@ -9,40 +9,40 @@ use Rattle.feed_script.specs.declared.phase.Phase.TheVariants.{Before, Running}
 use Rattle.feed_script.specs.declared.engine.Engine.{Engine}
 use Rattle.feed_script.specs.declared.engine.Stop.{Stop}
 use Rattle.feed_script.specs.declared.engine.Stop.TheVariants.{Line, NoMemory}
-use Rattle.feed_script.specs.ScriptLine.{ScriptLine, sets, goes, happens, refuses, inquires, script_of}
+use Rattle.script_lines.specs.ScriptLine.{ScriptLine, sets, goes, happens, refuses, inquires, script_of}
 use Rattle.feed_script.specs.Printed.{actions_text, refuse_text, stats_text}
 use Rattle.feed_script.specs.Written.{EndsWithBreak, NoBreak}
-use Rattle.feed_script.specs.Script.{Stage, setting, started, is_misplaced, first_misplaced, set_by, OwnEnds, own_ends, event_of}
+use Rattle.feed_script.specs.Script.{Stage, setting, started, is_misplaced, first_misplaced, set_by, Fixed, fixed_by, event_of}
 
 -- what is known between two lines: settings before the start, and a node after it
 pub data Standing : Type 0 where
   preparing : Setup → Standing
-  running : (own : OwnEnds) (state : State) → Standing
+  running : (own : Fixed) (state : State) → Standing
 
--- the own ends that a station keeps
-abbrev pub ends_of : Station → OwnEnds
-ends_of station = record { icp = station.icp; htcp = station.htcp }
+-- what a station keeps of the settings
+abbrev pub fixed_of : Station → Fixed
+fixed_of station = record { icp = station.icp; htcp = station.htcp; neighbours = station.neighbours }
 
 abbrev pub standing_of : Phase → Standing
 standing_of (Before config) = preparing (setup_of config)
-standing_of (Running station) = running (ends_of station) station.node
+standing_of (Running station) = running (fixed_of station) station.node
 
 abbrev pub stage_of : Standing → Stage
 stage_of (preparing s) = setting s
-stage_of (running own state) = started
+stage_of (running own state) = started own.neighbours
 
 -- what one line prints
 abbrev pub printed : Standing → ScriptLine → List ℕ
 printed (running own state) (happens o) =
     actions_text (state_after state (event_of own o)).plain.fetches.list (actions_at state (event_of own o))
-printed (running own state) (refuses fault) = refuse_text fault
+printed (running own state) (refuses slot fault) = refuse_text fault
 printed (running own state) inquires = stats_text state.stats
 printed _ _ = []
 
 -- what is known after one line
 abbrev pub next : Standing → ScriptLine → Standing
 next (preparing s) (sets x) = preparing (set_by s x)
-next (preparing s) goes = running (own_ends s.settings) (opening s)
+next (preparing s) goes = running (fixed_by s) (opening s)
 next (running own state) (happens o) = running own (state_after state (event_of own o))
 next standing _ = standing
 

@@ -1,9 +1,6 @@
 pub mod Ahead
 pub mod Fault
-pub mod Item
-pub mod Lexis
 pub mod Printed
 pub mod Script
-pub mod ScriptLine
 pub mod Told
 pub mod Written

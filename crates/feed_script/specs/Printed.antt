@@ -3,7 +3,7 @@ use Rattle.std.specs.Prelude.{ℕ, List, [], ◌++◌, length, slice_index, code
 use Rattle.std.specs.List.{flat_map}
 use Rattle.hex.specs.Hex.{encode_lower}
 use Rattle.bpf_check.specs.declared.checked.CheckFault.{CheckFault}
-use Rattle.bpf_check.specs.declared.checked.CheckFault.TheVariants.{Empty, TooLong, UnknownCode, ZeroDivisor, BadScratch, BadJump, NoReturn}
+use Rattle.bpf_check.specs.Accepted.{fault_number, fault_place}
 use Rattle.bpf_run.specs.declared.ends.End.{End}
 use Rattle.bpf_run.specs.declared.ends.Socket.{Socket}
 use Rattle.bpf_run.specs.declared.ends.Socket.TheVariants.{Icp, Htcp}
@@ -73,19 +73,14 @@ action_text pending (Serve client answer) = codes "serve " ++ decimal client ++ 
 abbrev pub actions_text : List PendingFetch → List Action → List ℕ
 actions_text pending actions = flat_map (action_text pending) actions ++ codes ".\n"
 
--- a fault's number, and its place or `-`
-abbrev pub fault_words : CheckFault → List ℕ
-fault_words Empty = codes "1 -"
-fault_words TooLong = codes "2 -"
-fault_words (UnknownCode place) = codes "3 " ++ decimal place
-fault_words (ZeroDivisor place) = codes "4 " ++ decimal place
-fault_words (BadScratch place) = codes "5 " ++ decimal place
-fault_words (BadJump place) = codes "6 " ++ decimal place
-fault_words NoReturn = codes "7 -"
+-- the place of a fault, `-` for none
+abbrev pub place_text : Option ℕ → List ℕ
+place_text None = codes "-"
+place_text (Some place) = decimal place
 
--- the line of a program that is refused
+-- the line of a program that is refused: its first fault's number and place
 abbrev pub refuse_text : CheckFault → List ℕ
-refuse_text fault = codes "refuse " ++ fault_words fault ++ codes "\n"
+refuse_text fault = codes "refuse " ++ decimal (fault_number fault) ++ codes " " ++ place_text (fault_place fault) ++ codes "\n"
 
 -- a number after a space
 abbrev pub field_text : ℕ → List ℕ

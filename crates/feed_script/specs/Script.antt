@@ -1,17 +1,19 @@
 -- The text that a script is answered with, and its first wrong line.
-use Rattle.std.specs.Prelude.{ℕ, ◌+◌, Bool, true, false, is_some, List, [], ◌∷◌, ◌++◌, Option, Some, None, if◌then◌else◌}
+use Rattle.std.specs.Prelude.{ℕ, ◌+◌, nat_lt, not, length, Bool, true, false, is_some, List, [], ◌∷◌, ◌++◌, Option, Some, None, if◌then◌else◌}
 use Rattle.bpf_run.specs.declared.ends.End.{End}
 use Rattle.bpf_run.specs.declared.ends.Socket.{Socket}
 use Rattle.bpf_run.specs.declared.ends.Socket.TheVariants.{Icp, Htcp}
+use Rattle.filter_slots.specs.declared.slot.Slot.{Slot}
+use Rattle.filter_slots.specs.declared.slot.Slot.TheVariants as slots
 use Rattle.pending_fetch.specs.Fetches.{PendingFetch}
 use Rattle.plain_node.specs.declared.action.Action.{Action}
 use Rattle.plain_node.specs.Settings.{Settings, Setup, setup_fault}
-use Rattle.node_core.specs.Happening.{Happening, arrives}
+use Rattle.node_core.specs.Happening.{Happening, arrives, swaps}
 use Rattle.node_core.specs.Kept.{kept}
 use Rattle.node_core.specs.Run.{run_node, answers}
 use Rattle.node_core.specs.Counters.{counted}
 use Rattle.node_core.specs.State.{State, opening}
-use Rattle.feed_script.specs.ScriptLine.{Setting, owns, allows, denies_fetches, uses_origins, limits, has_key, has_neighbour, Occurrence, receives, takes, ScriptLine, sets, goes, happens, refuses, inquires, blank, wrong, script_of}
+use Rattle.script_lines.specs.ScriptLine.{Setting, owns, allows, denies_fetches, uses_origins, limits, has_key, has_neighbour, Occurrence, receives, takes, ScriptLine, sets, goes, happens, refuses, inquires, blank, wrong, script_of}
 use Rattle.feed_script.specs.Printed.{actions_text, refuse_text, stats_text}
 
 -- the settings of a script that sets nothing: 10.0.0.1, ports 3130 and 4827, no network, MISS, fetches from origins, 1,000
@@ -45,28 +47,40 @@ set_by s (limits entries octets) = record s { entries = entries; octets = octets
 set_by s (has_key key) = record s { keys = s.keys ++ key ∷ [] }
 set_by s (has_neighbour neighbour) = record s { neighbours = s.neighbours ++ neighbour ∷ [] }
 
--- before the start a script has settings
+-- before the start a script has settings, and after it a node with so many neighbours
 pub data Stage : Type 0 where
   setting : Setup → Stage
-  started : Stage
+  started : (neighbours : ℕ) → Stage
 
 -- the stage after a line
 abbrev pub stage_after : Stage → ScriptLine → Stage
 stage_after (setting s) (sets x) = setting (set_by s x)
-stage_after (setting s) goes = started
+stage_after (setting s) goes = started (length s.neighbours)
 stage_after stage _ = stage
 
+-- whether a node with so many neighbours has a slot
+abbrev pub is_there : ℕ → Slot → Bool
+is_there neighbours (slots.Socket by) = true
+is_there neighbours (slots.Neighbour n) = nat_lt n neighbours
+
+-- whether an event names a slot that such a node doesn't have
+abbrev pub lacks_slot : ℕ → Happening → Bool
+lacks_slot neighbours (swaps slot program) = not (is_there neighbours slot)
+lacks_slot neighbours _ = false
+
 -- Whether a line may not stand here. Before the start there are only settings, then `go`, where the node takes them; and
--- after it there are only the others.
+-- after it there are only the others, of which none names a slot that isn't there.
 abbrev pub is_misplaced : Stage → ScriptLine → Bool
 is_misplaced (setting s) (sets x) = false
 is_misplaced (setting s) goes = is_some (setup_fault s)
 is_misplaced (setting s) blank = false
 is_misplaced (setting s) _ = true
-is_misplaced started (sets x) = true
-is_misplaced started goes = true
-is_misplaced started wrong = true
-is_misplaced started _ = false
+is_misplaced (started neighbours) (sets x) = true
+is_misplaced (started neighbours) goes = true
+is_misplaced (started neighbours) (happens (takes event)) = lacks_slot neighbours event
+is_misplaced (started neighbours) (refuses slot fault) = not (is_there neighbours slot)
+is_misplaced (started neighbours) wrong = true
+is_misplaced (started neighbours) _ = false
 
 -- the number of the first misplaced line, where the first line is numbered n
 abbrev pub first_misplaced : Stage → ℕ → List ScriptLine → Option ℕ
@@ -91,28 +105,29 @@ after_go [] = []
 after_go (goes ∷ ls) = ls
 after_go (_ ∷ ls) = after_go ls
 
--- the own ends of both sockets
-pub record OwnEnds : Type 0 where
+-- what of the settings the lines after the start need: the own ends of both sockets, and how many neighbours there are
+pub record Fixed : Type 0 where
   pub icp : End
   pub htcp : End
+  pub neighbours : ℕ
 
--- those of these settings
-abbrev pub own_ends : Settings → OwnEnds
-own_ends s = record { icp = s.icp; htcp = s.htcp }
+-- that of these settings
+abbrev pub fixed_by : Setup → Fixed
+fixed_by s = record { icp = s.settings.icp; htcp = s.settings.htcp; neighbours = length s.neighbours }
 
 -- the own end of a socket
-abbrev pub own_end : OwnEnds → Socket → End
+abbrev pub own_end : Fixed → Socket → End
 own_end own Icp = own.icp
 own_end own Htcp = own.htcp
 
 -- the event that a line tells of: a datagram comes to the own end of its socket
-abbrev pub event_of : OwnEnds → Occurrence → Happening
+abbrev pub event_of : Fixed → Occurrence → Happening
 event_of own (receives by from payload now) =
     arrives (record { socket = by; from = from; to = own_end own by; payload = payload }) now
 event_of own (takes event) = event
 
 -- all events, in order
-abbrev pub events_of : OwnEnds → List ScriptLine → List Happening
+abbrev pub events_of : Fixed → List ScriptLine → List Happening
 events_of own [] = []
 events_of own (happens o ∷ ls) = event_of own o ∷ events_of own ls
 events_of own (_ ∷ ls) = events_of own ls
@@ -123,19 +138,19 @@ pending_after start events = (run_node start.plain (kept start.filters events)).
 
 -- the answers to all events, printed, each with the keys of the fetches that are pending after its event, and with the refused
 -- programs and the counters over the events before at their places
-abbrev pub woven : State → OwnEnds → List Happening → List ScriptLine → List (List Action) → List ℕ
+abbrev pub woven : State → Fixed → List Happening → List ScriptLine → List (List Action) → List ℕ
 woven start own past [] answered = []
 woven start own past (happens o ∷ ls) [] = []
 woven start own past (happens o ∷ ls) (a ∷ answered) =
     actions_text (pending_after start (past ++ event_of own o ∷ [])) a ++ woven start own (past ++ event_of own o ∷ []) ls answered
-woven start own past (refuses fault ∷ ls) answered = refuse_text fault ++ woven start own past ls answered
+woven start own past (refuses slot fault ∷ ls) answered = refuse_text fault ++ woven start own past ls answered
 woven start own past (inquires ∷ ls) answered = stats_text (counted start.stats start.filters past) ++ woven start own past ls answered
 woven start own past (_ ∷ ls) answered = woven start own past ls answered
 
 -- the text of the lines after the start: all events are gathered first
 abbrev pub run_text : Setup → List ScriptLine → List ℕ
 run_text s ls =
-    let own = own_ends s.settings in
+    let own = fixed_by s in
     woven (opening s) own [] ls (answers (opening s).plain (opening s).filters (events_of own ls))
 
 -- the text of lines that are all in place

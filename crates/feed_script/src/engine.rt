@@ -1,12 +1,13 @@
 //! The engine takes the script piece by piece, and answers each line once it is whole.
-ghost use Rattle.std.specs.Prelude.{◌≡◌, ◌≢◌, ◌+◌, ◌^◌, ◌<◌, ◌≤◌, [], ◌∷◌, length, OnOk, IfErr};
+ghost use Rattle.std.specs.Prelude.{◌≡◌, ◌≢◌, ◌+◌, ◌^◌, ◌<◌, ◌≤◌, [], ◌∷◌, length, true, Err, OnOk, OnErr, IfErr};
 ghost use Rattle.std.specs.Str.Lines.{strip_carriage_return};
-ghost use Rattle.feed_script.specs.Script.{usual};
+ghost use Rattle.script_lines.specs.ScriptLine.{script_line};
+ghost use Rattle.feed_script.specs.Script.{usual, is_misplaced};
 ghost use Rattle.feed_script.specs.Written.{NoBreak};
-ghost use Rattle.feed_script.specs.Ahead.{standing_of, preparing, Takes, StopsBy, Ends, EndsBy, PrintsFront};
+ghost use Rattle.feed_script.specs.Ahead.{standing_of, stage_of, preparing, Obeys, Takes, StopsBy, Ends, EndsBy, PrintsFront};
 
-use super::item::LINE_LIMIT;
 use super::phase::{Phase, Unobeyed};
+use script_lines::{LINE_LIMIT, read_line};
 use std::alloc::Global;
 
 /// Why an engine stops.
@@ -34,6 +35,23 @@ fn without_return(line: &[u8]) -> &[u8]
     }
 }
 
+// A line is read, and what it says is done. A refusal prints nothing.
+fn obey_line(
+    phase: &mut Phase,
+    alloc: Global,
+    text: &[u8],
+    out: &mut Vec<u8>,
+) -> Result<(), Unobeyed>
+    ensures ok { OnOk result (Obeys phase.old (script_line text.now) out.old.items phase.new out.new.items) }
+    ensures wrong { result ≡ Err Unobeyed.Wrong → is_misplaced (stage_of (standing_of phase.old)) (script_line text.now) ≡ true }
+    ensures err { OnErr result (out.new.items ≡ out.old.items) }
+{
+    match read_line(alloc, text) {
+        Ok(item) => phase.obey(alloc, item, out),
+        Err(_) => Err(Unobeyed::Memory),
+    }
+}
+
 impl Engine {
     pub(crate) fn new(alloc: Global) -> Engine
         ensures phase { standing_of result.phase ≡ preparing usual }
@@ -56,7 +74,7 @@ impl Engine {
         ensures stop { IfErr result (StopsBy self.old (10 ∷ []) out.old.items out.new.items) }
     {
         let text = without_return(self.line.as_slice());
-        match self.phase.obey_text(alloc, text, out) {
+        match obey_line(&mut self.phase, alloc, text, out) {
             Ok(()) => {
                 self.line.clear();
                 self.number += 1;
@@ -120,7 +138,7 @@ impl Engine {
         if self.line.is_empty() {
             return Ok(());
         }
-        match self.phase.obey_text(alloc, self.line.as_slice(), out) {
+        match obey_line(&mut self.phase, alloc, self.line.as_slice(), out) {
             Ok(()) => Ok(()),
             Err(Unobeyed::Wrong) => Err(Stop::Line(self.number + 1)),
             Err(Unobeyed::Memory) => Err(Stop::NoMemory),

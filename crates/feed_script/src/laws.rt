@@ -1,6 +1,6 @@
 //! What a node says line by line is what it says of the whole list.
 ghost use Rattle.std.specs.Prelude.{◌≡◌, ℕ, List, Some, None};
-ghost use Rattle.feed_script.specs.ScriptLine.{script_of};
+ghost use Rattle.script_lines.specs.ScriptLine.{script_of};
 ghost use Rattle.feed_script.specs.Script.{text, usual};
 ghost use Rattle.feed_script.specs.Ahead.{preparing, text_ahead};
 

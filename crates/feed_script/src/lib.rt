@@ -1,18 +1,12 @@
 //! A script of events for a node, read from any reader, and its answers, written to any writer. The script is text: a line
-//! for each setting, event and question.
+//! for each setting, event and question. What a line says is `script_lines`'s: here it is obeyed and answered.
 #![tactic(auto)]
 
-mod choice;
 mod engine;
 mod fault;
-mod happening;
-mod item;
 mod laws;
-mod lexis;
 mod phase;
 mod print;
-mod program;
-mod settings;
 mod station;
 mod stream;
 

@@ -1,19 +1,20 @@
-//! Where a script stands, and the lines that it obeys there.
+//! Where a script stands, and what it obeys there.
 ghost use Rattle.std.specs.Prelude.{◌≡◌, ◌≤◌, true, length, is_some, None, Err, OnOk, OnErr, IfOk};
+ghost use Rattle.bpf_run.specs.Packet.{most_payload};
 ghost use Rattle.plain_node.specs.Settings.{setup_fault, setup_of};
 ghost use Rattle.node_core.specs.State.{opening};
 ghost use Rattle.node_core.specs.Happening.{happening};
-ghost use Rattle.feed_script.specs.Item.{script_line_of, IsShort};
-ghost use Rattle.feed_script.specs.ScriptLine.{sets, goes, happens, refuses, inquires, receives, takes, owns, allows, denies_fetches, uses_origins, limits, has_key, has_neighbour, script_line};
-ghost use Rattle.feed_script.specs.Script.{is_misplaced, set_by, usual, own_ends};
-ghost use Rattle.feed_script.specs.Ahead.{stage_of, standing_of, ends_of, preparing, Moves, Obeys};
+ghost use Rattle.script_lines.specs.Item.{script_line_of, IsShort};
+ghost use Rattle.script_lines.specs.ScriptLine.{sets, goes, happens, refuses, inquires, receives, takes, owns, allows, denies_fetches, uses_origins, limits, has_key, has_neighbour};
+ghost use Rattle.feed_script.specs.Script.{is_misplaced, set_by, usual, fixed_by};
+ghost use Rattle.feed_script.specs.Ahead.{stage_of, standing_of, fixed_of, preparing, Moves, Obeys};
 
-use super::item::{Item, read_line};
 use super::station::Station;
 use bpf_check::CheckFault;
-use filter_slots::{End, Moment, Socket};
+use filter_slots::{End, Moment, Slot, Socket};
 use neighbours::{Key, Neighbour};
 use node_core::{Config, Event, Network, Node, NodeFault};
+use script_lines::Item;
 use std::alloc::{AllocError, Global};
 use std::mem;
 
@@ -58,7 +59,7 @@ fn usual(alloc: Global) -> Config
 }
 
 // A network more.
-fn add(config: &mut Config, network: Network) -> Result<(), AllocError>
+fn push_network(config: &mut Config, network: Network) -> Result<(), AllocError>
     ensures { OnOk result (setup_of config.new ≡ set_by (setup_of config.old) (allows network)) }
 {
     config.allowed.push(network)?;
@@ -66,7 +67,7 @@ fn add(config: &mut Config, network: Network) -> Result<(), AllocError>
 }
 
 // A key more.
-fn add_key(config: &mut Config, key: Key) -> Result<(), AllocError>
+fn push_key(config: &mut Config, key: Key) -> Result<(), AllocError>
     ensures { OnOk result (setup_of config.new ≡ set_by (setup_of config.old) (has_key key)) }
 {
     config.keys.push(key)?;
@@ -74,7 +75,7 @@ fn add_key(config: &mut Config, key: Key) -> Result<(), AllocError>
 }
 
 // A neighbour more.
-fn add_neighbour(config: &mut Config, neighbour: Neighbour) -> Result<(), AllocError>
+fn push_neighbour(config: &mut Config, neighbour: Neighbour) -> Result<(), AllocError>
     ensures { OnOk result (setup_of config.new ≡ set_by (setup_of config.old) (has_neighbour neighbour)) }
 {
     config.neighbours.push(neighbour)?;
@@ -84,13 +85,14 @@ fn add_neighbour(config: &mut Config, neighbour: Neighbour) -> Result<(), AllocE
 // The station of a configuration.
 fn started(alloc: Global, config: Config) -> Result<Station, Unobeyed>
     ensures node { IfOk result (λ station. station.node ≡ opening (setup_of config)) }
-    ensures own { IfOk result (λ station. ends_of station ≡ own_ends (setup_of config).settings) }
+    ensures own { IfOk result (λ station. fixed_of station ≡ fixed_by (setup_of config)) }
     ensures faultless { OnOk result (setup_fault (setup_of config) ≡ None) }
     ensures wrong { result ≡ Err Unobeyed.Wrong → is_some (setup_fault (setup_of config)) ≡ true }
 {
     let (icp, htcp) = (config.icp, config.htcp);
+    let neighbours = config.neighbours.len();
     match Node::new(alloc, config) {
-        Ok(node) => match Station::new(alloc, node, icp, htcp) {
+        Ok(node) => match Station::new(alloc, node, icp, htcp, neighbours) {
             Ok(station) => Ok(station),
             Err(_) => Err(Unobeyed::Memory),
         },
@@ -129,7 +131,7 @@ impl Phase {
         let Phase::Before(config) = self else {
             return Err(Unobeyed::Wrong);
         };
-        match add(config, network) {
+        match push_network(config, network) {
             Ok(()) => Ok(()),
             Err(_) => Err(Unobeyed::Memory),
         }
@@ -173,28 +175,28 @@ impl Phase {
     }
 
     // One more key.
-    fn sign(&mut self, key: Key) -> Result<(), Unobeyed>
+    fn add_key(&mut self, key: Key) -> Result<(), Unobeyed>
         ensures ok { OnOk result (Moves self.old (sets (has_key key)) self.new) }
         ensures wrong { result ≡ Err Unobeyed.Wrong → is_misplaced (stage_of (standing_of self.old)) (sets (has_key key)) ≡ true }
     {
         let Phase::Before(config) = self else {
             return Err(Unobeyed::Wrong);
         };
-        match add_key(config, key) {
+        match push_key(config, key) {
             Ok(()) => Ok(()),
             Err(_) => Err(Unobeyed::Memory),
         }
     }
 
     // One more neighbour.
-    fn meet(&mut self, neighbour: Neighbour) -> Result<(), Unobeyed>
+    fn add_neighbour(&mut self, neighbour: Neighbour) -> Result<(), Unobeyed>
         ensures ok { OnOk result (Moves self.old (sets (has_neighbour neighbour)) self.new) }
         ensures wrong { result ≡ Err Unobeyed.Wrong → is_misplaced (stage_of (standing_of self.old)) (sets (has_neighbour neighbour)) ≡ true }
     {
         let Phase::Before(config) = self else {
             return Err(Unobeyed::Wrong);
         };
-        match add_neighbour(config, neighbour) {
+        match push_neighbour(config, neighbour) {
             Ok(()) => Ok(()),
             Err(_) => Err(Unobeyed::Memory),
         }
@@ -224,7 +226,7 @@ impl Phase {
         now: Moment,
         out: &mut Vec<u8>,
     ) -> Result<(), Unobeyed>
-        requires { length payload.items ≤ 65507 }
+        requires { length payload.items ≤ most_payload }
         ensures ok { OnOk result (Obeys self.old (happens (receives socket from payload.items now)) out.old.items self.new out.new.items) }
         ensures wrong { result ≡ Err Unobeyed.Wrong → is_misplaced (stage_of (standing_of self.old)) (happens (receives socket from payload.items now)) ≡ true }
         ensures err { OnErr result (out.new.items ≡ out.old.items) }
@@ -238,7 +240,7 @@ impl Phase {
         }
     }
 
-    // An event that the line tells whole.
+    // An event that the line tells whole. One that names a slot that isn't there is a wrong line.
     fn take(&mut self, alloc: Global, event: &Event, out: &mut Vec<u8>) -> Result<(), Unobeyed>
         ensures ok { OnOk result (Obeys self.old (happens (takes (happening event.now))) out.old.items self.new out.new.items) }
         ensures wrong { result ≡ Err Unobeyed.Wrong → is_misplaced (stage_of (standing_of self.old)) (happens (takes (happening event.now))) ≡ true }
@@ -247,21 +249,27 @@ impl Phase {
         let Phase::Running(station) = self else {
             return Err(Unobeyed::Wrong);
         };
+        if station.lacks(event) {
+            return Err(Unobeyed::Wrong);
+        }
         match station.take(alloc, event, out) {
             Ok(()) => Ok(()),
             Err(_) => Err(Unobeyed::Memory),
         }
     }
 
-    // A program is refused.
-    fn refuse(&mut self, fault: CheckFault, out: &mut Vec<u8>) -> Result<(), Unobeyed>
-        ensures ok { OnOk result (Obeys self.old (refuses fault) out.old.items self.new out.new.items) }
-        ensures wrong { result ≡ Err Unobeyed.Wrong → is_misplaced (stage_of (standing_of self.old)) (refuses fault) ≡ true }
+    // A program for a slot is refused. Without that slot it is a wrong line.
+    fn refuse(&mut self, slot: Slot, fault: CheckFault, out: &mut Vec<u8>) -> Result<(), Unobeyed>
+        ensures ok { OnOk result (Obeys self.old (refuses slot fault) out.old.items self.new out.new.items) }
+        ensures wrong { result ≡ Err Unobeyed.Wrong → is_misplaced (stage_of (standing_of self.old)) (refuses slot fault) ≡ true }
         ensures err { OnErr result (out.new.items ≡ out.old.items) }
     {
         let Phase::Running(station) = self else {
             return Err(Unobeyed::Wrong);
         };
+        if !station.has(slot) {
+            return Err(Unobeyed::Wrong);
+        }
         match station.refuse(fault, out) {
             Ok(()) => Ok(()),
             Err(_) => Err(Unobeyed::Memory),
@@ -283,8 +291,13 @@ impl Phase {
         }
     }
 
-    // One line. A refusal prints nothing.
-    fn obey(&mut self, alloc: Global, item: Item, out: &mut Vec<u8>) -> Result<(), Unobeyed>
+    /// What a line says is done. A refusal prints nothing.
+    pub(crate) fn obey(
+        &mut self,
+        alloc: Global,
+        item: Item,
+        out: &mut Vec<u8>,
+    ) -> Result<(), Unobeyed>
         requires { IsShort item }
         ensures ok { OnOk result (Obeys self.old (script_line_of item) out.old.items self.new out.new.items) }
         ensures wrong { result ≡ Err Unobeyed.Wrong → is_misplaced (stage_of (standing_of self.old)) (script_line_of item) ≡ true }
@@ -296,8 +309,8 @@ impl Phase {
             Item::NoFetch(on) => self.set_nofetch(on),
             Item::Origin(on) => self.set_origin(on),
             Item::Limits { entries, octets } => self.limit(entries, octets),
-            Item::AddKey(key) => self.sign(key),
-            Item::AddNeighbour(neighbour) => self.meet(neighbour),
+            Item::AddKey(key) => self.add_key(key),
+            Item::AddNeighbour(neighbour) => self.add_neighbour(neighbour),
             Item::Go => self.go(alloc),
             Item::Receive {
                 socket,
@@ -306,27 +319,10 @@ impl Phase {
                 now,
             } => self.receive(alloc, socket, from, payload, now, out),
             Item::Take(event) => self.take(alloc, &event, out),
-            Item::Refuse(fault) => self.refuse(fault, out),
+            Item::Refuse { slot, fault } => self.refuse(slot, fault, out),
             Item::Ask => self.tell(out),
             Item::Blank => Ok(()),
             Item::Wrong => Err(Unobeyed::Wrong),
-        }
-    }
-
-    /// A line's text is read and obeyed. A refusal prints nothing.
-    pub(crate) fn obey_text(
-        &mut self,
-        alloc: Global,
-        text: &[u8],
-        out: &mut Vec<u8>,
-    ) -> Result<(), Unobeyed>
-        ensures ok { OnOk result (Obeys self.old (script_line text.now) out.old.items self.new out.new.items) }
-        ensures wrong { result ≡ Err Unobeyed.Wrong → is_misplaced (stage_of (standing_of self.old)) (script_line text.now) ≡ true }
-        ensures err { OnErr result (out.new.items ≡ out.old.items) }
-    {
-        match read_line(alloc, text) {
-            Ok(item) => self.obey(alloc, item, out),
-            Err(_) => Err(Unobeyed::Memory),
         }
     }
 }

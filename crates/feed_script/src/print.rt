@@ -1,6 +1,6 @@
 //! What is printed.
 ghost use Rattle.std.specs.Prelude.{◌≡◌, ◌++◌, codes, decimal, OnOk};
-ghost use Rattle.feed_script.specs.Printed.{action_text, actions_text, address_text, answer_text, cached_text, counters_text, end_text, fault_words, field_text, key_text, octets_text, owner_text, refuse_text, socket_text, source_text, stats_text};
+ghost use Rattle.feed_script.specs.Printed.{action_text, actions_text, address_text, answer_text, cached_text, counters_text, end_text, field_text, key_text, octets_text, owner_text, place_text, refuse_text, socket_text, source_text, stats_text};
 
 use bpf_check::CheckFault;
 use filter_slots::{End, Socket};
@@ -286,24 +286,13 @@ pub(crate) fn push_actions(
     out.extend_from_slice(b".\n")
 }
 
-fn push_placed(out: &mut Vec<u8>, words: &[u8], place: usize) -> Result<(), AllocError>
-    ensures { OnOk result (out.new.items ≡ out.old.items ++ (words.now ++ decimal place)) }
+// The place of a fault.
+fn push_place(out: &mut Vec<u8>, place: Option<usize>) -> Result<(), AllocError>
+    ensures { OnOk result (out.new.items ≡ out.old.items ++ place_text place) }
 {
-    out.extend_from_slice(words)?;
-    push_number(out, place as u64)
-}
-
-fn push_fault(out: &mut Vec<u8>, fault: CheckFault) -> Result<(), AllocError>
-    ensures { OnOk result (out.new.items ≡ out.old.items ++ fault_words fault) }
-{
-    match fault {
-        CheckFault::Empty => out.extend_from_slice(b"1 -"),
-        CheckFault::TooLong => out.extend_from_slice(b"2 -"),
-        CheckFault::UnknownCode(place) => push_placed(out, b"3 ", place),
-        CheckFault::ZeroDivisor(place) => push_placed(out, b"4 ", place),
-        CheckFault::BadScratch(place) => push_placed(out, b"5 ", place),
-        CheckFault::BadJump(place) => push_placed(out, b"6 ", place),
-        CheckFault::NoReturn => out.extend_from_slice(b"7 -"),
+    match place {
+        None => out.extend_from_slice(b"-"),
+        Some(place) => push_number(out, place as u64),
     }
 }
 
@@ -312,7 +301,9 @@ pub(crate) fn push_refusal(out: &mut Vec<u8>, fault: CheckFault) -> Result<(), A
     ensures { OnOk result (out.new.items ≡ out.old.items ++ refuse_text fault) }
 {
     out.extend_from_slice(b"refuse ")?;
-    push_fault(out, fault)?;
+    push_number(out, u64::from(fault.number()))?;
+    out.extend_from_slice(b" ")?;
+    push_place(out, fault.place())?;
     out.extend_from_slice(b"\n")
 }
 

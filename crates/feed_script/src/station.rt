@@ -1,40 +1,51 @@
 //! A node, and what it prints.
 ghost use Rattle.std.specs.Prelude.{◌≡◌, ◌≤◌, ◌++◌, length, OnOk, OnErr, IfOk};
+ghost use Rattle.bpf_run.specs.Packet.{most_payload};
 ghost use Rattle.node_core.specs.Happening.{happening};
 ghost use Rattle.node_core.specs.State.{actions_at, state_after};
 ghost use Rattle.feed_script.specs.Printed.{actions_text, refuse_text, stats_text};
-ghost use Rattle.feed_script.specs.ScriptLine.{receives};
-ghost use Rattle.feed_script.specs.Script.{event_of, own_end};
-ghost use Rattle.feed_script.specs.Ahead.{ends_of};
+ghost use Rattle.script_lines.specs.ScriptLine.{receives};
+ghost use Rattle.feed_script.specs.Script.{event_of, own_end, is_there, lacks_slot};
+ghost use Rattle.feed_script.specs.Ahead.{fixed_of};
 
 use super::print::{push_actions, push_refusal, push_stats};
 use bpf_check::CheckFault;
-use filter_slots::{Datagram, End, Moment, Socket};
+use filter_slots::{Datagram, End, Moment, Slot, Socket};
 use node_core::{Event, Node, Out, step_law};
 use std::alloc::{AllocError, Global};
 use std::sync::Arc;
 
-/// A node, the own ends of its two sockets, and room for the actions of one event and for their text.
+/// A node, the own ends of its two sockets and how many neighbours it has, and room for the actions of one event and for their text.
 #[derive(Drop)]
 pub(crate) struct Station {
     node: Node,
     icp: End,
     htcp: End,
+    neighbours: usize,
     actions: Out,
     printed: Vec<u8>,
 }
 
 impl Station {
-    /// A station of this node with these own ends. An error says that there was no memory.
-    pub(crate) fn new(alloc: Global, node: Node, icp: End, htcp: End) -> Result<Station, AllocError>
+    /// A station of this node with these own ends and so many neighbours. An error says that there
+    /// was no memory.
+    pub(crate) fn new(
+        alloc: Global,
+        node: Node,
+        icp: End,
+        htcp: End,
+        neighbours: usize,
+    ) -> Result<Station, AllocError>
         ensures node { IfOk result (λ station. station.node ≡ node) }
         ensures icp { IfOk result (λ station. station.icp ≡ icp) }
         ensures htcp { IfOk result (λ station. station.htcp ≡ htcp) }
+        ensures neighbours { IfOk result (λ station. station.neighbours ≡ neighbours) }
     {
         Ok(Station {
             node,
             icp,
             htcp,
+            neighbours,
             actions: Out::new(alloc)?,
             printed: Vec::new(alloc),
         })
@@ -42,11 +53,31 @@ impl Station {
 
     // The own end of a socket.
     fn own_end(&self, socket: Socket) -> End
-        ensures { result ≡ own_end (ends_of self.now) socket }
+        ensures { result ≡ own_end (fixed_of self.now) socket }
     {
         match socket {
             Socket::Icp => self.icp,
             Socket::Htcp => self.htcp,
+        }
+    }
+
+    /// Whether the node has a slot.
+    pub(crate) fn has(&self, slot: Slot) -> bool
+        ensures { result ≡ is_there (fixed_of self.now).neighbours slot }
+    {
+        match slot {
+            Slot::Socket(_) => true,
+            Slot::Neighbour(n) => n < self.neighbours,
+        }
+    }
+
+    /// Whether an event names a slot that the node doesn't have.
+    pub(crate) fn lacks(&self, event: &Event) -> bool
+        ensures { result ≡ lacks_slot (fixed_of self.now).neighbours (happening event.now) }
+    {
+        match event {
+            Event::Swap { slot, .. } => !self.has(*slot),
+            _ => false,
         }
     }
 
@@ -57,7 +88,7 @@ impl Station {
         event: &Event,
         out: &mut Vec<u8>,
     ) -> Result<(), AllocError>
-        ensures own { OnOk result (ends_of self.new ≡ ends_of self.old) }
+        ensures own { OnOk result (fixed_of self.new ≡ fixed_of self.old) }
         ensures state { OnOk result (self.new.node ≡ state_after self.old.node (happening event.now)) }
         ensures shown { OnOk result (out.new.items ≡ out.old.items
             ++ actions_text (state_after self.old.node (happening event.now)).plain.fetches.list (actions_at self.old.node (happening event.now))) }
@@ -71,6 +102,25 @@ impl Station {
         out.extend_from_slice(self.printed.as_slice())
     }
 
+    // The event that a datagram comes to the own end of its socket.
+    fn arrival(
+        &self,
+        alloc: Global,
+        socket: Socket,
+        from: End,
+        payload: Vec<u8>,
+        now: Moment,
+    ) -> Result<Event, AllocError>
+        requires { length payload.items ≤ most_payload }
+        ensures { IfOk result (λ event. happening event ≡ event_of (fixed_of self.now) (receives socket from payload.items now)) }
+    {
+        let Ok(datagram) = Datagram::new(socket, from, self.own_end(socket), payload) else {
+            unreachable!()
+        };
+        let datagram = Arc::new(alloc, datagram)?;
+        Ok(Event::Datagram { datagram, now })
+    }
+
     /// A datagram comes to the own end of its socket.
     pub(crate) fn receive(
         &mut self,
@@ -81,24 +131,21 @@ impl Station {
         now: Moment,
         out: &mut Vec<u8>,
     ) -> Result<(), AllocError>
-        requires { length payload.items ≤ 65507 }
-        ensures own { OnOk result (ends_of self.new ≡ ends_of self.old) }
-        ensures state { OnOk result (self.new.node ≡ state_after self.old.node (event_of (ends_of self.old) (receives socket from payload.items now))) }
+        requires { length payload.items ≤ most_payload }
+        ensures own { OnOk result (fixed_of self.new ≡ fixed_of self.old) }
+        ensures state { OnOk result (self.new.node ≡ state_after self.old.node (event_of (fixed_of self.old) (receives socket from payload.items now))) }
         ensures shown { OnOk result (out.new.items ≡ out.old.items
-            ++ actions_text (state_after self.old.node (event_of (ends_of self.old) (receives socket from payload.items now))).plain.fetches.list
-            (actions_at self.old.node (event_of (ends_of self.old) (receives socket from payload.items now)))) }
+            ++ actions_text (state_after self.old.node (event_of (fixed_of self.old) (receives socket from payload.items now))).plain.fetches.list
+            (actions_at self.old.node (event_of (fixed_of self.old) (receives socket from payload.items now)))) }
         ensures err { OnErr result (out.new.items ≡ out.old.items) }
     {
-        let Ok(datagram) = Datagram::new(socket, from, self.own_end(socket), payload) else {
-            unreachable!()
-        };
-        let datagram = Arc::new(alloc, datagram)?;
-        self.take(alloc, &Event::Datagram { datagram, now }, out)
+        let event = self.arrival(alloc, socket, from, payload, now)?;
+        self.take(alloc, &event, out)
     }
 
     /// A program is refused.
     pub(crate) fn refuse(&mut self, fault: CheckFault, out: &mut Vec<u8>) -> Result<(), AllocError>
-        ensures own { ends_of self.new ≡ ends_of self.old }
+        ensures own { fixed_of self.new ≡ fixed_of self.old }
         ensures state { self.new.node ≡ self.old.node }
         ensures shown { OnOk result (out.new.items ≡ out.old.items ++ refuse_text fault) }
         ensures err { OnErr result (out.new.items ≡ out.old.items) }
@@ -110,7 +157,7 @@ impl Station {
 
     /// The counters are asked for.
     pub(crate) fn tell(&mut self, out: &mut Vec<u8>) -> Result<(), AllocError>
-        ensures own { ends_of self.new ≡ ends_of self.old }
+        ensures own { fixed_of self.new ≡ fixed_of self.old }
         ensures state { self.new.node ≡ self.old.node }
         ensures shown { OnOk result (out.new.items ≡ out.old.items ++ stats_text self.old.node.stats) }
         ensures err { OnErr result (out.new.items ≡ out.old.items) }

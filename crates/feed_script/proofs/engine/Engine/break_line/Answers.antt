@@ -1,6 +1,6 @@
 use Rattle.std.proofs.Common.{List, ℕ, ◌+◌, ◌∷◌, [], ap, sym, ◌∙◌, refl, subst, Err}
 use Rattle.std.specs.Str.Lines.{strip_carriage_return}
-use Rattle.feed_script.specs.ScriptLine.{script_line}
+use Rattle.script_lines.specs.ScriptLine.{script_line}
 use Rattle.feed_script.specs.Script.{is_misplaced}
 use Rattle.feed_script.specs.Ahead.{stage_of, standing_of, Obeys, StopsBy}
 use Rattle.feed_script.specs.declared.engine.Stop.TheVariants.{Line, NoMemory}
@@ -10,7 +10,7 @@ use Rattle.feed_script.proofs.engine.Engine.break_line.Goals as goal
 pub returns-in-Ok-clause-ok : goal.returns-in-Ok-clause-ok
 returns-in-Ok-clause-ok c =
     let text = c.without_return-text.ensures ∙ ap strip_carriage_return c.as_slice.ensures.value in
-    let P : List ℕ → Type 0 = λ t. Obeys c.args.self.now.phase (script_line t) c.args.out.now.items c.obey_text.new.self c.obey_text.new.out.items in
+    let P : List ℕ → Type 0 = λ t. Obeys c.args.self.now.phase (script_line t) c.args.out.now.items c.obey_line.new.phase c.obey_line.new.out.items in
     takes-break _ _ _ _ c.requires.partial (subst P text c.in-Ok.ensures.ok) c.clear.ensures.items refl
 
 pub returns-in-Err-Wrong-clause-stop : goal.returns-in-Err-Wrong-clause-stop

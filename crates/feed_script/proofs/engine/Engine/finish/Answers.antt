@@ -1,5 +1,5 @@
 use Rattle.std.proofs.Common.{ℕ, ◌+◌, List, [], ap, sym, ◌∙◌, subst, Err, arith}
-use Rattle.feed_script.specs.ScriptLine.{script_line}
+use Rattle.script_lines.specs.ScriptLine.{script_line}
 use Rattle.feed_script.specs.Script.{is_misplaced}
 use Rattle.feed_script.specs.Ahead.{stage_of, standing_of, Obeys, EndsBy, PrintsFront}
 use Rattle.feed_script.specs.declared.engine.Stop.TheVariants.{Line, NoMemory}
@@ -8,8 +8,8 @@ use Rattle.feed_script.proofs.engine.Engine.finish.Goals as goal
 
 pub returns-in-Ok-clause-ok : goal.returns-in-Ok-clause-ok
 returns-in-Ok-clause-ok c =
-    let P : List ℕ → Type 0 = λ t. Obeys c.args.self.now.phase (script_line t) c.args.out.now.items c.obey_text.new.self c.obey_text.new.out.items in
-    ends-line c.args.self.now c.obey_text.new.self _ _ c.requires.partial (grind arith) (subst P c.as_slice.ensures.value c.in-Ok.ensures.ok)
+    let P : List ℕ → Type 0 = λ t. Obeys c.args.self.now.phase (script_line t) c.args.out.now.items c.obey_line.new.phase c.obey_line.new.out.items in
+    ends-line c.args.self.now c.obey_line.new.phase _ _ c.requires.partial (grind arith) (subst P c.as_slice.ensures.value c.in-Ok.ensures.ok)
 
 pub returns-in-Err-Wrong-clause-stop : goal.returns-in-Err-Wrong-clause-stop
 returns-in-Err-Wrong-clause-stop c =
@@ -25,9 +25,9 @@ returns-in-Err-Memory-clause-stop c =
 
 pub returns-in-Ok-clause-front : goal.returns-in-Ok-clause-front
 returns-in-Ok-clause-front c =
-    let P : List ℕ → Type 0 = λ t. Obeys c.args.self.now.phase (script_line t) c.args.out.now.items c.obey_text.new.self c.obey_text.new.out.items in
-    front-ends c.args.self.now c.args.out.now.items c.obey_text.new.out.items
-    (ends-line c.args.self.now c.obey_text.new.self _ _ c.requires.partial (grind arith) (subst P c.as_slice.ensures.value c.in-Ok.ensures.ok))
+    let P : List ℕ → Type 0 = λ t. Obeys c.args.self.now.phase (script_line t) c.args.out.now.items c.obey_line.new.phase c.obey_line.new.out.items in
+    front-ends c.args.self.now c.args.out.now.items c.obey_line.new.out.items
+    (ends-line c.args.self.now c.obey_line.new.phase _ _ c.requires.partial (grind arith) (subst P c.as_slice.ensures.value c.in-Ok.ensures.ok))
 
 pub returns-in-Err-Wrong-clause-front : goal.returns-in-Err-Wrong-clause-front
 returns-in-Err-Wrong-clause-front c =

@@ -1,0 +1,4 @@
+pub mod FieldLemmas
+pub mod KeyLemmas
+pub mod NumberLemmas
+pub mod ProgramLemmas
