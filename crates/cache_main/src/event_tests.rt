@@ -1,7 +1,7 @@
 //! The node at one event, and the configurations that it refuses.
 
 use bpf_check::{Insn, check};
-use filter_slots::{Datagram, End, Moment, Socket};
+use filter_slots::{Datagram, End, Moment, Slot, Socket};
 use neighbours::{ConfigFault, Neighbour, Role};
 use node_core::{Action, Config, Event, Network, Node, NodeFault, Out, run_events};
 use std::alloc::Global;
@@ -96,7 +96,7 @@ fn swap(alloc: Global) -> Result<Event, Fail> {
     })?;
     let program = check(insns).ok().ok_or("a program")?;
     Ok(Event::Swap {
-        socket: Socket::Icp,
+        slot: Slot::Socket(Socket::Icp),
         program: Some(Arc::new(alloc, program)?),
     })
 }

@@ -1,7 +1,7 @@
 //! The node over whole lists of events.
 
 use bpf_check::{Insn, check};
-use filter_slots::{Datagram, End, Moment, Socket};
+use filter_slots::{Datagram, End, Moment, Slot, Socket};
 use node_core::{Action, Config, Event, Network, Node, Out, run_events};
 use std::sync::Arc;
 use std::test::Fail;
@@ -93,7 +93,7 @@ fn arrival(rt: &HostRuntime, octets: &str, now: u64) -> Result<Event, Fail> {
 fn swap(rt: &HostRuntime, insns: &[Insn]) -> Result<Event, Fail> {
     let program = check(insns.to_vec(rt.alloc())?).map_err(|_| "refused")?;
     Ok(Event::Swap {
-        socket: Socket::Icp,
+        slot: Slot::Socket(Socket::Icp),
         program: Some(Arc::new(rt.alloc(), program)?),
     })
 }

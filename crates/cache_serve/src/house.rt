@@ -25,6 +25,13 @@ pub struct Lanes {
     pub jobs: Vec<UnboundedSender<Job>>,
 }
 
+/// An attempt of a fetch.
+#[derive(Clone, Copy)]
+pub struct Attempt {
+    pub fetch: u32,
+    pub attempt: u16,
+}
+
 /// What the threads of a proxy share.
 #[derive(Drop)]
 pub struct House<L: Ledger> {
@@ -34,12 +41,22 @@ pub struct House<L: Ledger> {
     pub mailbox: Mutex<Mailbox>,
     /// Where fetches are handed in, until the proxy stops.
     pub lanes: Mutex<Option<Lanes>>,
+    /// Fetches that could not be begun, and are still to be told as failed. There is room for as many as a node has.
+    pub failed: Mutex<Vec<Attempt>>,
     /// The name of this cache.
     pub name: String,
     /// The neighbours, in the order of the configuration.
     pub peers: Vec<Peer>,
     /// How long a fetch may take.
     pub fetching: Duration,
+}
+
+/// The most pending fetches of a node.
+const MOST_FETCHES: usize = 256;
+
+/// Room for fetches that could not be begun.
+pub fn no_failures(alloc: Global) -> Result<Mutex<Vec<Attempt>>, AllocError> {
+    Ok(Mutex::new(Vec::with_capacity(alloc, MOST_FETCHES)?))
 }
 
 /// A fetch that a node wants made.
@@ -183,6 +200,16 @@ impl<L: Ledger> House<L> {
         }
         fields.push(via(alloc, self.name.as_bytes())?)?;
         Ok(fields)
+    }
+
+    /// A fetch could not be begun: some thread is to tell the node.
+    pub fn remember<R: Wait>(&self, rt: &R, failed: Attempt) {
+        let _ = self.failed.lock(rt).push(failed);
+    }
+
+    /// A fetch that could not be begun, which the caller tells the node of.
+    pub fn next_failure<R: Wait>(&self, rt: &R) -> Option<Attempt> {
+        self.failed.lock(rt).pop()
     }
 
     /// Ends all that is under way: nothing is handed in any more, running fetches end, and clients that wait get no answer.

@@ -8,6 +8,7 @@
 mod addressing;
 mod clock;
 mod fault;
+mod figures;
 mod front;
 mod house;
 mod limits;

@@ -1,11 +1,12 @@
 //! What an administrator may do.
+use crate::figures::{neighbours_text, stats_text};
 use crate::teller::Teller;
 use bpf_asm::to_text;
 use bpf_check::Checked;
-use filter_slots::Socket;
+use filter_slots::Slot;
 use filter_text::{ProgramFault, read_program};
 use hyper_cache::administration::{Panel, PutFault};
-use node_core::{Counters, Event, Stats};
+use node_core::Event;
 use std::alloc::{AllocError, Global};
 use std::sync::ledger::Ledger;
 use std::sync::{Arc, Mutex, Wait};
@@ -21,8 +22,8 @@ pub struct Switches<R, L: Ledger> {
 }
 
 impl<R: Wait + Clock + Drop, L: Ledger> Switches<R, L> {
-    fn swap(&mut self, socket: Socket, program: Option<Arc<Checked>>) -> Result<(), AllocError> {
-        let event = Event::Swap { socket, program };
+    fn swap(&mut self, slot: Slot, program: Option<Arc<Checked>>) -> Result<(), AllocError> {
+        let event = Event::Swap { slot, program };
         match self.teller.lock(&self.rt).take(event) {
             Ok(_) => Ok(()),
             Err(_) => Err(AllocError),
@@ -42,24 +43,31 @@ fn refusal(alloc: Global, fault: ProgramFault) -> PutFault {
 }
 
 impl<R: Wait + Clock + Drop, L: Ledger> Panel for Switches<R, L> {
-    fn put(&mut self, socket: Socket, text: &[u8]) -> Result<(), PutFault> {
+    fn has(&mut self, slot: Slot) -> bool {
+        match slot {
+            Slot::Socket(_) => true,
+            Slot::Neighbour(n) => n < self.teller.lock(&self.rt).house().peers.len(),
+        }
+    }
+
+    fn put(&mut self, slot: Slot, text: &[u8]) -> Result<(), PutFault> {
         let alloc = self.alloc;
         let program = read_program(alloc, text).map_err(|fault| refusal(alloc, fault))?;
         let Ok(program) = Arc::new(alloc, program) else {
             return Err(PutFault::NoMemory);
         };
-        self.swap(socket, Some(program))
+        self.swap(slot, Some(program))
             .map_err(|_| PutFault::NoMemory)
     }
 
-    fn clear(&mut self, socket: Socket) -> Result<(), AllocError> {
-        self.swap(socket, None)
+    fn clear(&mut self, slot: Slot) -> Result<(), AllocError> {
+        self.swap(slot, None)
     }
 
-    fn show(&mut self, socket: Socket) -> Result<Vec<u8>, AllocError> {
+    fn show(&mut self, slot: Slot) -> Result<Vec<u8>, AllocError> {
         let alloc = self.alloc;
         let programs = self.teller.lock(&self.rt).house().desk.programs(&self.rt)?;
-        match programs.installed(socket) {
+        match programs.installed(slot) {
             Some(program) => Ok(to_text(alloc, program)?.into_bytes()),
             None => b"none\n".to_vec(alloc),
         }
@@ -67,28 +75,23 @@ impl<R: Wait + Clock + Drop, L: Ledger> Panel for Switches<R, L> {
 
     fn stats(&mut self) -> Result<Vec<u8>, AllocError> {
         let stats = self.teller.lock(&self.rt).house().desk.stats(&self.rt);
-        match text_of(self.alloc, stats) {
+        match stats_text(self.alloc, stats) {
             Some(text) => Ok(text.into_bytes()),
             None => Err(AllocError),
         }
     }
-}
 
-/// The counters as JSON, with LF. None where there is no memory.
-fn text_of(alloc: Global, stats: Stats) -> Option<String> {
-    let icp = counters_of(alloc, stats.icp)?;
-    let htcp = counters_of(alloc, stats.htcp)?;
-    format!(in alloc; "{{\"icp\":{icp},\"htcp\":{htcp}}}\n").ok()
-}
-
-fn counters_of(alloc: Global, counters: Counters) -> Option<String> {
-    let Counters {
-        judged,
-        rejected,
-        cut,
-        malformed,
-    } = counters;
-    format!(in alloc;
-        "{{\"judged\":{judged},\"rejected\":{rejected},\"cut\":{cut},\"malformed\":{malformed}}}"
-    ).ok()
+    fn neighbours(&mut self) -> Result<Vec<u8>, AllocError> {
+        let alloc = self.alloc;
+        let views = self
+            .teller
+            .lock(&self.rt)
+            .house()
+            .desk
+            .neighbours(&self.rt, alloc)?;
+        match neighbours_text(alloc, views.as_slice()) {
+            Some(text) => Ok(text.into_bytes()),
+            None => Err(AllocError),
+        }
+    }
 }

@@ -2,6 +2,7 @@
 use crate::clock::now;
 use crate::objects::object_of;
 use crate::teller::Teller;
+use crossbeam_channel::Sender;
 use fetch_chain::Submit;
 use httpdate::HttpDate;
 use hyper_cache::fetching::{Fetched, Page};
@@ -9,10 +10,13 @@ use node_core::{Event, Mode, Outcome};
 use std::alloc::Global;
 use std::sync::Wait;
 use std::sync::ledger::Ledger;
-use std::time::Clock;
+use std::thread;
+use std::time::{Clock, Duration};
 
-/// How often a result that there is no memory for is told as a failure.
+/// How often a result that there is no memory for is told as a failure, with a rest of 10 ms before each.
 const MOST_TRIES: u32 = 1_000;
+
+const MILLIS_BETWEEN: u64 = 10;
 
 /// Hands the results of one fetch thread in.
 #[derive(Drop)]
@@ -22,6 +26,8 @@ pub struct Results<R, L: Ledger> {
     pub teller: Teller<R, L>,
     /// Whether a result could not be handed in, for want of memory.
     pub has_given_up: bool,
+    /// Told when that is so: its clients would wait for ever, so the proxy is to end.
+    pub end: Sender<(), Global>,
 }
 
 impl<R: Wait + Clock + Drop, L: Ledger> Results<R, L> {
@@ -49,6 +55,13 @@ impl<R: Wait + Clock + Drop, L: Ledger> Results<R, L> {
         };
         self.teller.take(event).is_ok()
     }
+
+    fn give_up(&mut self) {
+        if !self.has_given_up {
+            self.has_given_up = true;
+            let _ = self.end.send(&self.rt, ());
+        }
+    }
 }
 
 impl<R: Wait + Clock + Drop, L: Ledger> Submit<Fetched> for Results<R, L> {
@@ -64,10 +77,11 @@ impl<R: Wait + Clock + Drop, L: Ledger> Submit<Fetched> for Results<R, L> {
             return;
         }
         for _ in 0..MOST_TRIES {
+            thread::sleep(&self.rt, Duration::from_millis(MILLIS_BETWEEN));
             if self.take(fetch, attempt, Outcome::Failed) {
                 return;
             }
         }
-        self.has_given_up = true;
+        self.give_up();
     }
 }

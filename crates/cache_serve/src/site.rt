@@ -3,7 +3,7 @@ ghost use Rattle.std.specs.Prelude.{◌≡◌};
 
 use crate::addressing::Peer;
 use crate::fault::{Port, ServeFault};
-use crate::house::{House, Lanes};
+use crate::house::{House, Lanes, no_failures};
 use crate::limits::Limits;
 use crate::mailbox::Mailbox;
 use crate::tasks::{
@@ -11,7 +11,7 @@ use crate::tasks::{
     no_memory, run_task,
 };
 use crate::teller::{Chair, Outgoing, Post};
-use crossbeam_channel::{Receiver, Sender, unbounded};
+use crossbeam_channel::{Receiver, Sender, bounded, unbounded};
 use filter_slots::End;
 use futures::channel::{mpsc, oneshot};
 use hyper_cache::fetching::Job;
@@ -41,6 +41,10 @@ const LOOK_UPS: usize = 4;
 
 /// All threads of a proxy.
 const THREADS: usize = 11;
+
+/// How often the end of a proxy is told at most, by each thread twice. There is room for all of them beforehand, so that it can be
+/// told where there is no memory.
+const ENDS: usize = 22;
 
 /// Where a proxy listens.
 #[derive(Clone, Copy)]
@@ -111,6 +115,7 @@ where
         desk,
         mailbox: Mutex::new(Mailbox::new(alloc)),
         lanes: Mutex::new(None),
+        failed: no_failures(alloc).map_err(no_memory)?,
         name,
         peers,
         fetching: limits.fetching,
@@ -173,7 +178,7 @@ fn networks_of(alloc: Global, config: &Config) -> Result<Vec<Network>, AllocErro
 
 impl<L: Ledger + Send + Sync + 'static> Site<L> {
     fn of(alloc: Global, house: House<L>, seats: Vec<Seat<L>>) -> Result<Site<L>, AllocError> {
-        let (end, ends) = unbounded(alloc)?;
+        let (end, ends) = bounded(alloc, ENDS)?;
         Ok(Site {
             house: Arc::new(alloc, house)?,
             addresses: None,
@@ -255,7 +260,7 @@ where
         let Some(seat) = self.site.spare.pop() else {
             return Err(ServeFault::NoMemory);
         };
-        Chair::new(self.alloc, &self.site.house, seat).map_err(no_memory)
+        Chair::new(&self.site.house, seat).map_err(no_memory)
     }
 
     /// Begins a thread, and keeps its handle.

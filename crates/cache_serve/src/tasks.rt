@@ -181,9 +181,10 @@ where
         alloc,
         teller: Teller::new(rt, alloc, chair, None),
         has_given_up: false,
+        end,
     };
     let ran = run_fetches(rt, jobs, &mut results, limits);
-    let _ = end.send(&rt, ());
+    let _ = results.end.send(&rt, ());
     let is_well = ran.is_ok() && !results.has_given_up;
     Ending {
         seat: Some(results.teller.into_seat()),

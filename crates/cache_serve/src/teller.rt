@@ -1,7 +1,7 @@
 //! A thread's seat at the node.
-use crate::house::House;
+use crate::house::{Attempt, House};
 use crossbeam_channel::Sender;
-use filter_slots::{End, Judged, Moment, Slots, Socket};
+use filter_slots::{Datagram, End, Judged, Moment, Slots, Socket};
 use mio_queries::Bell;
 use node_book::{Clerk, Programs, Seat, SubmitFault};
 use node_core::{Action, Event, Mode, NoMemory, Out, Outcome};
@@ -26,33 +26,19 @@ pub struct Post {
     pub bell: Bell,
 }
 
-/// An attempt of a fetch.
-#[derive(Clone, Copy)]
-struct Attempt {
-    fetch: u32,
-    attempt: u16,
-}
-
 /// A seat that waits for its thread.
 #[derive(Drop)]
 pub struct Chair<L: Ledger> {
     house: Arc<House<L>>,
     seat: Seat<L>,
-    // Room for as many as a node has.
-    failed: Vec<Attempt>,
 }
 
 impl<L: Ledger> Chair<L> {
-    /// A seat of a house. An error says that there is no memory.
-    pub fn new(
-        alloc: Global,
-        house: &Arc<House<L>>,
-        seat: Seat<L>,
-    ) -> Result<Chair<L>, AllocError> {
+    /// A seat of a house. An error says that there are too many owners.
+    pub fn new(house: &Arc<House<L>>, seat: Seat<L>) -> Result<Chair<L>, AllocError> {
         Ok(Chair {
             house: Arc::try_clone(house)?,
             seat,
-            failed: Vec::with_capacity(alloc, MOST_FETCHES)?,
         })
     }
 
@@ -72,31 +58,21 @@ pub struct Teller<R, L: Ledger> {
     seat: Seat<L>,
     // None while its actions are carried out.
     out: Option<Out>,
-    // Fetches that could not be begun, and are still to be told as failed.
-    failed: Vec<Attempt>,
     // The way to the thread that sends; none where datagrams are sent by the thread itself.
     post: Option<Post>,
     programs: Programs,
 }
 
-// The most pending fetches of a node.
-const MOST_FETCHES: usize = 256;
-
 impl<R: Wait + Clock + Drop, L: Ledger> Teller<R, L> {
     /// The seat of the thread that calls.
     pub fn new(rt: R, alloc: Global, chair: Chair<L>, post: Option<Post>) -> Teller<R, L> {
-        let Chair {
-            house,
-            seat,
-            failed,
-        } = chair;
+        let Chair { house, seat } = chair;
         Teller {
             rt,
             alloc,
             house,
             seat,
             out: None,
-            failed,
             post,
             programs: Programs::new(),
         }
@@ -120,28 +96,24 @@ impl<R: Wait + Clock + Drop, L: Ledger> Teller<R, L> {
         Ok(count)
     }
 
-    /// Tells the node of fetches that could not be begun. What can't be told now is told with the next event.
+    /// Tells the node of fetches that could not be begun, whichever thread was to begin them. What can't be told now is told later:
+    /// with the next event of any thread, and the thread with the query sockets has one ten times a second.
     pub fn tell_failures(&mut self) {
         for _ in 0..u64::MAX {
-            let Some(Attempt { fetch, attempt }) = self.failed.pop() else {
+            let Some(failed) = self.house.next_failure(&self.rt) else {
                 return;
             };
             let event = Event::Fetched {
-                fetch,
-                attempt,
+                fetch: failed.fetch,
+                attempt: failed.attempt,
                 result: Outcome::Failed,
                 now: crate::clock::now(&self.rt),
             };
             if self.hand_in(event).is_err() {
-                self.remember(fetch, attempt);
+                self.house.remember(&self.rt, failed);
                 return;
             }
         }
-    }
-
-    // A fetch that could not be begun. There is room for as many as a node has.
-    fn remember(&mut self, fetch: u32, attempt: u16) {
-        let _ = self.failed.push(Attempt { fetch, attempt });
     }
 
     fn hand_in(&mut self, event: Event) -> Result<usize, SubmitFault> {
@@ -175,11 +147,19 @@ impl<R: Wait + Clock + Drop, L: Ledger> Teller<R, L> {
             self.post(*socket, *to, payload.as_slice());
             return;
         }
-        if self.house.pass(&self.rt, self.alloc, action).is_ok() {
-            return;
-        }
-        if let Action::Fetch { fetch, attempt, .. } = action {
-            self.remember(*fetch, *attempt);
+        self.begin_or_remember(action);
+    }
+
+    // Carries out what sends no datagram.
+    fn begin_or_remember(&self, action: &Action) {
+        if self.house.pass(&self.rt, self.alloc, action).is_err()
+            && let Action::Fetch { fetch, attempt, .. } = action
+        {
+            let failed = Attempt {
+                fetch: *fetch,
+                attempt: *attempt,
+            };
+            self.house.remember(&self.rt, failed);
         }
     }
 
@@ -236,15 +216,12 @@ impl<R: Wait + Clock + Drop, L: Ledger> Clerk for Teller<R, L> {
         self.programs.read(&self.rt, &self.house.desk)
     }
 
-    fn pass(&mut self, alloc: Global, action: &Action) -> Result<(), NoMemory> {
-        if self.house.pass(&self.rt, alloc, action).is_err()
-            && let Action::Fetch { fetch, attempt, .. } = action
-        {
-            let _ = self.failed.push(Attempt {
-                fetch: *fetch,
-                attempt: *attempt,
-            });
-        }
+    fn judge(&mut self, datagram: Arc<Datagram>) -> Result<Judged, NoMemory> {
+        self.programs.judge(&self.rt, &self.house.desk, datagram)
+    }
+
+    fn pass(&mut self, _alloc: Global, action: &Action) -> Result<(), NoMemory> {
+        self.begin_or_remember(action);
         Ok(())
     }
 

@@ -1,8 +1,8 @@
 //! What clients and administrators are answered.
 use crate::clients::{exchange, has, is_ended_after};
-use bpf_run::Socket;
 use client_streams::{Accept, Clients, Limits, Patient, Refusal, SharedStage};
 use crossbeam_channel::unbounded;
+use filter_slots::Slot;
 use futures::channel::oneshot;
 use hyper_cache::administration::{Panel, PutFault, serve_admin};
 use hyper_cache::serving::{Answer, Asking, Forward, Front, serve_clients};
@@ -298,7 +298,7 @@ fn clients_are_answered(rt: HostRuntime) -> Result<(), Fail> {
     Ok(())
 }
 
-// One filter for both sockets, whose text is what was put in.
+// One filter for both sockets and two neighbours, whose text is what was put in.
 #[derive(Drop)]
 struct Board {
     alloc: Global,
@@ -306,7 +306,14 @@ struct Board {
 }
 
 impl Panel for Board {
-    fn put(&mut self, socket: Socket, text: &[u8]) -> Result<(), PutFault> {
+    fn has(&mut self, slot: Slot) -> bool {
+        match slot {
+            Slot::Socket(_) => true,
+            Slot::Neighbour(n) => n < 2,
+        }
+    }
+
+    fn put(&mut self, slot: Slot, text: &[u8]) -> Result<(), PutFault> {
         let Ok(text) = text.to_vec(self.alloc) else {
             return Err(PutFault::NoMemory);
         };
@@ -317,12 +324,12 @@ impl Panel for Board {
         Ok(())
     }
 
-    fn clear(&mut self, socket: Socket) -> Result<(), AllocError> {
+    fn clear(&mut self, slot: Slot) -> Result<(), AllocError> {
         self.filter = None;
         Ok(())
     }
 
-    fn show(&mut self, socket: Socket) -> Result<Vec<u8>, AllocError> {
+    fn show(&mut self, slot: Slot) -> Result<Vec<u8>, AllocError> {
         match &self.filter {
             Some(text) => text.as_slice().to_vec(self.alloc),
             None => b"none\n".to_vec(self.alloc),
@@ -332,10 +339,14 @@ impl Panel for Board {
     fn stats(&mut self) -> Result<Vec<u8>, AllocError> {
         b"{}".to_vec(self.alloc)
     }
+
+    fn neighbours(&mut self) -> Result<Vec<u8>, AllocError> {
+        b"[]".to_vec(self.alloc)
+    }
 }
 
 // What is sent in turn, and what has to stand in what comes back.
-const ADMINISTRATION: [(&[u8], [&[u8]; 2]); 9] = [
+const ADMINISTRATION: [(&[u8], [&[u8]; 2]); 16] = [
     (
         b"PUT /filter/icp HTTP/1.1\r\nHost: o\r\nContent-Length: 6\r\n\r\nret #0",
         [b"HTTP/1.1 204 No Content", b""],
@@ -355,6 +366,34 @@ const ADMINISTRATION: [(&[u8], [&[u8]; 2]); 9] = [
     (
         b"GET http://o/filter/htcp HTTP/1.1\r\nHost: o\r\n\r\n",
         [b"HTTP/1.1 200 OK", b"\r\n\r\nnone\n"],
+    ),
+    (
+        b"PUT /filter/neighbour/1 HTTP/1.1\r\nHost: o\r\nContent-Length: 6\r\n\r\nret #8",
+        [b"HTTP/1.1 204 No Content", b""],
+    ),
+    (
+        b"GET /filter/neighbour/0 HTTP/1.1\r\nHost: o\r\n\r\n",
+        [b"HTTP/1.1 200 OK", b"\r\n\r\nret #8"],
+    ),
+    (
+        b"GET /filter/neighbour/2 HTTP/1.1\r\nHost: o\r\n\r\n",
+        [b"HTTP/1.1 404 Not Found", b"/filter/neighbour/2\n"],
+    ),
+    (
+        b"GET /filter/neighbour/01 HTTP/1.1\r\nHost: o\r\n\r\n",
+        [b"HTTP/1.1 404 Not Found", b""],
+    ),
+    (
+        b"GET /filter/neighbour/+1 HTTP/1.1\r\nHost: o\r\n\r\n",
+        [b"HTTP/1.1 404 Not Found", b""],
+    ),
+    (
+        b"GET /filter/neighbour/ HTTP/1.1\r\nHost: o\r\n\r\n",
+        [b"HTTP/1.1 404 Not Found", b""],
+    ),
+    (
+        b"GET /stats/neighbours HTTP/1.1\r\nHost: o\r\n\r\n",
+        [b"HTTP/1.1 200 OK", b"\r\n\r\n[]"],
     ),
     (
         b"GET /stats HTTP/1.1\r\nHost: o\r\n\r\n",

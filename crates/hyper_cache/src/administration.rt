@@ -2,8 +2,8 @@
 use crate::requests::{Answers, Asked, Given};
 use crate::server::{ServeLimits, serve};
 use crate::texts::text_of;
-use bpf_run::Socket;
 use crossbeam_channel::Sender;
+use filter_slots::{Slot, Socket};
 use futures::channel::oneshot;
 use futures::future::{Ready, ready};
 use std::alloc::{AllocError, AllocGlobal, Global};
@@ -25,17 +25,23 @@ pub enum PutFault {
 
 /// What is administered, in the thread that serves. Each error says that there is no memory.
 pub trait Panel: Drop {
-    /// Puts the filter of this text in at a socket.
-    fn put(&mut self, socket: Socket, text: &[u8]) -> Result<(), PutFault>;
+    /// Whether there is such a slot. The calls for one slot are made only where it is there.
+    fn has(&mut self, slot: Slot) -> bool;
 
-    /// Takes the filter of a socket out.
-    fn clear(&mut self, socket: Socket) -> Result<(), AllocError>;
+    /// Puts the filter of this text into a slot.
+    fn put(&mut self, slot: Slot, text: &[u8]) -> Result<(), PutFault>;
 
-    /// The text of a socket's filter.
-    fn show(&mut self, socket: Socket) -> Result<Vec<u8>, AllocError>;
+    /// Takes the filter out of a slot.
+    fn clear(&mut self, slot: Slot) -> Result<(), AllocError>;
+
+    /// The text of a slot's filter.
+    fn show(&mut self, slot: Slot) -> Result<Vec<u8>, AllocError>;
 
     /// The counters, as a JSON text.
     fn stats(&mut self) -> Result<Vec<u8>, AllocError>;
+
+    /// What is known of each neighbour, as a JSON text.
+    fn neighbours(&mut self) -> Result<Vec<u8>, AllocError>;
 }
 
 // What all connections share.
@@ -51,13 +57,28 @@ struct Administrators<P> {
     office: Rc<Office<P>>,
 }
 
-// The socket whose filter has this path.
-fn socket_of(path: &str) -> Option<Socket> {
+// The slot whose filter has this path.
+fn slot_of(path: &str) -> Option<Slot> {
     match path {
-        "/filter/icp" => Some(Socket::Icp),
-        "/filter/htcp" => Some(Socket::Htcp),
-        _ => None,
+        "/filter/icp" => Some(Slot::Socket(Socket::Icp)),
+        "/filter/htcp" => Some(Slot::Socket(Socket::Htcp)),
+        _ => {
+            let place = place_of(path.strip_prefix("/filter/neighbour/")?)?;
+            Some(Slot::Neighbour(place))
+        }
     }
+}
+
+// The number that a text spells in decimal digits, without zeros in front.
+fn place_of(text: &str) -> Option<usize> {
+    let digits = text.as_bytes();
+    if digits.len() > 1 && digits[0] == b'0' {
+        return None;
+    }
+    if !digits.iter().all(|digit| digit.is_ascii_digit()) {
+        return None;
+    }
+    text.parse().ok()
 }
 
 // The path and the query of a target, which may be a whole URL.
@@ -79,6 +100,14 @@ fn text(status: u16, text: Vec<u8>) -> Given {
     }
 }
 
+fn json(text: Vec<u8>) -> Given {
+    Given::Text {
+        status: 200,
+        text,
+        is_json: true,
+    }
+}
+
 impl<P: Panel> Administrators<P> {
     // What a request is answered with. An error says that there is no memory.
     fn answer(&self, asked: &Asked) -> Result<Given, AllocError> {
@@ -87,22 +116,20 @@ impl<P: Panel> Administrators<P> {
             return Err(AllocError);
         };
         let path = path_of(asked.target.as_str());
-        match (asked.method.as_str(), socket_of(path)) {
-            ("PUT", Some(socket)) => match panel.put(socket, asked.content.as_slice()) {
+        let slot = slot_of(path).filter(|slot| panel.has(*slot));
+        match (asked.method.as_str(), slot) {
+            ("PUT", Some(slot)) => match panel.put(slot, asked.content.as_slice()) {
                 Ok(()) => Ok(text(204, Vec::new(alloc))),
                 Err(PutFault::NoFilter(line)) => Ok(text(400, line)),
                 Err(PutFault::NoMemory) => Err(AllocError),
             },
-            ("DELETE", Some(socket)) => {
-                panel.clear(socket)?;
+            ("DELETE", Some(slot)) => {
+                panel.clear(slot)?;
                 Ok(text(204, Vec::new(alloc)))
             }
-            ("GET", Some(socket)) => Ok(text(200, panel.show(socket)?)),
-            ("GET", None) if path == "/stats" => Ok(Given::Text {
-                status: 200,
-                text: panel.stats()?,
-                is_json: true,
-            }),
+            ("GET", Some(slot)) => Ok(text(200, panel.show(slot)?)),
+            ("GET", None) if path == "/stats" => Ok(json(panel.stats()?)),
+            ("GET", None) if path == "/stats/neighbours" => Ok(json(panel.neighbours()?)),
             _ => Ok(text(404, text_of(alloc, 404, path.as_bytes())?)),
         }
     }
@@ -149,8 +176,8 @@ impl<P: Panel> Answers for Administrators<P> {
 /// `stop` is ready or its other end is dropped. `bound` is told the address once the socket is
 /// bound. An error is the socket's or the event loop's.
 ///
-/// PUT, GET and DELETE of `/filter/icp` and `/filter/htcp`, and GET of `/stats`; all else is 404. A
-/// content of more than `limits.content` octets is 413.
+/// PUT, GET and DELETE of `/filter/icp`, `/filter/htcp` and `/filter/neighbour/<n>` for each
+/// neighbour, and GET of `/stats` and `/stats/neighbours`; all else is 404. A content of more than `limits.content` octets is 413.
 pub fn serve_admin<R, P>(
     rt: R,
     port: u16,

@@ -9,9 +9,9 @@ use std::fmt;
 pub enum Fault {
     /// 1: it is not JSON. The line and the column, both from 1, at which the reader stood.
     Syntax { line: usize, column: usize },
-    /// 2: a key is missing, unknown or of the wrong kind. What, and where.
+    /// 2: a key that isn't there, that nobody knows, or whose value is of another kind. What, and where.
     Shape(String),
-    /// 3: a value is out of its form or range. What, and where.
+    /// 3: a value that is of the right kind, and not what may stand there. What, and where.
     Value(String),
     /// 4: a socket can't be bound. The key of its port.
     Socket { key: &'static str },

@@ -24,7 +24,7 @@ pub struct Settings {
     pub name: String,
     /// The most octets of a body that is fetched, 1 to 1,073,741,824.
     pub body_limit: u32,
-    /// The most events that the book keeps at a time, 1 to 1,048,576.
+    /// Room of the book, in events: 1 to 1,048,576.
     pub volume: u32,
     /// After how many answers to clients the program ends; 0 for never.
     pub stop_after: u64,
