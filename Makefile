@@ -1,7 +1,7 @@
 # On a machine that has the Rattle toolchain (`rt`), python3 and make:
 #   make feed    runs the example script: by the proved program where it is built, otherwise unproved, and says which
 #   make serve   runs the proxy on examples/serve.json, proved or unproved likewise
-#   make group   runs three proxies that ask one another (it needs the built program)
+#   make group   runs three proxies that ask one another, by the built program; without it, it says what to do
 #   make build   proves and builds the program, with every crate that it stands on
 #   make test    proves every crate from nothing, tries the must-fail edits, runs all tests, script cases and documents
 #   make edits   tries every must-fail edit there is, also those of more-edits/
@@ -10,13 +10,14 @@
 #   make load    a mixed load for eleven minutes (it needs wrk, curl and a C compiler)
 #   make bench   measures (it needs valgrind; wrk, nginx and squid where they are)
 #   make sweep   refuses each request for memory of each script case once; `make test` does a part of them
+#   make storm   100,000,000 events by chance for two nodes, which have to do the same; `make test` does 300,000
 
 PROGRAM = crates/cache_main/out/cache_main
 SCRIPT ?= examples/first_path.script
 
 CONFIG ?= examples/serve.json
 
-.PHONY: serve group feed build test cases documents loopback hostile slow interop load edits bench sweep
+.PHONY: serve group feed build test cases documents loopback hostile slow interop load edits bench sweep storm
 
 feed:
 	@tools/feed $(SCRIPT)
@@ -24,7 +25,7 @@ feed:
 serve:
 	@tools/serve $(CONFIG)
 
-group: build
+group:
 	@tools/group $(PROGRAM)
 
 build:
@@ -62,6 +63,8 @@ hostile:
 sweep:
 	@tools/sweep $(PROGRAM) cases
 
+storm:
+	@tools/storm crates/storm/out/storm 100000000
 
 edits:
 	@tools/edits
@@ -69,4 +72,6 @@ edits:
 bench: build
 	@bench/feed_ir $(PROGRAM)
 	@bench/node_ir $(PROGRAM)
+	@cd crates/book_bench && rt run -- step miss 1 0 > /dev/null
+	@bench/book_cost crates/book_bench/out/book_bench
 	@bench/proxy_side_by_side $(PROGRAM)

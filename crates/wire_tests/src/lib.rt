@@ -4,7 +4,11 @@
 #[cfg(test)]
 mod desks;
 #[cfg(test)]
+mod failing;
+#[cfg(test)]
 mod fixtures;
+#[cfg(test)]
+mod limited;
 #[cfg(test)]
 mod passing;
 #[cfg(test)]

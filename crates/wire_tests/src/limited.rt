@@ -1,0 +1,187 @@
+//! A clerk that refuses: what was done before stands.
+ghost use Rattle.std.specs.Prelude.{◌≡◌, ◌≤◌, ◌+◌, ◌∷◌, [], IfOk, IfSome, OnOk, OnErr, IsErrOf};
+ghost use Rattle.std.specs.Option.{option_map};
+ghost use Rattle.std.specs.Arc.{arc_value};
+ghost use Rattle.pending_fetch.specs.Fetches.{fetch_of};
+ghost use Rattle.node_core.specs.Happening.{arrives, happening};
+ghost use Rattle.node_book.specs.Told.{Told, Submits, passing};
+
+use crate::fixtures::{ALONE, Step, WAITS, ask, at, has_replied, lone, pumped, wire_of};
+use filter_slots::{Judged, Moment, Slots};
+use mio_queries::{NoMemory, PumpFault};
+use node_book::{Clerk, Lone, SubmitFault};
+use node_core::{Action, Event, Out};
+use object_store::CacheKey;
+use std::alloc::Global;
+use std::sync::Arc;
+use std::test::Fail;
+
+/// A clerk over another, to which so many events more can be submitted and so many actions more can be passed.
+#[derive(Drop)]
+struct Limited<C> {
+    clerk: C,
+    events: u32,
+    passes: u32,
+    // What the event is refused with that is one too many.
+    fault: SubmitFault,
+}
+
+/// Takes one of those that are left. Whether there was one.
+fn takes_one(left: &mut u32) -> bool {
+    match left.checked_sub(1) {
+        Some(fewer) => {
+            *left = fewer;
+            true
+        }
+        None => false,
+    }
+}
+
+impl<C: Clerk> Clerk for Limited<C> {
+    ghost use Rattle.std.specs.Prelude.{None};
+
+    ghost told = { λ l. None };
+
+    ghost taken = { λ l. C.taken l.clerk };
+
+    fn submit(
+        &mut self,
+        alloc: Global,
+        event: Arc<Event>,
+        out: &mut Out,
+    ) -> Result<u64, SubmitFault> {
+        if !takes_one(&mut self.events) {
+            return Err(self.fault);
+        }
+        self.clerk.submit(alloc, event, out)
+    }
+
+    fn submit_judged(
+        &mut self,
+        alloc: Global,
+        judged: &Judged,
+        now: Moment,
+        out: &mut Out,
+    ) -> Result<u64, SubmitFault> {
+        if !takes_one(&mut self.events) {
+            return Err(self.fault);
+        }
+        self.clerk.submit_judged(alloc, judged, now, out)
+    }
+
+    fn programs(&mut self) -> Result<Slots, NoMemory> {
+        self.clerk.programs()
+    }
+
+    fn pass(&mut self, alloc: Global, action: &Action) -> Result<(), NoMemory> {
+        if !takes_one(&mut self.passes) {
+            return Err(NoMemory);
+        }
+        self.clerk.pass(alloc, action)
+    }
+
+    fn key_of(&mut self, alloc: Global, fetch: u32) -> Result<Option<CacheKey>, NoMemory> {
+        self.clerk.key_of(alloc, fetch)
+    }
+}
+
+/// After how many events a clerk refuses, and what pumping over five queries then gives. To those before replies were sent.
+struct Row {
+    events: u32,
+    fault: SubmitFault,
+    gives: PumpFault,
+    replied: &'static [usize],
+}
+
+const ROWS: [Row; 5] = [
+    Row {
+        events: 0,
+        fault: SubmitFault::Ended,
+        gives: PumpFault::Ended,
+        replied: &[],
+    },
+    Row {
+        events: 3,
+        fault: SubmitFault::Ended,
+        gives: PumpFault::Ended,
+        replied: &[0, 1, 2],
+    },
+    Row {
+        events: 0,
+        fault: SubmitFault::NoMemory,
+        gives: PumpFault::NoMemory,
+        replied: &[],
+    },
+    Row {
+        events: 3,
+        fault: SubmitFault::NoMemory,
+        gives: PumpFault::NoMemory,
+        replied: &[0, 1, 2],
+    },
+    Row {
+        events: 4,
+        fault: SubmitFault::NoMemory,
+        gives: PumpFault::NoMemory,
+        replied: &[0, 1, 2, 3],
+    },
+];
+
+const FIVE: &[Step] = &[
+    Step::Query(0),
+    Step::Query(1),
+    Step::Query(2),
+    Step::Query(3),
+    Step::Query(4),
+];
+
+/// Whether pumping gives what a row says, one query more was received than replies were sent, and these were.
+fn holds(alloc: Global, row: &Row) -> Result<bool, Fail> {
+    let mut wire = wire_of(alloc, FIVE, &[])?;
+    let mut clerk = Limited {
+        clerk: lone(alloc, ALONE)?,
+        events: row.events,
+        passes: 0,
+        fault: row.fault,
+    };
+    let gives = pumped(alloc, &mut wire, &mut clerk, 5);
+    let one_more = wire.taken().checked_sub(1) == Some(row.replied.len());
+    Ok(gives.err() == Some(row.gives) && one_more && has_replied(&wire, row.replied))
+}
+
+#[test]
+fn a_clerk_takes_no_more(rt: HostRuntime) -> Result<(), Fail> {
+    for row in &ROWS {
+        assert!(rt; holds(rt.alloc(), row)?);
+    }
+    Ok(())
+}
+
+/// A node by itself with a silent parent, at which two clients wait.
+fn waiting(alloc: Global) -> Result<Lone, Fail> {
+    let mut clerk = lone(alloc, WAITS)?;
+    ask(alloc, &mut clerk, 1, b"http://a/", at(1_000)?)?;
+    ask(alloc, &mut clerk, 2, b"http://b/", at(1_000)?)?;
+    Ok(clerk)
+}
+
+/// What an idle turn gives in which two fetches are to be passed, and how many of them the clerk was passed.
+fn passes(alloc: Global, passes: u32) -> Result<(Option<PumpFault>, usize), Fail> {
+    let mut clerk = Limited {
+        clerk: waiting(alloc)?,
+        events: 2,
+        passes,
+        fault: SubmitFault::Ended,
+    };
+    let mut wire = wire_of(alloc, &[Step::Idle(3_000), Step::Query(0)], &[])?;
+    let gives = pumped(alloc, &mut wire, &mut clerk, 2);
+    Ok((gives.err(), clerk.clerk.passed().len()))
+}
+
+#[test]
+fn a_clerk_has_no_room(rt: HostRuntime) -> Result<(), Fail> {
+    let alloc = rt.alloc();
+    assert_eq!(rt; passes(alloc, 0)?, (Some(PumpFault::NoMemory), 0));
+    assert_eq!(rt; passes(alloc, 1)?, (Some(PumpFault::NoMemory), 1));
+    assert_eq!(rt; passes(alloc, 2)?, (None, 2));
+    Ok(())
+}

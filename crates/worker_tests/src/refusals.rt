@@ -1,0 +1,365 @@
+//! What a worker does where its clerk refuses.
+use crate::nodes::{Echo, fault_of, job_of, node_below, parents, request};
+use crate::refusing::{Handed, Left, Refusing};
+use crossbeam_channel::unbounded;
+use fetch_worker::{Job, WorkFault};
+use filter_slots::Moment;
+use node_book::{Clerk, Gate, Lone};
+use node_core::{Action, Answer, Event, Mode, Out};
+use std::alloc::Global;
+use std::sync::{Arc, Wait};
+use std::test::Fail;
+use std::time::Clock;
+
+/// Lets everything through.
+#[derive(Drop)]
+struct Open {}
+
+impl Gate for Open {
+    fn hold(&self, _fetch: u32) -> bool {
+        true
+    }
+}
+
+/// What is refused, and what then comes of two clients that wait for one key at a node with two parents.
+struct Row {
+    left: Left,
+    /// The results that are handed in.
+    results: &'static [Handed],
+    fetched: u32,
+    got: u32,
+    failed: u32,
+    fault: Option<WorkFault>,
+}
+
+const GOT_FIRST: Handed = Handed {
+    fetch: 1,
+    attempt: 0,
+    is_object: true,
+};
+
+const FAILED_FIRST: Handed = Handed {
+    fetch: 1,
+    attempt: 0,
+    is_object: false,
+};
+
+const GOT_SECOND: Handed = Handed {
+    fetch: 1,
+    attempt: 1,
+    is_object: true,
+};
+
+const FAILED_SECOND: Handed = Handed {
+    fetch: 1,
+    attempt: 1,
+    is_object: false,
+};
+
+const ROWS: [Row; 6] = [
+    // Nothing is refused.
+    Row {
+        left: Left {
+            objects: 0,
+            failures: 0,
+            keys: 0,
+            passes: 0,
+        },
+        results: &[GOT_FIRST],
+        fetched: 1,
+        got: 2,
+        failed: 0,
+        fault: None,
+    },
+    // The first object is refused: the same attempt has failed, and the clients get the next source's answer.
+    Row {
+        left: Left {
+            objects: 1,
+            failures: 3,
+            keys: 0,
+            passes: 0,
+        },
+        results: &[
+            GOT_FIRST,
+            FAILED_FIRST,
+            FAILED_FIRST,
+            FAILED_FIRST,
+            FAILED_FIRST,
+            GOT_SECOND,
+        ],
+        fetched: 2,
+        got: 2,
+        failed: 0,
+        fault: None,
+    },
+    // Every object is refused: no source is left.
+    Row {
+        left: Left {
+            objects: 9,
+            failures: 0,
+            keys: 0,
+            passes: 0,
+        },
+        results: &[GOT_FIRST, FAILED_FIRST, GOT_SECOND, FAILED_SECOND],
+        fetched: 2,
+        got: 0,
+        failed: 2,
+        fault: None,
+    },
+    // The key is refused: nothing is fetched at the first attempt.
+    Row {
+        left: Left {
+            objects: 0,
+            failures: 0,
+            keys: 1,
+            passes: 0,
+        },
+        results: &[FAILED_FIRST, GOT_SECOND],
+        fetched: 1,
+        got: 2,
+        failed: 0,
+        fault: None,
+    },
+    // The key is refused each time.
+    Row {
+        left: Left {
+            objects: 0,
+            failures: 0,
+            keys: 2,
+            passes: 0,
+        },
+        results: &[FAILED_FIRST, FAILED_SECOND],
+        fetched: 0,
+        got: 0,
+        failed: 2,
+        fault: None,
+    },
+    // An answer is not passed on.
+    Row {
+        left: Left {
+            objects: 0,
+            failures: 0,
+            keys: 0,
+            passes: 1,
+        },
+        results: &[GOT_FIRST],
+        fetched: 1,
+        got: 0,
+        failed: 0,
+        fault: Some(WorkFault::NoMemory),
+    },
+];
+
+/// Has a clerk take an event. The actions that this comes to.
+fn taken<C: Clerk>(alloc: Global, clerk: &mut C, event: Event) -> Option<Out> {
+    let mut out = Out::new(alloc).ok()?;
+    let event = Arc::new(alloc, event).ok()?;
+    clerk.submit(alloc, event, &mut out).ok()?;
+    Some(out)
+}
+
+/// Has a clerk take that two clients ask for one key, and then a moment at which their round is over. What is to be done then.
+fn decided<C: Clerk>(alloc: Global, clerk: &mut C) -> Option<Out> {
+    taken(
+        alloc,
+        clerk,
+        request(alloc, 1, b"http://a/", Mode::Shared, 1_000)?,
+    )?;
+    taken(
+        alloc,
+        clerk,
+        request(alloc, 2, b"http://a/", Mode::Shared, 1_000)?,
+    )?;
+    let now = Moment::new(3_000)?;
+    taken(alloc, clerk, Event::Timer { now })
+}
+
+/// Passes all actions on.
+fn pass_all<C: Clerk>(alloc: Global, clerk: &mut C, actions: &[Action]) -> Option<()> {
+    for action in actions {
+        clerk.pass(alloc, action).ok()?;
+    }
+    Some(())
+}
+
+/// A node with two parents by itself, at which two clients wait for the first attempt of a fetch.
+fn waiting(alloc: Global) -> Option<Lone> {
+    let mut clerk = Lone::new(alloc, node_below(alloc, parents(alloc)?)?);
+    let out = decided(alloc, &mut clerk)?;
+    pass_all(alloc, &mut clerk, out.actions())?;
+    Some(clerk)
+}
+
+/// The job of the last action that was passed on, if that is a Fetch.
+fn next_job(alloc: Global, clerk: &Refusing<Lone>) -> Option<Job> {
+    job_of(alloc, clerk.clerk.passed().last()?)
+}
+
+/// A worker takes one job. Why it ended early, if it did.
+fn answered<R: Wait + Clock>(
+    rt: &R,
+    alloc: Global,
+    echo: &mut Echo,
+    clerk: &mut Refusing<Lone>,
+    job: Job,
+) -> Option<Option<WorkFault>> {
+    let (to, jobs) = unbounded(alloc).ok()?;
+    to.send(rt, job).ok()?;
+    drop(to);
+    Some(fault_of(rt, alloc, &jobs, echo, &Open {}, clerk))
+}
+
+/// A worker takes one job after another, until no Fetch is passed on, ten at most.
+fn worked<R: Wait + Clock>(
+    rt: &R,
+    alloc: Global,
+    echo: &mut Echo,
+    clerk: &mut Refusing<Lone>,
+) -> Option<Option<WorkFault>> {
+    for _ in 0..10 {
+        let Some(job) = next_job(alloc, clerk) else {
+            return Some(None);
+        };
+        let fault = answered(rt, alloc, echo, clerk, job)?;
+        if fault.is_some() {
+            return Some(fault);
+        }
+    }
+    None
+}
+
+/// How many of the actions give a client an object.
+fn got(actions: &[Action]) -> u32 {
+    let mut count = 0u32;
+    for action in actions {
+        if let Action::Serve {
+            answer: Answer::Got(_),
+            ..
+        } = action
+        {
+            count = count.saturating_add(1);
+        }
+    }
+    count
+}
+
+/// How many of the actions give a client another answer.
+fn failed(actions: &[Action]) -> u32 {
+    let mut count = 0u32;
+    for action in actions {
+        if is_other(action) {
+            count = count.saturating_add(1);
+        }
+    }
+    count
+}
+
+/// Whether an action gives a client no object of its fetch.
+fn is_other(action: &Action) -> bool {
+    match action {
+        Action::Serve { answer, .. } => !matches!(answer, Answer::Got(_)),
+        _ => false,
+    }
+}
+
+/// Whether these results were handed in, in this order.
+fn are(results: &[Handed], wanted: &[Handed]) -> bool {
+    let mut pairs = results.iter().zip(wanted);
+    results.len() == wanted.len()
+        && pairs.all(|(one, other)| {
+            one.fetch == other.fetch
+                && one.attempt == other.attempt
+                && one.is_object == other.is_object
+        })
+}
+
+/// Whether a row's results, fetches and answers came about.
+fn has_come(clerk: &Refusing<Lone>, fetched: u32, row: &Row) -> bool {
+    let passed = clerk.clerk.passed();
+    are(clerk.results.as_slice(), row.results)
+        && fetched == row.fetched
+        && got(passed) == row.got
+        && failed(passed) == row.failed
+}
+
+/// Whether what a row says, comes about.
+fn holds<R: Wait + Clock>(rt: &R, alloc: Global, row: &Row) -> Option<bool> {
+    let mut clerk = Refusing::new(alloc, waiting(alloc)?, row.left);
+    let mut echo = Echo { alloc, fetched: 0 };
+    let fault = worked(rt, alloc, &mut echo, &mut clerk)?;
+    Some(fault == row.fault && has_come(&clerk, echo.fetched, row))
+}
+
+#[test]
+fn the_same_attempt_fails_where_a_result_is_refused(rt: HostRuntime) {
+    for row in &ROWS {
+        assert!(rt; holds(&rt, rt.alloc(), row) == Some(true));
+    }
+}
+
+/// How many results were handed in, and how many failures are left to be refused, where 2,000 failures are.
+fn refused_often<R: Wait + Clock>(
+    rt: &R,
+    alloc: Global,
+) -> Option<(Option<WorkFault>, usize, u32)> {
+    let left = Left {
+        objects: 1,
+        failures: 2_000,
+        keys: 0,
+        passes: 0,
+    };
+    let mut clerk = Refusing::new(alloc, waiting(alloc)?, left);
+    let mut echo = Echo { alloc, fetched: 0 };
+    let fault = worked(rt, alloc, &mut echo, &mut clerk)?;
+    Some((fault, clerk.results.len(), clerk.left.failures))
+}
+
+/// The object and a thousand failures were handed in, and refused.
+#[test]
+fn a_worker_gives_up_after_a_thousand_refusals(rt: HostRuntime) -> Result<(), Fail> {
+    let told = refused_often(&rt, rt.alloc());
+    let (fault, results, failures) = told.ok_or("a worker")?;
+    assert_eq!(rt; fault, Some(WorkFault::NoMemory));
+    assert_eq!(rt; results, 1_001);
+    assert_eq!(rt; failures, 1_000);
+    Ok(())
+}
+
+/// The same job of another fetch.
+fn of_fetch(job: Job, other: u32) -> Job {
+    let Job { mut action, fields } = job;
+    if let Action::Fetch { fetch, .. } = &mut action {
+        *fetch = other;
+    }
+    Job { action, fields }
+}
+
+/// What is handed in for a fetch that is not pending, and how often was fetched.
+fn unknown<R: Wait + Clock>(rt: &R, alloc: Global) -> Option<(bool, u32)> {
+    let left = Left {
+        objects: 0,
+        failures: 0,
+        keys: 0,
+        passes: 0,
+    };
+    let mut clerk = Refusing::new(alloc, waiting(alloc)?, left);
+    let mut echo = Echo { alloc, fetched: 0 };
+    let job = of_fetch(next_job(alloc, &clerk)?, 7);
+    if answered(rt, alloc, &mut echo, &mut clerk, job)?.is_some() {
+        return None;
+    }
+    let wanted = Handed {
+        fetch: 7,
+        attempt: 0,
+        is_object: false,
+    };
+    Some((are(clerk.results.as_slice(), &[wanted]), echo.fetched))
+}
+
+#[test]
+fn a_fetch_that_is_not_pending_has_failed(rt: HostRuntime) -> Result<(), Fail> {
+    let (has_failed, fetched) = unknown(&rt, rt.alloc()).ok_or("a worker")?;
+    assert!(rt; has_failed);
+    assert_eq!(rt; fetched, 0);
+    Ok(())
+}
