@@ -100,6 +100,7 @@ alone_push (x ∷ list) f h k =
     or_right : (u v : Bool) → (u || v) ≡ false → v ≡ false
     or_right true v h = absurd cc
     or_right false v h = h
+
     none_more : is_shared x ≡ true → list_any (shares x.key) (list ++ f ∷ []) ≡ false
     none_more s =
         elim (shares x.key f) as (λ v. shares x.key f ≡ v → list_any (shares x.key) (list ++ f ∷ []) ≡ false) [
