@@ -72,6 +72,4 @@ edits:
 bench: build
 	@bench/feed_ir $(PROGRAM)
 	@bench/node_ir $(PROGRAM)
-	@cd crates/book_bench && rt run -- step miss 1 0 > /dev/null
-	@bench/book_cost crates/book_bench/out/book_bench
 	@bench/proxy_side_by_side $(PROGRAM)
