@@ -13,14 +13,16 @@ use bpf_check::Checked;
 pub struct Verdict {
     /// What the filter ended with.
     pub value: u32,
-    /// The executed instructions, the ending one included.
+    /// How many instructions it took, with the one that ended it.
     pub steps: u16,
 }
 
-/// Runs an accepted program on a packet. It ends within as many steps as it has instructions.
+/// Runs an accepted program on a packet. It takes at most one step for each of its instructions.
 ///
 /// A load of which an octet is outside the packet, and a division or remainder by an index
 /// register of 0, end the run with the value 0.
+// Were it inlined, it would share the registers with its caller, and each instruction would cost more.
+#[inline(never)]
 pub fn judge(program: &Checked, packet: &Packet<'_>) -> Verdict
     ensures gives { Gives program.now packet.now result.value result.steps }
     ensures within { result.steps ≤ length program.now }

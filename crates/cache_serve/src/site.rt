@@ -28,7 +28,7 @@ use std::sync::ledger::{Blank, Ledger};
 use std::sync::{Arc, Mutex, Wait};
 use std::thread;
 use std::thread::{JoinHandle, Threads};
-use std::time::Clock;
+use std::time::{Clock, Duration};
 
 /// The threads that have a seat: one for queries, one for clients, one for administration, and the fetch threads.
 pub const SEATS: u64 = 7;
@@ -88,38 +88,9 @@ where
     requires seven { blank.parts ≡ 7 }
 {
     let alloc = rt.alloc();
-    let peers = peers_of(alloc, &settings.node).map_err(no_memory)?;
     let allowed = networks_of(alloc, &settings.node).map_err(no_memory)?;
-    let Settings {
-        address,
-        http_port,
-        admin_port,
-        name,
-        body_limit,
-        volume,
-        stop_after,
-        node: config,
-    } = settings;
-    let openings = Openings {
-        icp: config.icp,
-        htcp: config.htcp,
-        clients: SocketAddr::V4(SocketAddrV4::new(Ipv4Addr::from_octets(address), http_port)),
-        admin_port,
-        body_limit: body_limit as usize,
-        stop_after,
-        limits,
-    };
-    let node = Node::new(alloc, config).map_err(ServeFault::Node)?;
-    let (desk, seats) = desk_of(alloc, blank, node, volume as usize)?;
-    let house = House {
-        desk,
-        mailbox: Mutex::new(Mailbox::new(alloc)),
-        lanes: Mutex::new(None),
-        failed: no_failures(alloc).map_err(no_memory)?,
-        name,
-        peers,
-        fetching: limits.fetching,
-    };
+    let openings = openings_of(&settings, limits);
+    let (house, seats) = house_of(alloc, blank, settings, limits.fetching)?;
     let mut opening = Opening {
         rt,
         alloc,
@@ -135,6 +106,52 @@ where
             Err(fault)
         }
     }
+}
+
+/// What the threads are opened with, by the settings.
+fn openings_of(settings: &Settings, limits: Limits) -> Openings {
+    let address = Ipv4Addr::from_octets(settings.address);
+    Openings {
+        icp: settings.node.icp,
+        htcp: settings.node.htcp,
+        clients: SocketAddr::V4(SocketAddrV4::new(address, settings.http_port)),
+        admin_port: settings.admin_port,
+        body_limit: settings.body_limit as usize,
+        stop_after: settings.stop_after,
+        limits,
+    }
+}
+
+/// A house with a node that has taken nothing, and the seven seats at its desk.
+fn house_of<L: Ledger>(
+    alloc: Global,
+    blank: Blank,
+    settings: Settings,
+    fetching: Duration,
+) -> Result<(House<L>, Vec<Seat<L>>), ServeFault>
+    requires name { blank.name ≡ L.name }
+    requires parts { blank.parts ≡ L.parts }
+    requires seven { blank.parts ≡ 7 }
+{
+    let peers = peers_of(alloc, &settings.node).map_err(no_memory)?;
+    let Settings {
+        name,
+        volume,
+        node: config,
+        ..
+    } = settings;
+    let node = Node::new(alloc, config).map_err(ServeFault::Node)?;
+    let (desk, seats) = desk_of(alloc, blank, node, volume as usize)?;
+    let house = House {
+        desk,
+        mailbox: Mutex::new(Mailbox::new(alloc)),
+        lanes: Mutex::new(None),
+        failed: no_failures(alloc).map_err(no_memory)?,
+        name,
+        peers,
+        fetching,
+    };
+    Ok((house, seats))
 }
 
 /// A desk of seven seats over the book of a node.

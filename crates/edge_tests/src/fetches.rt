@@ -80,15 +80,55 @@ const CASES: [(&str, Option<(u16, &[u8])>); 14] = [
     ("/drip", None),
 ];
 
-/// All at the same time on one thread, with one that nobody wants and one that finds no server.
+// Where no server listens: a port that was bound, and is closed again.
+fn nowhere(rt: &HostRuntime) -> io::Result<SocketAddr> {
+    TcpListener::bind(rt, "127.0.0.1:0")?.local_addr()
+}
+
+// Asks for the target of every case, for one that nobody wants, and for two that find no server. All others stay wanted.
+fn ask_all(
+    rt: &HostRuntime,
+    alloc: Global,
+    jobs: UnboundedSender<Job>,
+    server: SocketAddr,
+) -> Result<Vec<oneshot::Sender<()>>, Fail> {
+    let mut keeps = Vec::new(alloc);
+    let mut fetch = 0u32;
+    for (target, _) in CASES {
+        keeps.push(ask(rt, alloc, &jobs, Some(server), fetch, target)?)?;
+        fetch = fetch.saturating_add(1);
+    }
+    let unwanted = ask(rt, alloc, &jobs, Some(server), 100, "/never")?;
+    keeps.push(ask(rt, alloc, &jobs, Some(nowhere(rt)?), 101, "/good")?)?;
+    keeps.push(ask(rt, alloc, &jobs, None, 102, "/good")?)?;
+    drop(jobs);
+    thread::sleep(rt, Duration::from_millis(300));
+    drop(unwanted);
+    Ok(keeps)
+}
+
+// The status and the body of a fetch, if it is no failure.
+fn page_of(done: &Fetched) -> Option<(u16, &[u8])> {
+    match &done.page {
+        Some(page) => Some((page.status, page.body.as_slice())),
+        None => None,
+    }
+}
+
+// What is wanted of a fetch: that of its case, and of any other that it fails.
+fn wanted_of(fetch: u32) -> Option<(u16, &'static [u8])> {
+    match CASES.get(fetch as usize) {
+        Some((_, wanted)) => *wanted,
+        None => None,
+    }
+}
+
+/// All at the same time on one thread, with one that nobody wants and two that find no server.
 #[test]
 fn each_by_itself(rt: HostRuntime) -> Result<(), Fail> {
     let alloc = rt.alloc();
     let listener = TcpListener::bind(&rt, "127.0.0.1:0")?;
     let server = listener.local_addr()?;
-    let closed = TcpListener::bind(&rt, "127.0.0.1:0")?;
-    let nowhere = closed.local_addr()?;
-    drop(closed);
     let (jobs, work) = unbounded(alloc)?;
     let origin = thread::spawn(
         &rt,
@@ -107,33 +147,16 @@ fn each_by_itself(rt: HostRuntime) -> Result<(), Fail> {
         run_fetches(rt, work, &mut seat, limits)?;
         Ok(Some(seat))
     })?;
-    let mut keeps = Vec::new(alloc);
-    let mut fetch = 0u32;
-    for (target, _) in CASES {
-        keeps.push(ask(&rt, alloc, &jobs, Some(server), fetch, target)?)?;
-        fetch = fetch.saturating_add(1);
-    }
-    let unwanted = ask(&rt, alloc, &jobs, Some(server), 100, "/never")?;
-    keeps.push(ask(&rt, alloc, &jobs, Some(nowhere), 101, "/good")?)?;
-    keeps.push(ask(&rt, alloc, &jobs, None, 102, "/good")?)?;
-    drop(jobs);
-    thread::sleep(&rt, Duration::from_millis(300));
-    drop(unwanted);
+    let keeps = ask_all(&rt, alloc, jobs, server)?;
     let Some(seat) = fetches.join(&rt)? else {
         panic!(rt; "no seat");
     };
+    drop(keeps);
     assert_eq!(rt; seat.all.len(), CASES.len() + 3);
     for done in &seat.all {
-        let wanted = match CASES.get(done.fetch as usize) {
-            Some((_, wanted)) => *wanted,
-            None => None,
-        };
-        let got = match &done.page {
-            Some(page) => Some((page.status, page.body.as_slice())),
-            None => None,
-        };
+        let got = page_of(done);
         eprintln!(rt; "{} {}", done.fetch, got.is_some())?;
-        assert_eq!(rt; got, wanted);
+        assert_eq!(rt; got, wanted_of(done.fetch));
     }
     let _ = origin.join(&rt);
     Ok(())

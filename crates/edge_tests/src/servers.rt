@@ -237,6 +237,59 @@ const CASES: [(&[u8], [&[u8]; 5], &[u8]); 12] = [
     ),
 ];
 
+// Shows what is wrong with an answer.
+fn show(
+    rt: &HostRuntime,
+    alloc: Global,
+    what: &'static str,
+    part: &[u8],
+    got: &[u8],
+) -> Result<(), Fail> {
+    eprintln!(rt; "{} {}", what, String::from_utf8_lossy(alloc, part)?)?;
+    eprintln!(rt; "in {}", String::from_utf8_lossy(alloc, got)?)?;
+    Err(io::Error::other(what).into())
+}
+
+// An error where a part that is wanted isn't in an answer, or the one that is not wanted is.
+fn compare(
+    rt: &HostRuntime,
+    alloc: Global,
+    got: &[u8],
+    wanted: &[&[u8]],
+    unwanted: &[u8],
+) -> Result<(), Fail> {
+    for part in wanted {
+        if !has(got, part) {
+            return show(rt, alloc, "missing", part, got);
+        }
+    }
+    if has(got, unwanted) {
+        return show(rt, alloc, "too much", unwanted, got);
+    }
+    Ok(())
+}
+
+// Whether a body of 200,000 octets comes whole.
+fn comes_whole<R: Net>(rt: &R, alloc: Global, server: SocketAddr) -> io::Result<bool> {
+    let big = b"GET http://o/big HTTP/1.1\r\nHost: o\r\n\r\n";
+    let got = exchange(rt, alloc, server, big)?;
+    Ok(200_000 < got.len() && got.len() < 201_000)
+}
+
+// Whether every client is sent away that goes silent, be it before, in or after its head.
+fn silent_ones_are_ended<R: Net>(rt: &R, server: SocketAddr) -> io::Result<bool> {
+    for still in [
+        b"".as_slice(),
+        b"GET http://o/a HT",
+        b"GET http://o/a HTTP/1.1\r\nHost: o\r\nContent-Length: 9\r\n\r\n",
+    ] {
+        if !is_ended_after(rt, server, still)? {
+            return Ok(false);
+        }
+    }
+    Ok(true)
+}
+
 #[test]
 fn clients_are_answered(rt: HostRuntime) -> Result<(), Fail> {
     let alloc = rt.alloc();
@@ -260,40 +313,15 @@ fn clients_are_answered(rt: HostRuntime) -> Result<(), Fail> {
     let server_address = told.recv(&rt)?;
     for (sent, wanted, unwanted) in CASES {
         let got = exchange(&rt, alloc, server_address, sent)?;
-        for part in wanted {
-            if !has(got.as_slice(), part) {
-                eprintln!(rt; "missing {}", String::from_utf8_lossy(alloc, part)?)?;
-                eprintln!(rt; "in {}", String::from_utf8_lossy(alloc, got.as_slice())?)?;
-                panic!(rt; "missing");
-            }
-        }
-        if has(got.as_slice(), unwanted) {
-            eprintln!(rt;
-                "too much {}",
-                String::from_utf8_lossy(alloc, got.as_slice())?
-            )?;
-            panic!(rt; "too much");
-        }
+        compare(&rt, alloc, got.as_slice(), wanted.as_slice(), unwanted)?;
     }
     thread::sleep(&rt, Duration::from_millis(200));
     assert_eq!(rt; left.load(Ordering::SeqCst), 9);
-    let big = b"GET http://o/big HTTP/1.1\r\nHost: o\r\n\r\n";
-    let got = exchange(&rt, alloc, server_address, big)?;
-    assert!(rt; 200_000 < got.len() && got.len() < 201_000);
-    for still in [
-        b"".as_slice(),
-        b"GET http://o/a HT",
-        b"GET http://o/a HTTP/1.1\r\nHost: o\r\nContent-Length: 9\r\n\r\n",
-    ] {
-        assert!(rt; is_ended_after(&rt, server_address, still)?);
-    }
-    let last = exchange(
-        &rt,
-        alloc,
-        server_address,
-        b"GET http://o/a HTTP/1.1\r\nHost: o\r\n\r\n",
-    )?;
-    assert!(rt; has(last.as_slice(), b"\r\n\r\nhi"));
+    assert!(rt; comes_whole(&rt, alloc, server_address)?);
+    assert!(rt; silent_ones_are_ended(&rt, server_address)?);
+    let last = b"GET http://o/a HTTP/1.1\r\nHost: o\r\n\r\n";
+    let got = exchange(&rt, alloc, server_address, last)?;
+    assert!(rt; has(got.as_slice(), b"\r\n\r\nhi"));
     server.join(&rt)?;
     Ok(())
 }

@@ -265,3 +265,11 @@ walk-fewer bs n bucket (Some m) is = let lt = is.0 in omega arith
 
 pub walk-smaller : (bs : List ℕ) (n bucket : ℕ) (link next : Option ℕ) → link ≡ Some n → IsLast bs n bucket next → places_left next < places_left link
 walk-smaller bs n bucket link next f is = rw f (walk-fewer bs n bucket next is)
+
+-- where the table has no place for a bucket, no pair is in it
+pub empty-bucket : (senders : List Sender) (last : List (Option ℕ)) (pair : Socket × End) (link : Option ℕ) → AreChained senders last
+    → bucket_of pair.1 < 256 → get_or last (bucket_of pair.1) None ≡ link → link ≡ None
+    → (m : ℕ) → slice_get (map pair_of senders) m ≡ Some pair → ⊥
+empty-bucket senders last pair link chained within there none m at =
+    walk-end senders (length senders) pair (get_or last (bucket_of pair.1) None) (there ∙ none) (chained.lasts (bucket_of pair.1) within)
+    (λ k is. let below = slice_get_within (map pair_of senders) k pair is in rw (length-map' pair_of senders) at below) m at

@@ -124,9 +124,34 @@ impl Senders {
         self.all.len()
     }
 
-    /// The place of a pair.
+    /// The place of a pair. Most ends that no pair has fall into an empty bucket, and are told apart
+    /// by that alone.
     #[inline(always)]
     pub(crate) fn find(&self, socket: Socket, end: End) -> Option<usize>
+        ensures there { IfSome result (λ n. slice_get self.now n ≡ Some (socket, end)) }
+        ensures absent { IsNone result → (n : ℕ) → slice_get self.now n ≡ Some (socket, end) → ⊥ }
+    {
+        if self.has_none(end) {
+            return None;
+        }
+        self.follow(socket, end)
+    }
+
+    /// Whether no pair is in the bucket of an end.
+    #[inline(always)]
+    fn has_none(&self, end: End) -> bool
+        ensures { IsTrue result → (socket : Socket) (n : ℕ) → slice_get self.now n ≡ Some (socket, end) → ⊥ }
+    {
+        let link = self.last[bucket(end)];
+        match link {
+            None => true,
+            Some(_) => false,
+        }
+    }
+
+    /// The place of a pair, found by the places of its bucket.
+    #[inline(never)]
+    fn follow(&self, socket: Socket, end: End) -> Option<usize>
         ensures there { IfSome result (λ n. slice_get self.now n ≡ Some (socket, end)) }
         ensures absent { IsNone result → (n : ℕ) → slice_get self.now n ≡ Some (socket, end) → ⊥ }
     {

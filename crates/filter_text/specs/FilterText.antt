@@ -29,7 +29,7 @@ abbrev pub is_digit_at : List ℕ → Option ℕ → Bool
 is_digit_at text None = false
 is_digit_at text (Some place) = is_digit (slice_get text place)
 
--- a text is a listing where its first octet other than space, tab, CR and LF is a digit; otherwise it is assembler text
+-- behind spaces, tabs, CR and LF a listing begins with a digit; any other text is assembler text
 abbrev pub is_listing : List ℕ → Bool
 is_listing text = is_digit_at text (position is_text text)
 

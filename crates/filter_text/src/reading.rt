@@ -8,8 +8,8 @@ use bpf_asm::assemble;
 use bpf_check::{Checked, Insn, check, read_listing};
 use std::alloc::Global;
 
-/// The program that a text stands for: a listing, as `tcpdump -ddd` prints it, where the first octet other than space, tab, CR
-/// and LF is a digit, otherwise assembler text.
+/// The program that a text stands for: a listing, as `tcpdump -ddd` prints it, where a digit comes first behind any spaces,
+/// tabs, CR and LF, otherwise assembler text.
 ///
 /// Errors: the listing's or the assembler's fault, else the checker's, each the first of the text.
 pub fn read_program(alloc: Global, text: &[u8]) -> Result<Checked, ProgramFault>

@@ -8,9 +8,7 @@ use std::sync::Wait;
 use std::thread;
 use std::time::{Clock, Duration};
 
-// How often a job is sent again, where there was no memory, and after how many milliseconds each.
-const MOST_TRIES: u32 = 300;
-
+// After how many milliseconds a job is sent again, where there was no memory for it.
 const MILLIS_BETWEEN: u64 = 100;
 
 /// An order for a server whose name is to be looked up.
@@ -75,11 +73,11 @@ pub fn look_up<R: Wait + Net + Clock>(
     }
 }
 
-// Sends a job, and for half a minute again where there is no memory. A job for a thread that has
-// ended is dropped.
+// Sends a job, and sends it again for as long as there is no memory for it, so that no fetch is
+// forgotten. A job for a thread that has ended is dropped.
 fn send_job<R: Clock>(rt: &R, lane: &UnboundedSender<Job>, job: Job) {
     let mut job = job;
-    for _ in 0..MOST_TRIES {
+    for _ in 0..u32::MAX {
         match lane.unbounded_send(job) {
             Ok(()) => return,
             Err(refused) if refused.is_disconnected() => return,

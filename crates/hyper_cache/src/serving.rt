@@ -300,9 +300,9 @@ fn is_token_octet(octet: u8) -> bool {
 /// is told the address once the socket is bound. An error is the socket's or the event loop's.
 ///
 /// Only GET is served. A client that may not come in is answered 403 before its head is read, one
-/// that is still for too long is closed, and one that goes away before its answer is told to the
-/// front. Answers carry Cache-Status, those from the store their Age, errors a line of text with
-/// what is wrong and a line with the URL.
+/// that is still for too long is closed, and of one that leaves while it waits the front is told.
+/// Answers carry Cache-Status, those from the store their Age, errors a line of text with what is
+/// wrong and a line with the URL.
 pub fn serve_clients<R, F>(
     rt: R,
     address: SocketAddr,

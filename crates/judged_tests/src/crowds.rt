@@ -13,17 +13,47 @@ use std::sync::ledger::{Blank, Ledger};
 use std::thread;
 use std::thread::Threads;
 
-/// So many threads submit so many datagrams each, while one swaps so often.
+/// So many threads submit datagrams, while one swaps.
 const SUBMITTERS: u64 = 3;
 
-const DATAGRAMS: u32 = 10_000;
+/// How many datagrams each of them submits, how many swaps are made, and how many events the book keeps at a time.
+#[derive(Clone, Copy)]
+struct Crowd {
+    datagrams: u32,
+    swaps: u32,
+    volume: usize,
+    wanted: Report,
+}
 
-const SWAPS: u32 = 2_000;
+const CROWDS: [Crowd; 2] = [
+    // More than the seats keep receipts of: the latest 1,024 each.
+    Crowd {
+        datagrams: 10_000,
+        swaps: 2_000,
+        volume: 100_000,
+        wanted: Report {
+            count: 32_000,
+            base: 0,
+            matched: 4_096,
+        },
+    },
+    // Fifteen turns.
+    Crowd {
+        datagrams: 1_000,
+        swaps: 1_000,
+        volume: 256,
+        wanted: Report {
+            count: 4_000,
+            base: 3_840,
+            matched: 160,
+        },
+    },
+];
 
 /// Swaps filters so often, by turns to one that rejects everything and to none: the one of the socket and that of who asks.
-fn swap_often<C: Clerk>(alloc: Global, clerk: &mut C) -> Option<()> {
+fn swap_often<C: Clerk>(alloc: Global, clerk: &mut C, swaps: u32) -> Option<()> {
     let mut out = Out::new(alloc).ok()?;
-    for i in 0..SWAPS {
+    for i in 0..swaps {
         out.clear();
         let k = if i % 2 == 0 { Some(0) } else { None };
         let slot = SLOTS[(i / 2 % 2) as usize];
@@ -33,10 +63,10 @@ fn swap_often<C: Clerk>(alloc: Global, clerk: &mut C) -> Option<()> {
 }
 
 /// Judges the query by the clerk's programs and submits it, so often. How many datagrams were to be sent for it.
-fn ask_often<C: Clerk>(alloc: Global, clerk: &mut C) -> Option<u64> {
+fn ask_often<C: Clerk>(alloc: Global, clerk: &mut C, datagrams: u32) -> Option<u64> {
     let mut out = Out::new(alloc).ok()?;
     let mut sent = 0u64;
-    for i in 0..DATAGRAMS {
+    for i in 0..datagrams {
         out.clear();
         let judged = clerk.judge(query(alloc)?).ok()?;
         clerk
@@ -53,14 +83,15 @@ fn work<L: Ledger, R: Wait>(
     alloc: Global,
     desk: &Desk<L>,
     seat: Seat<L>,
+    crowd: Crowd,
 ) -> Option<(u64, Seat<L>)> {
     let place = seat.place();
     let mut clerk = Seated::new(alloc, rt, desk, seat);
     let sent = if place == 0 {
-        swap_often(alloc, &mut clerk)?;
+        swap_often(alloc, &mut clerk, crowd.swaps)?;
         0
     } else {
-        ask_often(alloc, &mut clerk)?
+        ask_often(alloc, &mut clerk, crowd.datagrams)?
     };
     Some((sent, clerk.into_seat()))
 }
@@ -71,8 +102,9 @@ fn worked<L: Ledger + Send + Sync, R: Threads + Wait + Sync>(
     alloc: Global,
     desk: &Desk<L>,
     seats: Vec<Seat<L>>,
+    crowd: Crowd,
 ) -> Option<(u64, Vec<Seat<L>>)> {
-    let done = thread::map_vec(rt, seats, &|seat| work(rt, alloc, desk, seat)).ok()?;
+    let done = thread::map_vec(rt, seats, &|seat| work(rt, alloc, desk, seat, crowd)).ok()?;
     let mut back = Vec::new(alloc);
     let mut sent = 0u64;
     for one in done {
@@ -88,34 +120,32 @@ fn told<L: Ledger + Send + Sync, R: Threads + Wait + Sync>(
     rt: &R,
     alloc: Global,
     blank: Blank,
+    crowd: Crowd,
 ) -> Option<(u64, Counters, u64, Report)>
     requires name { blank.name ≡ L.name }
     requires parts { blank.parts ≡ L.parts }
     requires one_each { blank.parts ≡ 4 }
 {
-    let (desk, seats) = desk_of::<L>(alloc, blank, 100_000, 4)?;
-    let (sent, seats) = worked(rt, alloc, &desk, seats)?;
+    let (desk, seats) = desk_of::<L>(alloc, blank, crowd.volume, 4)?;
+    let (sent, seats) = worked(rt, alloc, &desk, seats, crowd)?;
     let (icp, swaps) = (desk.stats(rt).icp, desk.swaps());
     Some((sent, icp, swaps, desk.settle(seats).ok()?))
 }
 
-/// The seats keep the latest 1,024 receipts each.
-const REPORT: Report = Report {
-    count: 32_000,
-    base: 0,
-    matched: 4_096,
-};
-
 /// Whether each datagram was judged, and either rejected or answered.
-fn adds_up((sent, icp, swaps, report): (u64, Counters, u64, Report)) -> bool {
-    let asked = SUBMITTERS * DATAGRAMS as u64;
+fn adds_up(crowd: Crowd, told: (u64, Counters, u64, Report)) -> bool {
+    let (sent, icp, swaps, report) = told;
+    let asked = SUBMITTERS * crowd.datagrams as u64;
     let is_whole = icp.cut == 0 && icp.malformed == 0;
     let is_split = icp.rejected.checked_add(sent) == Some(asked);
-    report == REPORT && swaps == SWAPS as u64 && icp.judged == asked && is_whole && is_split
+    let are_swapped = swaps == crowd.swaps as u64;
+    report == crowd.wanted && are_swapped && icp.judged == asked && is_whole && is_split
 }
 
 #[test]
 fn counters_add_up_while_filters_are_swapped(rt: HostRuntime) {
-    let told = told::<Brand, _>(&rt, rt.alloc(), Blank::new(4));
-    assert!(rt; told.is_some_and(adds_up));
+    for crowd in CROWDS {
+        let told = told::<Brand, _>(&rt, rt.alloc(), Blank::new(4), crowd);
+        assert!(rt; told.is_some_and(|told| adds_up(crowd, told)));
+    }
 }

@@ -22,74 +22,64 @@ struct Row {
     gives: Pumped,
 }
 
+/// What three turns give where the query is not answered.
+const UNANSWERED: Pumped = Pumped {
+    received: 1,
+    idle: 2,
+    sent: 0,
+    failed: 0,
+};
+
+/// The same where its answer is sent.
+const SENT: Pumped = Pumped {
+    sent: 1,
+    ..UNANSWERED
+};
+
+/// The same where its answer fails to be sent.
+const FAILED: Pumped = Pumped {
+    failed: 1,
+    ..UNANSWERED
+};
+
 const ROWS: [Row; 6] = [
     Row {
         filter: None,
         turns: 3,
         fails: false,
-        gives: Pumped {
-            received: 1,
-            idle: 2,
-            sent: 1,
-            failed: 0,
-        },
+        gives: SENT,
     },
     Row {
         filter: None,
         turns: 3,
         fails: true,
-        gives: Pumped {
-            received: 1,
-            idle: 2,
-            sent: 0,
-            failed: 1,
-        },
+        gives: FAILED,
     },
     Row {
         filter: None,
         turns: 1,
         fails: false,
-        gives: Pumped {
-            received: 1,
-            idle: 0,
-            sent: 1,
-            failed: 0,
-        },
+        gives: Pumped { idle: 0, ..SENT },
     },
     Row {
         filter: Some(65_535),
         turns: 3,
         fails: false,
-        gives: Pumped {
-            received: 1,
-            idle: 2,
-            sent: 1,
-            failed: 0,
-        },
+        gives: SENT,
     },
     // Rejected.
     Row {
         filter: Some(0),
         turns: 3,
         fails: false,
-        gives: Pumped {
-            received: 1,
-            idle: 2,
-            sent: 0,
-            failed: 0,
-        },
+        gives: UNANSWERED,
     },
     // Cut to 12 octets, which is no message.
     Row {
         filter: Some(40),
         turns: 3,
         fails: true,
-        gives: Pumped {
-            received: 1,
-            idle: 2,
-            sent: 0,
-            failed: 0,
-        },
+        gives: UNANSWERED,
     },
 ];
 

@@ -17,8 +17,9 @@ use std::alloc::Global;
 use std::sync::Arc;
 
 /// Makes so many turns. Each receives once, judges the datagram by the clerk's programs and has the clerk take it, or a tick
-/// where none came, and carries out the actions in order: a Send by the wire, any other by the clerk. A failed send is counted and not tried again. Errors: the
-/// wire failed to receive; there was no memory; the clerk can take no more events. What was done before stands.
+/// where none came. Then come the actions, one after the other: a Send goes to the wire, any other to the clerk. A send that
+/// fails is only counted. Errors: the wire failed to receive; there was no memory; the clerk can take no more events. What was
+/// done before stands.
 pub fn pump<W: Wire, C: Clerk>(
     alloc: Global,
     wire: &mut W,

@@ -43,9 +43,9 @@ smoothed (Some s) ms = (s - s / 8) + min ms 65535
 abbrev pub sampled : Mark → ℕ → Mark
 sampled mark ms = record mark { time = Some (smoothed mark.time ms) }
 
--- after a reply
-abbrev pub replied : Mark → Mark
-replied mark = record mark { misses = 0 }
+-- after a reply: no misses
+abbrev pub without_misses : Mark → Mark
+without_misses mark = record mark { misses = 0 }
 
 -- after one miss more, staying at 20
 abbrev pub missed : Mark → Mark

@@ -4,7 +4,7 @@ ghost use Rattle.std.specs.Prelude.{◌≡◌, ◌==◌, ◌<◌, ◌≤◌, ◌
 ghost use Rattle.std.specs.Str.{bytes_eq};
 ghost use Rattle.neighbours.specs.declared.key.Key.{Key};
 ghost use Rattle.neighbours.specs.Rank.{before};
-ghost use Rattle.neighbours.specs.Rows.{mark_at, weight_at, is_up, blank, smoothed, sampled, replied, missed, with_mark, same_end, same_protocol, opening, IsMark, place_of, secret_of};
+ghost use Rattle.neighbours.specs.Rows.{mark_at, weight_at, is_up, blank, smoothed, sampled, without_misses, missed, with_mark, same_end, same_protocol, opening, IsMark, place_of, secret_of};
 ghost use Rattle.neighbours.specs.Faults.{fault_of, IsTable};
 
 use crate::checking::{fault_in, is_same_end};
@@ -150,7 +150,7 @@ impl Table {
     /// It replied: it has no misses.
     pub fn replied(&mut self, n: usize)
         requires { n < length self.old.neighbours }
-        ensures { self.new ≡ with_mark self.old n (replied (mark_at self.old.marks n)) }
+        ensures { self.new ≡ with_mark self.old n (without_misses (mark_at self.old.marks n)) }
     {
         let mark = Mark {
             misses: 0,

@@ -19,7 +19,7 @@ pub record Stands (b : Book) (receipt : Claim) : Type 0 where
   pub there : slice_get b.entries (receipt.number - b.base) ≡ Some (receipt.event, receipt.tally)
 
 -- a receipt is good: it stands, no other kept receipt has its number, and its number is above those of its seat's earlier receipts
-pub record IsGood (b : Book) (seats : List Held) (earlier : List Claim) (receipt : Claim) : Type 0 where
+pub record IsGoodReceipt (b : Book) (seats : List Held) (earlier : List Claim) (receipt : Claim) : Type 0 where
   pub stands : Stands b receipt
   pub alone : numbered receipt.number seats ≡ 1
   pub rising : list_all (λ before. nat_lt before.number receipt.number) earlier ≡ true
@@ -30,20 +30,20 @@ pub record IsMisfitAt (b : Book) (seats : List Held) (receipts : List Claim) (j 
   pub is : slice_get receipts j ≡ Some receipt
   pub number_is : receipt.number ≡ n
   pub from_base : b.base ≤ n
-  pub bad : IsGood b seats (take j receipts) receipt → ⊥
+  pub bad : IsGoodReceipt b seats (take j receipts) receipt → ⊥
 
 -- a receipt of the i-th seat
 abbrev pub IsMisfitOf : Book → List Held → ℕ → ℕ → Type 0
 IsMisfitOf b seats i n = (seat : Held) × (slice_get seats i ≡ Some seat) × ((j : ℕ) × IsMisfitAt b seats seat.receipts j n)
 
--- the number, at least the base, of a kept receipt that is not good
+-- under this number, from the base on, a kept receipt isn't good
 abbrev pub IsMisfit : Book → List Held → ℕ → Type 0
 IsMisfit b seats n = (i : ℕ) × IsMisfitOf b seats i n
 
 -- the receipt at a place of a seat's list is good, where it is of the present volume
 abbrev pub IsGoodAt : Book → List Held → List Claim → ℕ → Type 0
 IsGoodAt b seats receipts j =
-    (receipt : Claim) → slice_get receipts j ≡ Some receipt → b.base ≤ receipt.number → IsGood b seats (take j receipts) receipt
+    (receipt : Claim) → slice_get receipts j ≡ Some receipt → b.base ≤ receipt.number → IsGoodReceipt b seats (take j receipts) receipt
 
 -- each kept receipt with a number from the base on is good
 abbrev pub AreAllGood : Book → List Held → Type 0

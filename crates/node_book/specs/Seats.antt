@@ -28,9 +28,9 @@ abbrev pub credited : Held → Claim → Held
 credited seat receipt = record seat { share = seat.share + 1; receipts = latest (seat.receipts ++ receipt ∷ []) }
 
 -- the seats as they are opened, numbered from 0, each with no share and no receipt
-abbrev pub opened : ℕ → List Held
-opened zero = []
-opened (suc n) = opened n ++ record { place = n; share = 0; receipts = [] } ∷ []
+abbrev pub opened_seats : ℕ → List Held
+opened_seats zero = []
+opened_seats (suc n) = opened_seats n ++ record { place = n; share = 0; receipts = [] } ∷ []
 
 -- these are the seats 0 to n - 1, each once
 pub record AreAllOpened (n : ℕ) (seats : List Held) : Type 0 where

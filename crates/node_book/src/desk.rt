@@ -4,7 +4,7 @@ ghost use Rattle.std.specs.Arc.{arc_value};
 ghost use Rattle.node_core.specs.Happening.{arrives, happening};
 ghost use Rattle.plain_node.specs.Tally.{tally_of};
 ghost use Rattle.node_book.specs.Book.{IsLegal, count_of};
-ghost use Rattle.node_book.specs.Seats.{latest, claim, opened};
+ghost use Rattle.node_book.specs.Seats.{latest, claim, opened_seats};
 ghost use Rattle.node_book.specs.Settled.{Settles};
 
 use crate::NoMemory;
@@ -34,7 +34,7 @@ pub enum OpenFault {
     NoMemory,
 }
 
-/// A book behind a lock. Whenever the lock is free the book is legal, and its count is the total of all seats' shares. Contracts
+/// A book behind a lock. Whenever the lock is free the book is legal, and the seats' shares add up to its count. Contracts
 /// see how many seats were opened.
 #[derive(Drop)]
 pub struct Desk<L: Ledger> {
@@ -68,7 +68,7 @@ impl<L: Ledger> Desk<L> {
         requires one_each { (0 < seats) × (seats ≤ 64) → blank.parts ≡ seats }
         ensures refused { IsErrOf result OpenFault.Seats ↔ ((0 < seats) × (seats ≤ 64) → ⊥) }
         ensures desk { IfOk result (λ r. r.0 ≡ seats) }
-        ensures seats { IfOk result (λ r. r.1.items ≡ opened seats) }
+        ensures seats { IfOk result (λ r. r.1.items ≡ opened_seats seats) }
     {
         if seats == 0 || seats > 64 {
             return Err(OpenFault::Seats);
@@ -181,8 +181,8 @@ impl<L: Ledger> Desk<L> {
         ledgered
     }
 
-    /// Closes the desk, compares the receipts of the seats with the book, and joins their shares. Errors: not exactly the seats that
-    /// were opened, else the least number from the base on of a kept receipt that is not good.
+    /// Closes the desk, compares the receipts of the seats with the book, and joins their shares. Errors: other seats
+    /// than those that were opened, else the lowest number, from the base on, under which a kept receipt isn't good.
     pub fn settle(self, seats: Vec<Seat<L>>) -> Result<Report, SettleFault>
         ensures shares { IfOk result (λ r. r.count ≡ sum_by (λ s. s.share) seats.items) }
         ensures book { (b : _) × IsLegal b × Settles self seats.items b result }

@@ -101,7 +101,7 @@ impl<L: Ledger> Ledgered<L> {
         }
     }
 
-    /// The book is legal, and its count is the total of all shares.
+    /// The book is legal, and all shares add up to its count.
     pub fn agrees(&self)
         ensures legal { IsLegal self.now.book }
         ensures counted { count_of self.now.book ≡ self.now.total }
@@ -194,8 +194,8 @@ impl<L: Ledger> Ledgered<L> {
         Ok(number)
     }
 
-    /// Compares the receipts of the seats with the book, and joins their shares. Errors: not exactly the seats that were
-    /// opened, else the least number from the base on of a kept receipt that is not good.
+    /// Compares the receipts of the seats with the book, and joins their shares. Errors: other seats than those
+    /// that were opened, else the lowest number, from the base on, under which a kept receipt isn't good.
     pub fn settle(self, seats: Vec<Seat<L>>) -> Result<Report, SettleFault>
         ensures seats { IsErrOf result SettleFault.Seats ↔ (AreAllOpened self.seats seats.items → ⊥) }
         ensures misfit { (n : ℕ) → IsErrOf result (SettleFault.Misfit n) ↔ (AreAllOpened self.seats seats.items × IsLeastOf (IsMisfit self.book seats.items) (Some n)) }

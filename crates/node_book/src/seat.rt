@@ -1,7 +1,7 @@
 //! Seats: who submits events to a desk, and what is kept of it.
 ghost use Rattle.std.specs.Prelude.{◌≡◌, ◌<◌, ◌≤◌, ◌+◌, ◌==◌, length, take, Some, slice_get, count_by, nat_le, nat_lt, OnOk, IfOk};
 ghost use Rattle.std.specs.List.{list_all};
-ghost use Rattle.node_book.specs.Seats.{credited, opened};
+ghost use Rattle.node_book.specs.Seats.{credited, opened_seats};
 ghost use Rattle.node_book.specs.Claims.{claim_of};
 
 use crate::NoMemory;
@@ -143,7 +143,7 @@ pub(crate) fn seats_of<L: Ledger>(
 ) -> Result<Vec<Seat<L>>, NoMemory>
     requires { (spare.old.parts ≡ count) × (spare.old.amount ≡ 0) }
     ensures none { OnOk result (spare.new.parts ≡ 0) }
-    ensures seats { IfOk result (λ seats. seats.items ≡ opened count) }
+    ensures seats { IfOk result (λ seats. seats.items ≡ opened_seats count) }
 {
     let mut seats = Vec::new(alloc);
     for place in 0..count {

@@ -1,7 +1,7 @@
 //! The comparison of the receipts with the book.
 ghost use Rattle.std.specs.Prelude.{◌≡◌, ◌<◌, ◌≤◌, ◌+◌, ◌==◌, ℕ, IsTrue, ◌↔◌, length, take, sum_by, count_by, slice_get, Some};
 ghost use Rattle.node_book.specs.Seats.{AreAllOpened};
-ghost use Rattle.node_book.specs.Good.{AreAllGood, IsGood, IsGoodAt, IsMisfitAt, IsMisfit, IsLeastOf, lesser_of, numbered, kept_from};
+ghost use Rattle.node_book.specs.Good.{AreAllGood, IsGoodReceipt, IsGoodAt, IsMisfitAt, IsMisfit, IsLeastOf, lesser_of, numbered, kept_from};
 
 use crate::booked::Booked;
 use crate::seat::Seat;
@@ -11,7 +11,7 @@ use thiserror::Error;
 /// Why a desk was not settled.
 #[derive(Clone, Copy, Debug, PartialEq, Eq, Error)]
 pub enum SettleFault {
-    /// Not exactly the seats that were opened.
+    /// Other seats than those that were opened.
     #[error("not the seats that were opened")]
     Seats,
     /// A receipt is not good: the least number of such a one, from the base on.
@@ -110,13 +110,13 @@ fn misfit_at<L: Ledger>(booked: &Booked, seats: &[Seat<L>], seat: &Seat<L>, j: u
 fn is_good<L: Ledger>(booked: &Booked, seats: &[Seat<L>], seat: &Seat<L>, j: usize) -> bool
     requires few { length seats.now ≤ 64 }
     requires at { j < length seat.now.receipts }
-    ensures { (r : _) → slice_get seat.now.receipts j ≡ Some r → (IsTrue result ↔ IsGood booked.now seats.now (take j seat.now.receipts) r) }
+    ensures { (r : _) → slice_get seat.now.receipts j ≡ Some r → (IsTrue result ↔ IsGoodReceipt booked.now seats.now (take j seat.now.receipts) r) }
 {
     let receipt = seat.receipt(j);
     booked.has(receipt) && how_many(receipt.number, seats) == 1 && seat.rises_to(j, receipt.number)
 }
 
-/// The least number, from the base on, of a kept receipt that is not good.
+/// The lowest number, from the base on, under which a kept receipt isn't good.
 pub(crate) fn least_misfit<L: Ledger>(booked: &Booked, seats: &[Seat<L>]) -> Option<u64>
     requires { length seats.now ≤ 64 }
     ensures least { IsLeastOf (IsMisfit booked.now seats.now) result }

@@ -47,8 +47,8 @@ pub fn step_law()
         answers old.plain old.filters (event ∷ events) ≡ actions_at old event ∷ answers mid.plain mid.filters events }
 {}
 
-/// A datagram of verdict 0, put anywhere into a list of events, changes nothing later of the plain node, the filters and the
-/// actions: the events that are kept are the same, its own list of actions is empty, and all others are those of the events
+/// Wherever a datagram of verdict 0 stands in a list of events, the plain node, the filters and the actions are as if it did
+/// not: the events that are kept are the same, its own list of actions is empty, and all others are those of the events
 /// without it. Only counters change.
 pub fn rejected_law()
     ensures kept { (filters : Filters) (before after : List Happening) (datagram : DatagramFields) (now : ℕ) →

@@ -9,7 +9,8 @@ use crate::node::Node;
 use plain_node::Out;
 use std::alloc::Global;
 
-/// Memory, or the sharing of a program, was refused: the first `done` events were taken, and `outs` are their actions.
+/// The run stopped where memory, or the sharing of a program, was refused: the node has taken `done` events, and `outs`
+/// has the actions of each.
 #[derive(Drop)]
 pub struct RunFault {
     /// How many events were taken.

@@ -12,7 +12,7 @@ use Rattle.lru.specs.LruCache.{LruCache, lru_cache, last_entry, put_entries}
 use Rattle.lru.proofs.CallerLemmas.{Contains-lookup_entry}
 use Rattle.lru.proofs.Pairs.{lookup-lookup_entry}
 use Rattle.object_store.specs.declared.entry.Entry.{Entry}
-use Rattle.object_store.specs.Pairs.{Pair, octets_in, size_of, octets_of, entry_at, without}
+use Rattle.object_store.specs.Pairs.{Pair, octets_in, size_of, total_size, entry_at, without}
 
 -- keys that pass the test of a key are that key
 pub same_key : (a b : List ℕ) → bytes_eq a b ≡ true → a ≡ b
@@ -50,37 +50,37 @@ module _ (test : List ℕ → Bool) where
 pub without-removes : (key : List ℕ) (pairs : List Pair) → IsDistinct bytes_eq (keys_of pairs) → without key pairs ≡ remove_entry (bytes_eq key) pairs
 without-removes key pairs d = filter-removes (bytes_eq key) bytes_eq (nat_list_eq_equiv.congr key) pairs d
 
-pub octets-cons : (pair : Pair) (pairs : List Pair) → octets_of (pair ∷ pairs) ≡ size_of pair.0 pair.1 + octets_of pairs
+pub octets-cons : (pair : Pair) (pairs : List Pair) → total_size (pair ∷ pairs) ≡ size_of pair.0 pair.1 + total_size pairs
 octets-cons pair pairs = sum_by-cons (λ (p : Pair). size_of p.0 p.1) pair pairs
 
 -- what is removed leaves the octets of the others
 pub remove-octets : (key : List ℕ) (entry : Entry) (pairs : List Pair) → entry_at key pairs ≡ Some entry
-    → octets_of (remove_entry (bytes_eq key) pairs) + size_of key entry ≡ octets_of pairs
+    → total_size (remove_entry (bytes_eq key) pairs) + size_of key entry ≡ total_size pairs
 remove-octets key entry [] h = absurd cc
 remove-octets key entry (pair ∷ pairs) h =
     (elim (bytes_eq key pair.0) as (λ b. bytes_eq key pair.0 ≡ b → cond b (Some pair.1) (lookup (bytes_eq key) pairs) ≡ Some entry
-    → octets_of (cond b pairs (pair ∷ remove_entry (bytes_eq key) pairs)) + size_of key entry ≡ octets_of (pair ∷ pairs)) [
+    → total_size (cond b pairs (pair ∷ remove_entry (bytes_eq key) pairs)) + size_of key entry ≡ total_size (pair ∷ pairs)) [
       | true ↦ λ t g. let k : key ≡ pair.0 = same_key key pair.0 t in let e : entry ≡ pair.1 = cc in
           rw (k, e) (omega (arith, octets-cons pair pairs))
       | false ↦ λ t g. omega (arith, remove-octets key entry pairs g, octets-cons pair pairs, octets-cons pair (remove_entry (bytes_eq key) pairs))
     ]) refl h
 
 -- the last pair, and the octets of those before it
-pub last-none : (pairs : List Pair) (sum : ℕ) → last_entry pairs ≡ None → sum ≡ octets_of pairs → sum ≡ octets_of (take (length pairs - 1) pairs)
+pub last-none : (pairs : List Pair) (sum : ℕ) → last_entry pairs ≡ None → sum ≡ total_size pairs → sum ≡ total_size (take (length pairs - 1) pairs)
 last-none [] sum h e = e
 last-none (pair ∷ pairs) sum h e =
     let some = slice_get-get_or (pair ∷ pairs) (length (pair ∷ pairs) - 1) pair (omega arith) in absurd cc
 
 pub last-octets : (pairs : List Pair) (key : List ℕ) (entry : Entry) → last_entry pairs ≡ Some (key, entry)
-    → octets_of (take (length pairs - 1) pairs) + size_of key entry ≡ octets_of pairs
+    → total_size (take (length pairs - 1) pairs) + size_of key entry ≡ total_size pairs
 last-octets pairs key entry h =
     let before : length pairs - 1 < length pairs = slice_get_within pairs (length pairs - 1) (key, entry) h in
     let at : get_or pairs (length pairs - 1) (key, entry) ≡ (key, entry) = get_or_from_slice_get pairs (length pairs - 1) (key, entry) (key, entry) h in
     let whole : take (length pairs - 1 + 1) pairs ≡ pairs = take_all (length pairs - 1 + 1) pairs (omega arith) in
-    let more : octets_of (take (length pairs - 1 + 1) pairs) ≡ octets_of (take (length pairs - 1) pairs) + size_of (get_or pairs (length pairs - 1) (key, entry)).0 (get_or pairs (length pairs - 1) (key, entry)).1
+    let more : total_size (take (length pairs - 1 + 1) pairs) ≡ total_size (take (length pairs - 1) pairs) + size_of (get_or pairs (length pairs - 1) (key, entry)).0 (get_or pairs (length pairs - 1) (key, entry)).1
     = sum_by_more (λ (p : Pair). size_of p.0 p.1) pairs (length pairs - 1) (key, entry) before in
     let here : size_of (get_or pairs (length pairs - 1) (key, entry)).0 (get_or pairs (length pairs - 1) (key, entry)).1 ≡ size_of key entry = ap (λ (p : Pair). size_of p.0 p.1) at in
-    let all : octets_of (take (length pairs - 1 + 1) pairs) ≡ octets_of pairs = ap octets_of whole in
+    let all : total_size (take (length pairs - 1 + 1) pairs) ≡ total_size pairs = ap total_size whole in
     omega (arith, more, here, all)
 
 -- what a put into the cache leaves: the pair in front of the others
@@ -125,35 +125,35 @@ last_absent key entry front rest back pairs e g d =
 
 -- the octets after a put under a key that wasn't there, and under one that was
 pub put-new : (key : List ℕ) (entry : Entry) (pairs : List Pair) → IsDistinct bytes_eq (keys_of pairs) → entry_at key pairs ≡ None
-    → octets_of ((key, entry) ∷ without key pairs) ≡ octets_of pairs + size_of key entry
+    → total_size ((key, entry) ∷ without key pairs) ≡ total_size pairs + size_of key entry
 put-new key entry pairs d h =
-    let left : octets_of (without key pairs) ≡ octets_of pairs = ap octets_of (without-removes key pairs d ∙ remove-absent (bytes_eq key) pairs h) in
+    let left : total_size (without key pairs) ≡ total_size pairs = ap total_size (without-removes key pairs d ∙ remove-absent (bytes_eq key) pairs h) in
     omega (arith, left, octets-cons (key, entry) (without key pairs))
 
 pub put-old : (key : List ℕ) (entry old : Entry) (pairs : List Pair) → IsDistinct bytes_eq (keys_of pairs) → entry_at key pairs ≡ Some old
-    → octets_of ((key, entry) ∷ without key pairs) + size_of key old ≡ octets_of pairs + size_of key entry
+    → total_size ((key, entry) ∷ without key pairs) + size_of key old ≡ total_size pairs + size_of key entry
 put-old key entry old pairs d h =
-    let left : octets_of (without key pairs) ≡ octets_of (remove_entry (bytes_eq key) pairs) = ap octets_of (without-removes key pairs d) in
+    let left : total_size (without key pairs) ≡ total_size (remove_entry (bytes_eq key) pairs) = ap total_size (without-removes key pairs d) in
     omega (arith, left, remove-octets key old pairs h, octets-cons (key, entry) (without key pairs))
 
 -- the same with the numbers that the code has
 pub taken : (pairs : List Pair) (key : List ℕ) (entry : Entry) (n s sum : ℕ) → last_entry pairs ≡ Some (key, entry) → n ≡ length key
-    → s ≡ min (n + octets_in entry) (2 ^ 64 - 1) → sum ≡ octets_of pairs → sum < 2 ^ 64
-    → (s ≤ sum) × (sum - s ≡ octets_of (take (length pairs - 1) pairs))
+    → s ≡ min (n + octets_in entry) (2 ^ 64 - 1) → sum ≡ total_size pairs → sum < 2 ^ 64
+    → (s ≤ sum) × (sum - s ≡ total_size (take (length pairs - 1) pairs))
 taken pairs key entry n s sum last long is total fits =
-    let parts : octets_of (take (length pairs - 1) pairs) + size_of key entry ≡ octets_of pairs = last-octets pairs key entry last in
+    let parts : total_size (take (length pairs - 1) pairs) + size_of key entry ≡ total_size pairs = last-octets pairs key entry last in
     (omega arith, omega arith)
 
 pub put-sum-new : (key : List ℕ) (entry : Entry) (pairs : List Pair) (sum octets : ℕ) → IsDistinct bytes_eq (keys_of pairs) → entry_at key pairs ≡ None
-    → sum ≡ octets_of pairs → octets ≡ size_of key entry → sum + octets ≡ octets_of ((key, entry) ∷ without key pairs)
+    → sum ≡ total_size pairs → octets ≡ size_of key entry → sum + octets ≡ total_size ((key, entry) ∷ without key pairs)
 put-sum-new key entry pairs sum octets d h total size =
-    let parts : octets_of ((key, entry) ∷ without key pairs) ≡ octets_of pairs + size_of key entry = put-new key entry pairs d h in omega arith
+    let parts : total_size ((key, entry) ∷ without key pairs) ≡ total_size pairs + size_of key entry = put-new key entry pairs d h in omega arith
 
 pub put-sum-old : (key : List ℕ) (entry old : Entry) (pairs : List Pair) (n s sum octets : ℕ) → IsDistinct bytes_eq (keys_of pairs) → entry_at key pairs ≡ Some old
-    → n ≡ length key → s ≡ min (n + octets_in old) (2 ^ 64 - 1) → sum ≡ octets_of pairs → octets ≡ size_of key entry → sum + octets < 2 ^ 64
-    → (s ≤ sum + octets) × (sum + octets - s ≡ octets_of ((key, entry) ∷ without key pairs))
+    → n ≡ length key → s ≡ min (n + octets_in old) (2 ^ 64 - 1) → sum ≡ total_size pairs → octets ≡ size_of key entry → sum + octets < 2 ^ 64
+    → (s ≤ sum + octets) × (sum + octets - s ≡ total_size ((key, entry) ∷ without key pairs))
 put-sum-old key entry old pairs n s sum octets d h long is total size fits =
-    let parts : octets_of ((key, entry) ∷ without key pairs) + size_of key old ≡ octets_of pairs + size_of key entry = put-old key entry old pairs d h in
+    let parts : total_size ((key, entry) ∷ without key pairs) + size_of key old ≡ total_size pairs + size_of key entry = put-old key entry old pairs d h in
     (omega arith, omega arith)
 
 -- a cache by its two fields

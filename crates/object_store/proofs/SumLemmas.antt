@@ -8,7 +8,7 @@ use Rattle.lru.specs.LruCache.{LruCache, lru_cache, promoted}
 use Rattle.lru.proofs.CallerLemmas.{Contains-lookup_entry}
 use Rattle.lru.proofs.Pairs.{lookup-lookup_entry}
 use Rattle.object_store.specs.declared.entry.Entry.{Entry}
-use Rattle.object_store.specs.Pairs.{Pair, octets_in, size_of, octets_of, entry_at, is_fresh, without, cut}
+use Rattle.object_store.specs.Pairs.{Pair, octets_in, size_of, total_size, entry_at, is_fresh, without, cut}
 use Rattle.object_store.specs.Store.{StoreState, AreLimits, IsSummed, after_get, after_remove}
 use Rattle.object_store.proofs.CutLemmas.{cut-within}
 use Rattle.object_store.proofs.PairLemmas.{same_key, without-removes, remove-absent, remove-octets, put-old}
@@ -19,7 +19,7 @@ state e o pairs = record { most_entries = e; most_octets = o; pairs = pairs }
 
 -- ---- put
 pub put-summed : (e o sum cap : ℕ) (pairs : List Pair) (cache : LruCache (List ℕ) Entry) → AreLimits e o → cap ≡ 2 ^ 64 - 1
-    → cache ≡ lru_cache (cut e o pairs) cap → sum ≡ octets_of (cut e o pairs) → IsSummed e o sum cache.cap cache.entries
+    → cache ≡ lru_cache (cut e o pairs) cap → sum ≡ total_size (cut e o pairs) → IsSummed e o sum cache.cap cache.entries
 put-summed e o sum cap pairs cache limits top h total =
     rw h (record { limits = limits; within = cut-within e o pairs; sum_is = total; boundless = top })
 
@@ -40,16 +40,16 @@ absent-summed e o sum cap key pairs cache s none h = rw (h, remove-absent (bytes
 pub removed-size : (e o sum cap n size : ℕ) (key : List ℕ) (entry : Entry) (pairs : List Pair) → IsSummed e o sum cap pairs
     → entry_at key pairs ≡ Some entry → n ≡ length key → size ≡ min (n + octets_in entry) (2 ^ 64 - 1) → size ≤ sum
 removed-size e o sum cap n size key entry pairs s some long is =
-    let parts : octets_of (remove_entry (bytes_eq key) pairs) + size_of key entry ≡ octets_of pairs = remove-octets key entry pairs some in
-    let total : sum ≡ octets_of pairs = s.sum_is in omega arith
+    let parts : total_size (remove_entry (bytes_eq key) pairs) + size_of key entry ≡ total_size pairs = remove-octets key entry pairs some in
+    let total : sum ≡ total_size pairs = s.sum_is in omega arith
 
 pub removed-summed : (e o sum cap n size : ℕ) (key : List ℕ) (entry : Entry) (pairs : List Pair) (cache : LruCache (List ℕ) Entry) → IsSummed e o sum cap pairs
     → entry_at key pairs ≡ Some entry → n ≡ length key → size ≡ min (n + octets_in entry) (2 ^ 64 - 1)
     → cache ≡ lru_cache (remove_entry (bytes_eq key) pairs) cap → IsSummed e o (sum - size) cache.cap cache.entries
 removed-summed e o sum cap n size key entry pairs cache s some long is h =
-    let parts : octets_of (remove_entry (bytes_eq key) pairs) + size_of key entry ≡ octets_of pairs = remove-octets key entry pairs some in
-    let total : sum ≡ octets_of pairs = s.sum_is in
-    let small : octets_of pairs ≤ o = s.within.small in
+    let parts : total_size (remove_entry (bytes_eq key) pairs) + size_of key entry ≡ total_size pairs = remove-octets key entry pairs some in
+    let total : sum ≡ total_size pairs = s.sum_is in
+    let small : total_size pairs ≤ o = s.within.small in
     let few : length pairs ≤ e = s.within.few in
     let bound : o ≤ 1073741824 = s.limits.few_octets in
     let shorter : length (remove_entry (bytes_eq key) pairs) + 1 ≡ length pairs = remove-length key entry pairs some in
@@ -97,9 +97,9 @@ missed-summed e o sum cap key pairs cache s none h = rw (h, promoted-none key pa
 pub moved-summed : (e o sum cap : ℕ) (key : List ℕ) (entry : Entry) (pairs : List Pair) (cache : LruCache (List ℕ) Entry) → IsSummed e o sum cap pairs
     → IsDistinct bytes_eq (keys_of pairs) → entry_at key pairs ≡ Some entry → cache ≡ lru_cache (promoted (bytes_eq key) pairs) cap → IsSummed e o sum cache.cap cache.entries
 moved-summed e o sum cap key entry pairs cache s d some h =
-    let same : octets_of ((key, entry) ∷ without key pairs) + size_of key entry ≡ octets_of pairs + size_of key entry = put-old key entry entry pairs d some in
-    let total : sum ≡ octets_of pairs = s.sum_is in
-    let small : octets_of pairs ≤ o = s.within.small in
+    let same : total_size ((key, entry) ∷ without key pairs) + size_of key entry ≡ total_size pairs + size_of key entry = put-old key entry entry pairs d some in
+    let total : sum ≡ total_size pairs = s.sum_is in
+    let small : total_size pairs ≤ o = s.within.small in
     let few : length pairs ≤ e = s.within.few in
     let shorter : length (remove_entry (bytes_eq key) pairs) + 1 ≡ length pairs = remove-length key entry pairs some in
     let left : length (without key pairs) ≡ length (remove_entry (bytes_eq key) pairs) = ap (λ (l : List Pair). length l) (without-removes key pairs d) in

@@ -16,8 +16,8 @@ abbrev pub size_of : List ℕ → Entry → ℕ
 size_of key entry = length key + octets_in entry
 
 -- the sizes of all pairs together
-abbrev pub octets_of : List Pair → ℕ
-octets_of pairs = sum_by (λ pair. size_of pair.0 pair.1) pairs
+abbrev pub total_size : List Pair → ℕ
+total_size pairs = sum_by (λ pair. size_of pair.0 pair.1) pairs
 
 -- whether the moment, in milliseconds, is before the entry's own and its life, in seconds
 abbrev pub is_fresh : ℕ → Entry → Bool
@@ -37,9 +37,9 @@ abbrev pub without : List ℕ → List Pair → List Pair
 without key pairs = filter (λ pair. not (bytes_eq key pair.0)) pairs
 
 -- a fresh entry that is found goes to the front, a stale one goes out
-abbrev pub moved : List ℕ → ℕ → List Pair → Option Entry → List Pair
-moved key now pairs None = pairs
-moved key now pairs (Some entry) = if is_fresh now entry then (key, entry) ∷ without key pairs else without key pairs
+abbrev pub pairs_after_get : List ℕ → ℕ → List Pair → Option Entry → List Pair
+pairs_after_get key now pairs None = pairs
+pairs_after_get key now pairs (Some entry) = if is_fresh now entry then (key, entry) ∷ without key pairs else without key pairs
 
 -- the front of the pairs that is as long as so many entries and octets allow
 abbrev pub cut : ℕ → ℕ → List Pair → List Pair
@@ -50,7 +50,7 @@ cut entries octets (pair ∷ pairs) =
 -- the pairs are within both limits
 pub record IsWithin (entries octets : ℕ) (pairs : List Pair) : Type 0 where
   pub few : length pairs ≤ entries
-  pub small : octets_of pairs ≤ octets
+  pub small : total_size pairs ≤ octets
 
 -- the longest front of the pairs that is within both limits
 pub record IsLongestFront (entries octets : ℕ) (pairs front : List Pair) : Type 0 where

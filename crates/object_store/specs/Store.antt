@@ -7,7 +7,7 @@ use Rattle.object_store.specs.declared.faults.StoreFault.{StoreFault}
 use Rattle.object_store.specs.declared.faults.StoreFault.TheVariants.{Limits, NoMemory}
 use Rattle.object_store.specs.declared.faults.PutFault.{PutFault}
 use Rattle.object_store.specs.declared.faults.PutFault.TheVariants as put
-use Rattle.object_store.specs.Pairs.{Pair, IsWithin, size_of, octets_of, entry_at, fresh_only, without, moved, cut}
+use Rattle.object_store.specs.Pairs.{Pair, IsWithin, size_of, total_size, entry_at, fresh_only, without, pairs_after_get, cut}
 
 -- how many entries and octets there may be, and the pairs
 pub record StoreState : Type 0 where
@@ -44,7 +44,7 @@ fresh_at key now store = fresh_only now (entry_at key store.pairs)
 
 -- after the key was asked for at the moment
 abbrev pub after_get : List ℕ → ℕ → StoreState → StoreState
-after_get key now store = record store { pairs = moved key now store.pairs (entry_at key store.pairs) }
+after_get key now store = record store { pairs = pairs_after_get key now store.pairs (entry_at key store.pairs) }
 
 -- after the key was removed
 abbrev pub after_remove : List ℕ → StoreState → StoreState
@@ -59,5 +59,5 @@ after_put key entry store =
 pub record IsSummed (entries octets sum cap : ℕ) (pairs : List Pair) : Type 0 where
   pub limits : AreLimits entries octets
   pub within : IsWithin entries octets pairs
-  pub sum_is : sum ≡ octets_of pairs
+  pub sum_is : sum ≡ total_size pairs
   pub boundless : cap ≡ 2 ^ 64 - 1

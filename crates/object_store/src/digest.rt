@@ -7,8 +7,8 @@ ghost use Rattle.object_store.specs.Object.{digest_of, head_of, spelled_field, s
 use byteorder::{BigEndian, ByteOrder};
 use md5::{Digest, Md5};
 
-/// The MD5 of the fields of an object. A number, and before a list its length, is 8 octets, the
-/// highest first.
+/// The MD5 of the fields of an object. A list comes behind its length; lengths and numbers are 8
+/// octets, the highest first.
 #[tactic(auto, unfolding(crate::specs::Object::digest_of))]
 pub(crate) fn object_digest(
     status: u16,

@@ -2,7 +2,7 @@
 
 ghost use Rattle.std.specs.Prelude.{◌≡◌, ◌+◌, ◌-◌, ◌^◌, ◌<◌, ◌≤◌, ◌∷◌, length, min, take, bytes_eq, OnOk, OnErr, IfOk, IfErr, IsOk, IsSome, IsTrue, None, ◌↔◌};
 ghost use Rattle.lru.specs.LruCache.{lru_cache};
-ghost use Rattle.object_store.specs.Pairs.{IsWithin, cut, entry_at, octets_of, size_of, without};
+ghost use Rattle.object_store.specs.Pairs.{IsWithin, cut, entry_at, total_size, size_of, without};
 
 use crate::entry::{Entry, size};
 use crate::key::CacheKey;
@@ -20,12 +20,12 @@ pub(crate) fn put_pair(
     entry: Entry,
     octets: u64,
 ) -> Result<u64, AllocFailed<(CacheKey, Entry)>>
-    requires sum { sum ≡ octets_of pairs.old.entries }
+    requires sum { sum ≡ total_size pairs.old.entries }
     requires octets { octets ≡ size_of key entry }
     requires room { sum + octets < 2 ^ 64 }
     requires boundless { pairs.old.cap ≡ 2 ^ 64 - 1 }
     ensures pairs { OnOk result (pairs.new ≡ lru_cache ((key, entry) ∷ without key pairs.old.entries) pairs.old.cap) }
-    ensures sum { IfOk result (λ new_sum. new_sum ≡ octets_of ((key, entry) ∷ without key pairs.old.entries)) }
+    ensures sum { IfOk result (λ new_sum. new_sum ≡ total_size ((key, entry) ∷ without key pairs.old.entries)) }
     ensures back { IfErr result (λ refused. refused.value ≡ (key, entry)) }
     ensures unchanged { OnErr result (pairs.new ≡ pairs.old) }
     ensures held { IsSome (entry_at key pairs.old.entries) → IsOk result }
@@ -40,9 +40,9 @@ pub(crate) fn put_pair(
 
 // Takes the least recent pairs out until the others are within both limits. Answers their sum.
 pub(crate) fn evict(pairs: &mut Pairs, sum: u64, most_entries: u32, most_octets: u32) -> u64
-    requires { sum ≡ octets_of pairs.old.entries }
+    requires { sum ≡ total_size pairs.old.entries }
     ensures pairs { pairs.new ≡ lru_cache (cut most_entries most_octets pairs.old.entries) pairs.old.cap }
-    ensures sum { result ≡ octets_of (cut most_entries most_octets pairs.old.entries) }
+    ensures sum { result ≡ total_size (cut most_entries most_octets pairs.old.entries) }
 {
     let mut rest = sum;
     'full: while !are_within(pairs, rest, most_entries, most_octets) {
@@ -53,7 +53,7 @@ pub(crate) fn evict(pairs: &mut Pairs, sum: u64, most_entries: u32, most_octets:
 
 // Whether the pairs, of so many octets, are within both limits.
 fn are_within(pairs: &Pairs, sum: u64, most_entries: u32, most_octets: u32) -> bool
-    requires { sum ≡ octets_of pairs.now.entries }
+    requires { sum ≡ total_size pairs.now.entries }
     ensures { IsTrue result ↔ IsWithin most_entries most_octets pairs.now.entries }
 {
     pairs.len() <= most_entries as usize && sum <= u64::from(most_octets)
@@ -61,9 +61,9 @@ fn are_within(pairs: &Pairs, sum: u64, most_entries: u32, most_octets: u32) -> b
 
 // Takes the least recent pair out. Answers the sum of the others.
 fn drop_last(pairs: &mut Pairs, sum: u64) -> u64
-    requires { sum ≡ octets_of pairs.old.entries }
+    requires { sum ≡ total_size pairs.old.entries }
     ensures pairs { pairs.new ≡ lru_cache (take (length pairs.old.entries - 1) pairs.old.entries) pairs.old.cap }
-    ensures sum { result ≡ octets_of (take (length pairs.old.entries - 1) pairs.old.entries) }
+    ensures sum { result ≡ total_size (take (length pairs.old.entries - 1) pairs.old.entries) }
 {
     match pairs.pop_lru() {
         None => sum,

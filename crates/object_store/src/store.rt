@@ -84,7 +84,7 @@ impl Store {
         let _ = self.pairs.len();
     }
 
-    /// The entry of a key. A fresh one goes to the front, a stale one is taken out and not answered.
+    /// The entry of a key, which then stands first. A stale one is taken out and not answered.
     pub fn get(&mut self, key: &CacheKey, now: Moment) -> Option<&Entry>
         ensures* changed { sem 𝓛 (ends_as self.entry (after_get key.now now self.old)) }
         ensures value { option_copied result ≡ fresh_at key.now now self.old }

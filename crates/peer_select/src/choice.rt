@@ -13,40 +13,25 @@ use neighbours::{Ranked, Role, is_before};
 fn is_hit_kind(kind: Kind) -> bool
     ensures { result ≡ is_hit kind }
 {
-    match kind {
-        Kind::Hit => true,
-        Kind::Miss => false,
-        Kind::Refused => false,
-    }
+    matches!(kind, Kind::Hit)
 }
 
 fn is_miss_kind(kind: Kind) -> bool
     ensures { result ≡ is_miss kind }
 {
-    match kind {
-        Kind::Hit => false,
-        Kind::Miss => true,
-        Kind::Refused => false,
-    }
+    matches!(kind, Kind::Miss)
 }
 
 fn is_refused_kind(kind: Kind) -> bool
     ensures { result ≡ is_refused kind }
 {
-    match kind {
-        Kind::Hit => false,
-        Kind::Miss => false,
-        Kind::Refused => true,
-    }
+    matches!(kind, Kind::Refused)
 }
 
 fn is_parent_role(role: Role) -> bool
     ensures { result ≡ is_parent role }
 {
-    match role {
-        Role::Sibling => false,
-        Role::Parent => true,
-    }
+    matches!(role, Role::Parent)
 }
 
 fn find_peer(peers: &[Peer], n: usize) -> Peer

@@ -26,7 +26,7 @@ pub fn unchanged_law()
     ensures expired { (poll : Poll) → decided (ended poll) ≡ true }
 {}
 
-/// The peers of a round are those of the table that it was made with, and stay so.
+/// A round begins with the peers of its table, and neither they nor its start change.
 pub fn matching_law()
     ensures begun { (rows : Rows) (asked : Bool) (start : ℕ) → matches rows.neighbours (begun rows asked start).peers ≡ true }
     ensures replied { (poll : Poll) (reply : Reply) → (replied poll reply).peers ≡ poll.peers }

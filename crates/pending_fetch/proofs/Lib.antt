@@ -6,6 +6,7 @@ pub mod Places
 pub mod Keeping
 pub mod Waits
 pub mod Spots
+pub mod Changes
 pub mod Keyed
 pub mod Waiting
 pub mod Sorted

@@ -170,42 +170,42 @@ waits-count list number h = count_by list number (fetch_of number list) h refl
 abbrev is_of : List Neighbour → PendingFetch → Bool
 is_of neighbours f = matches neighbours f.round.peers
 
-pub matching-each : (neighbours : List Neighbour) (list : List PendingFetch) (number : ℕ) → list_all (is_of neighbours) list ≡ true → fits neighbours (fetch_of number list) ≡ true
-matching-each neighbours [] number h = refl
-matching-each neighbours (f ∷ list) number h =
+pub fitting-each : (neighbours : List Neighbour) (list : List PendingFetch) (number : ℕ) → list_all (is_of neighbours) list ≡ true → fits neighbours (fetch_of number list) ≡ true
+fitting-each neighbours [] number h = refl
+fitting-each neighbours (f ∷ list) number h =
     let here : is_of neighbours f ≡ true = grind arith in
     let there : list_all (is_of neighbours) list ≡ true = grind arith in
     elim (eqb f.number number) as (λ v. fits neighbours (if v then Some f else fetch_of number list) ≡ true) [
       | true ↦ here
-      | false ↦ matching-each neighbours list number there
+      | false ↦ fitting-each neighbours list number there
     ]
 
-pub matching-left : (neighbours : List Neighbour) (list : List PendingFetch) (client : ℕ) → list_all (is_of neighbours) list ≡ true → list_all (is_of neighbours) (left client list) ≡ true
-matching-left neighbours [] client h = refl
-matching-left neighbours (f ∷ list) client h =
+pub fitting-left : (neighbours : List Neighbour) (list : List PendingFetch) (client : ℕ) → list_all (is_of neighbours) list ≡ true → list_all (is_of neighbours) (left client list) ≡ true
+fitting-left neighbours [] client h = refl
+fitting-left neighbours (f ∷ list) client h =
     let here : is_of neighbours f ≡ true = grind arith in
     let there : list_all (is_of neighbours) list ≡ true = grind arith in
-    rw (here, matching-left neighbours list client there) refl
+    rw (here, fitting-left neighbours list client there) refl
 
-pub matching-closed : (neighbours : List Neighbour) (list : List PendingFetch) (number : ℕ) → list_all (is_of neighbours) list ≡ true → list_all (is_of neighbours) (without number list) ≡ true
-matching-closed neighbours [] number h = refl
-matching-closed neighbours (f ∷ list) number h =
+pub fitting-closed : (neighbours : List Neighbour) (list : List PendingFetch) (number : ℕ) → list_all (is_of neighbours) list ≡ true → list_all (is_of neighbours) (without number list) ≡ true
+fitting-closed neighbours [] number h = refl
+fitting-closed neighbours (f ∷ list) number h =
     let here : is_of neighbours f ≡ true = grind arith in
     let there : list_all (is_of neighbours) list ≡ true = grind arith in
     elim (eqb f.number number) as (λ v. list_all (is_of neighbours) (if not v then f ∷ without number list else without number list) ≡ true) [
-      | true ↦ matching-closed neighbours list number there
-      | false ↦ rw (here, matching-closed neighbours list number there) refl
+      | true ↦ fitting-closed neighbours list number there
+      | false ↦ rw (here, fitting-closed neighbours list number there) refl
     ]
 
-pub matching-changed : (neighbours : List Neighbour) (list : List PendingFetch) (number : ℕ) (change : PendingFetch → PendingFetch) →
+pub fitting-changed : (neighbours : List Neighbour) (list : List PendingFetch) (number : ℕ) (change : PendingFetch → PendingFetch) →
     ((f : PendingFetch) → (change f).round.peers ≡ f.round.peers) → list_all (is_of neighbours) list ≡ true → list_all (is_of neighbours) (changed change number list) ≡ true
-matching-changed neighbours [] number change k h = refl
-matching-changed neighbours (f ∷ list) number change k h =
+fitting-changed neighbours [] number change k h = refl
+fitting-changed neighbours (f ∷ list) number change k h =
     let here : is_of neighbours f ≡ true = grind arith in
     let there : list_all (is_of neighbours) list ≡ true = grind arith in
     elim (eqb f.number number) as (λ v. list_all (is_of neighbours) (if v then change f ∷ list else f ∷ changed change number list) ≡ true) [
       | true ↦ rw (ap (matches neighbours) (k f) ∙ here, there) refl
-      | false ↦ rw (here, matching-changed neighbours list number change k there) refl
+      | false ↦ rw (here, fitting-changed neighbours list number change k there) refl
     ]
 
 legal_without_by : (list : List PendingFetch) (number : ℕ) (o : Option PendingFetch) → IsLegal list → fetch_of number list ≡ o → IsLegal (without number list)

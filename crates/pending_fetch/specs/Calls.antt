@@ -47,7 +47,7 @@ abbrev pub all_fit : List Neighbour → List PendingFetch → Bool
 all_fit neighbours list = list_all (λ (fetch : PendingFetch). matches neighbours fetch.round.peers) list
 
 -- what is told of a fetch
-pub record Told : Type 0 where
+pub record FetchFacts : Type 0 where
   pub key : List ℕ
   pub shared : Bool
   pub owner : Option ℕ
@@ -55,9 +55,9 @@ pub record Told : Type 0 where
   pub round : Poll
 
 -- what a pending fetch has to tell
-abbrev pub told : PendingFetch → Told
+abbrev pub told : PendingFetch → FetchFacts
 told fetch = record { key = fetch.key; shared = is_shared fetch; owner = fetch.owner; attempt = fetch.attempt; round = fetch.round }
 
 -- what the view that is lent says
-abbrev pub shown : Fetch → Told
+abbrev pub shown : Fetch → FetchFacts
 shown fetch = record { key = fetch.key.now; shared = fetch.shared; owner = fetch.owner; attempt = fetch.attempt; round = fetch.round.now }

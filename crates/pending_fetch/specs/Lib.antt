@@ -5,4 +5,5 @@ pub mod Legal
 pub mod Kept
 pub mod Indexes
 pub mod Places
+pub mod Standing
 pub mod Queue

@@ -13,3 +13,10 @@ pub struct Fetch<'a> {
     pub attempt: u16,
     pub round: &'a Round,
 }
+
+/// A pending fetch, and its place among all of them.
+#[derive(Clone, Copy)]
+pub struct Located<'a> {
+    pub place: usize,
+    pub fetch: Fetch<'a>,
+}

@@ -46,7 +46,7 @@ pub fn waits_law()
 {}
 
 /// Where all rounds are of these neighbours, so is each; and every change keeps it.
-pub fn matching_law()
+pub fn fitting_law()
     ensures each { (neighbours : List Neighbour) (list : List PendingFetch) (number : ℕ) →
         all_fit neighbours list ≡ true → fits neighbours (fetch_of number list) ≡ true }
     ensures opened { (neighbours : List Neighbour) (list : List PendingFetch) (f : PendingFetch) →

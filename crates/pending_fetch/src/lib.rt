@@ -14,7 +14,7 @@ mod slots;
 mod undecided;
 
 pub use fault::{JoinFault, OpenFault};
-pub use fetch::Fetch;
-pub use laws::{due_law, matching_law, next_law, place_law, waits_law};
+pub use fetch::{Fetch, Located};
+pub use laws::{due_law, fitting_law, next_law, place_law, waits_law};
 pub use pending::Pending;
 pub use std::alloc::AllocError as NoMemory;

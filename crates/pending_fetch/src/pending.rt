@@ -3,13 +3,16 @@
 ghost use Rattle.std.specs.Prelude.{◌≡◌, ◌<◌, ◌≤◌, ◌↔◌, ◌&&◌, [], ◌∷◌, length, Some, None, IfOk, IfErr, OnOk, OnErr, IsTrue, true, false, nat_le, option_map, if◌then◌else◌};
 ghost use Rattle.std.specs.List.{list_all, list_any};
 ghost use Rattle.pending_fetch.specs.Numbers.{IsNext};
-ghost use Rattle.pending_fetch.specs.Fetches.{changed, with_reply, with_end, with_next, numbers, starts, fetch_of, has_number, shared_number, all_waiters, waits, waiters_of, left, without, first_due, next_number, opened, fresh, owner_of};
+ghost use Rattle.peer_select.specs.Poll.{decided};
+ghost use Rattle.pending_fetch.specs.Fetches.{PendingFetch, changed, with_reply, with_end, with_next, numbers, starts, fetch_of, has_number, shared_number, all_waiters, waits, waiters_of, left, without, first_due, next_number, opened, fresh, owner_of};
 ghost use Rattle.pending_fetch.specs.Calls.{is_crowded, is_full, join_fault, join_answer, join_list, may_advance, fits, told, shown};
 ghost use Rattle.pending_fetch.specs.Legal.{IsLegal};
+ghost use Rattle.pending_fetch.specs.Standing.{place_of};
+ghost use Rattle.pending_fetch.specs.declared.fetch.Located.{Located as LocatedFetch};
 
 use crate::clients::Clients;
 use crate::fault::{JoinFault, OpenFault};
-use crate::fetch::Fetch;
+use crate::fetch::{Fetch, Located};
 use crate::kept::KeptFetch;
 use crate::keys::Keys;
 use crate::order::Order;
@@ -144,7 +147,7 @@ impl Pending {
     }
 
     /// Opens a fetch with its first waiter, who owns it unless it is shared, and gives its number. The client waits for
-    /// no fetch, the round starts no earlier than any pending one, and there is no shared fetch of the key where this
+    /// no fetch, no pending round starts after this one, and there is no shared fetch of the key where this
     /// one is shared. Errors: 256 fetches or 1,024 waiters, or out of memory.
     pub fn open(
         &mut self,
@@ -243,10 +246,38 @@ impl Pending {
     pub fn fetch(&self, number: u32) -> Option<Fetch<'_>>
         ensures { option_map shown result ≡ option_map told (fetch_of number self.now.list) }
     {
-        let Some(place) = place_of(&self.slots, &self.order, number) else {
+        let Some(place) = self.place(number) else {
             return None;
         };
-        Some(self.slots[place].lent())
+        Some(self.fetch_at(number, place))
+    }
+
+    /// The fetch of this number, and where it stands: for `fetch_at` and `reply_at`, until a fetch is closed.
+    pub fn locate(&self, number: u32) -> Option<Located<'_>>
+        ensures fetch { option_map (λ (it : LocatedFetch). shown it.fetch) result ≡ option_map told (fetch_of number self.now.list) }
+        ensures place { option_map (λ (it : LocatedFetch). it.place) result ≡ place_of number self.now.list }
+    {
+        let Some(place) = self.place(number) else {
+            return None;
+        };
+        let fetch = self.fetch_at(number, place);
+        Some(Located { place, fetch })
+    }
+
+    /// The fetch of this number, which stands at this place.
+    pub fn fetch_at(&self, number: u32, place: usize) -> Fetch<'_>
+        requires { place_of number self.now.list ≡ Some place }
+        ensures { Some (shown result) ≡ option_map told (fetch_of number self.now.list) }
+    {
+        let _ = number;
+        self.slots[place].lent()
+    }
+
+    // The place of the fetch of this number.
+    fn place(&self, number: u32) -> Option<usize>
+        ensures { result ≡ place_of number self.now.list }
+    {
+        place_of(&self.slots, &self.order, number)
     }
 
     /// The peer at place n replies to the round of this fetch; s is its smoothed time just after this reply's sample.
@@ -257,11 +288,35 @@ impl Pending {
         ensures list { self.new ≡ record self.old { list = changed (with_reply (record { s = s; n = n; kind = kind })) number self.old.list } }
         ensures found { result ≡ has_number number self.old.list }
     {
+        let Some(place) = self.place(number) else {
+            return false;
+        };
+        self.reply_at(number, place, table, n, kind, s);
+        true
+    }
+
+    /// The same for the fetch of this number that stands at this place, and stays there. Whether its round is decided then.
+    pub fn reply_at(
+        &mut self,
+        number: u32,
+        place: usize,
+        table: &Table,
+        n: usize,
+        kind: Kind,
+        s: u32,
+    ) -> bool
+        requires here { place_of number self.old.list ≡ Some place }
+        requires place { n < length table.now.neighbours }
+        requires table { fits table.now.neighbours (fetch_of number self.old.list) ≡ true }
+        ensures list { self.new ≡ record self.old { list = changed (with_reply (record { s = s; n = n; kind = kind })) number self.old.list } }
+        ensures here { place_of number self.new.list ≡ Some place }
+        ensures decided { Some result ≡ option_map (λ (fetch : PendingFetch). decided fetch.round) (fetch_of number self.new.list) }
+    {
         matching_law();
         unchanged_law();
-        let decided = reply_in(&mut self.slots, &self.order, number, table, n, kind, s);
-        settle(&mut self.undecided, number, decided);
-        decided.is_some()
+        let decided = reply_in(&mut self.slots, number, place, table, n, kind, s);
+        settle(&mut self.undecided, number, Some(decided));
+        decided
     }
 
     /// The time of this fetch's round is up. Whether the fetch is pending.

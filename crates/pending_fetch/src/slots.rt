@@ -6,6 +6,7 @@ ghost use Rattle.peer_select.specs.Poll.{decided};
 ghost use Rattle.pending_fetch.specs.Fetches.{PendingFetch, shares, shared_number, without_client, numbers, has_number, waiters_of, fetch_of, changed, with_waiter, with_reply, with_end, with_next, without};
 ghost use Rattle.pending_fetch.specs.Calls.{may_advance, fits};
 ghost use Rattle.pending_fetch.specs.Indexes.{is_alone, number_under};
+ghost use Rattle.pending_fetch.specs.Standing.{place_of};
 
 use crate::kept::KeptFetch;
 use crate::keys::Keys;
@@ -125,28 +126,25 @@ pub fn take_out(slots: &mut Vec<KeptFetch>, order: &mut Order, number: u32) -> O
     Some(slots.remove(place))
 }
 
-/// The peer at place n replies to the round of the fetch of this number. Whether the round is decided then; None where
-/// there is no such fetch.
+/// The peer at place n replies to the round of the fetch of this number, which stands at this place. Whether the round is decided
+/// then.
 pub fn reply_in(
     slots: &mut Vec<KeptFetch>,
-    order: &Order,
     number: u32,
+    place: usize,
     table: &Table,
     n: usize,
     kind: Kind,
     s: u32,
-) -> Option<bool>
-    requires order { order.now ≡ numbers slots.old.items }
+) -> bool
+    requires here { place_of number slots.old.items ≡ Some place }
     requires place { n < length table.now.neighbours }
     requires table { fits table.now.neighbours (fetch_of number slots.old.items) ≡ true }
     ensures list { slots.new.items ≡ changed (with_reply (record { s = s; n = n; kind = kind })) number slots.old.items }
-    ensures decided { result ≡ option_map (λ (fetch : PendingFetch). decided (with_reply (record { s = s; n = n; kind = kind }) fetch).round) (fetch_of number slots.old.items) }
+    ensures decided { Some result ≡ option_map (λ (fetch : PendingFetch). decided (with_reply (record { s = s; n = n; kind = kind }) fetch).round) (fetch_of number slots.old.items) }
 {
-    let Some(place) = place_of(slots, order, number) else {
-        return None;
-    };
-    let decided = slots[place].reply(table, n, kind, s);
-    Some(decided)
+    let _ = number;
+    slots[place].reply(table, n, kind, s)
 }
 
 /// The time of the round of the fetch of this number is up. Whether there is one.

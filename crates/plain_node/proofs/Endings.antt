@@ -2,21 +2,21 @@
 use Rattle.std.proofs.Common.{◌≡◌, nat_eq, ℕ, Bool, true, false, List, [], Option, Some, None, refl, ap, sym, ◌∙◌}
 use Rattle.peer_select.specs.Poll.{decided}
 use Rattle.pending_fetch.specs.Fetches.{PendingFetch, changed, with_next}
-use Rattle.pending_fetch.specs.Calls.{Told, told}
+use Rattle.pending_fetch.specs.Calls.{FetchFacts, told}
 use Rattle.plain_node.specs.declared.action.Action.{Action}
 use Rattle.plain_node.specs.declared.event.Outcome.{Outcome}
 use Rattle.plain_node.specs.PlainNode.{PlainNode, with_fetches}
 use Rattle.plain_node.specs.Sources.{tried, source_of}
 use Rattle.plain_node.specs.Outcomes.{counts, counted_outcome, outcome_step, next_step}
 
-pub counts_decided : (view : Told) (f : PendingFetch) (d : Bool) (attempt : ℕ) → view ≡ told f → d ≡ decided view.round → d ≡ true → nat_eq view.attempt attempt ≡ counts f attempt
+pub counts_decided : (view : FetchFacts) (f : PendingFetch) (d : Bool) (attempt : ℕ) → view ≡ told f → d ≡ decided view.round → d ≡ true → nat_eq view.attempt attempt ≡ counts f attempt
 counts_decided view f d attempt e p q =
-    let h : decided f.round ≡ true = sym (ap (λ (t : Told). decided t.round) e) ∙ sym p ∙ q in
-    ap (λ (t : Told). nat_eq t.attempt attempt) e ∙ rw h refl
+    let h : decided f.round ≡ true = sym (ap (λ (t : FetchFacts). decided t.round) e) ∙ sym p ∙ q in
+    ap (λ (t : FetchFacts). nat_eq t.attempt attempt) e ∙ rw h refl
 
-pub counts_undecided : (view : Told) (f : PendingFetch) (d : Bool) (attempt : ℕ) → view ≡ told f → d ≡ decided view.round → d ≡ false → d ≡ counts f attempt
+pub counts_undecided : (view : FetchFacts) (f : PendingFetch) (d : Bool) (attempt : ℕ) → view ≡ told f → d ≡ decided view.round → d ≡ false → d ≡ counts f attempt
 counts_undecided view f d attempt e p q =
-    let h : decided f.round ≡ false = sym (ap (λ (t : Told). decided t.round) e) ∙ sym p ∙ q in
+    let h : decided f.round ≡ false = sym (ap (λ (t : FetchFacts). decided t.round) e) ∙ sym p ∙ q in
     q ∙ rw h refl
 
 pub ignored : (node : PlainNode) (attempt : ℕ) (outcome : Outcome) (o : Option PendingFetch) (r : Bool) → ((f : PendingFetch) → o ≡ Some f → r ≡ counts f attempt) → r ≡ false → counted_outcome node attempt outcome o ≡ (node, [])

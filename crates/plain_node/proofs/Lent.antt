@@ -5,8 +5,10 @@ use Rattle.std.specs.Prelude.{IfSome, unwrap_or}
 use Rattle.neighbours.specs.declared.neighbour.Neighbour.{Neighbour}
 use Rattle.peer_select.specs.Poll.{matches}
 use Rattle.pending_fetch.specs.declared.fetch.Fetch.{Fetch}
+use Rattle.pending_fetch.specs.declared.fetch.Located.{Located}
 use Rattle.pending_fetch.specs.Fetches.{PendingFetch, fetch_of}
-use Rattle.pending_fetch.specs.Calls.{Told, told, shown, fits}
+use Rattle.pending_fetch.specs.Standing.{place_of}
+use Rattle.pending_fetch.specs.Calls.{FetchFacts, told, shown, fits}
 
 pub some_is : {A : Type 0} (a b : A) → Some a ≡ Some b → a ≡ b
 some_is a b e = ap (λ o. unwrap_or o a) e
@@ -17,7 +19,12 @@ none_is a e = absurd cc
 pub matching_of : (neighbours : List Neighbour) (o : Option PendingFetch) (lent : Option Fetch) → option_map shown lent ≡ option_map told o → fits neighbours o ≡ true → IfSome lent (λ fetch. matches neighbours fetch.round.now.peers ≡ true)
 matching_of neighbours o None e h = tt
 matching_of neighbours None (Some fetch) e h = absurd cc
-matching_of neighbours (Some f) (Some fetch) e h = ap (λ (t : Told). matches neighbours t.round.peers) (some_is (shown fetch) (told f) e) ∙ h
+matching_of neighbours (Some f) (Some fetch) e h = ap (λ (t : FetchFacts). matches neighbours t.round.peers) (some_is (shown fetch) (told f) e) ∙ h
+
+-- it stands at the place that is told with it
+pub placed_at : (number : ℕ) (list : List PendingFetch) (o : Option Located) → option_map (λ (it : Located). it.place) o ≡ place_of number list → IfSome o (λ it. place_of number list ≡ Some it.place)
+placed_at number list None e = tt
+placed_at number list (Some it) e = sym e
 
 -- the fetch of a number has it
 pub number_is : (number : ℕ) (list : List PendingFetch) (f : PendingFetch) → fetch_of number list ≡ Some f → f.number ≡ number

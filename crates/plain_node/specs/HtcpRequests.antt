@@ -1,5 +1,5 @@
--- What an HTCP request does (RFC 2756): NOP, TST and CLR are served for the allowed networks, everything else is refused; an answer is sent
--- only where RD asks for one, and a CLR acts also without it.
+-- What an HTCP request does (RFC 2756): NOP, TST and CLR are served for the allowed networks, everything else is refused; without RD
+-- nothing is answered, but a CLR acts all the same.
 use Rattle.std.specs.Prelude.{ℕ, ◌+◌, ◌==◌, nat_eq, not, Bool, true, false, ◌&&◌, ◌||◌, List, [], ◌∷◌, ◌++◌, take, drop, Option, Some, None, is_some, option_map, position, if◌then◌else◌}
 use Rattle.std.specs.List.{ends_with}
 use Rattle.std.specs.Str.{bytes_eq}
@@ -124,7 +124,7 @@ answer request finding = record {
   auth = unsigned;
 }
 
--- the answer goes back to the source, signed with the request's key exactly where its signature is good; without RD none is sent
+-- the answer to who asked: under the same key where the request was signed well, else unsigned; without RD there is none
 abbrev pub answers_to : PlainNode → End → Message → Standing → Finding → Bool → List Action
 answers_to node from request worth finding true = Send Htcp from (text_to node from (answer request finding) (key_of_standing worth)) ∷ []
 answers_to node from request worth finding false = []

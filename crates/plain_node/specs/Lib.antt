@@ -1,3 +1,4 @@
+pub mod Common
 pub mod Fitting
 pub mod HtcpReplies
 pub mod HtcpRequests
@@ -5,6 +6,7 @@ pub mod Memory
 pub mod Messages
 pub mod Opening
 pub mod Outcomes
+pub mod Payloads
 pub mod Plain
 pub mod PlainNode
 pub mod Requests

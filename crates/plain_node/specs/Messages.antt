@@ -7,7 +7,7 @@ use Rattle.bpf_run.specs.declared.ends.Socket.TheVariants.{Icp}
 use Rattle.icp_packet.specs.declared.message.Opcode.{Opcode}
 use Rattle.icp_packet.specs.declared.message.Opcode.TheVariants as op
 use Rattle.icp_packet.specs.Message.{Message, Body, query, url_only, object, spelling}
-use Rattle.neighbours.specs.Rows.{mark_at, with_mark, replied, sampled, place_of}
+use Rattle.neighbours.specs.Rows.{mark_at, with_mark, without_misses, sampled, place_of}
 use Rattle.object_store.specs.Store.{fresh_at}
 use Rattle.peer_select.specs.declared.reply.Kind.{Kind}
 use Rattle.peer_select.specs.declared.reply.Kind.TheVariants.{Hit, Miss, Refused}
@@ -59,7 +59,7 @@ kind_of op.Decho = None
 
 -- the neighbour at a place is heard of: its misses are 0
 abbrev pub heard : PlainNode → ℕ → PlainNode
-heard node n = record node { rows = with_mark node.rows n (replied (mark_at node.rows.marks n)) }
+heard node n = record node { rows = with_mark node.rows n (without_misses (mark_at node.rows.marks n)) }
 
 -- the neighbour at a place took so many milliseconds
 abbrev pub timed : PlainNode → ℕ → ℕ → PlainNode

@@ -72,7 +72,7 @@ query_by node number key neighbour Icp = Send Icp neighbour.end (spelling (icp_q
 query_by node number key neighbour Htcp =
     Send Htcp neighbour.end (text_to node neighbour.end (htcp_query number key) (key_named node neighbour.key))
 
--- a query to each neighbour in configuration order, also to those that are down
+-- the queries to all neighbours, up or down, in the order of the table
 unfoldable pub queries : PlainNode → ℕ → List ℕ → List Action
 queries node number key =
     map (λ (neighbour : Neighbour). query_by node number key neighbour neighbour.protocol) node.rows.neighbours
@@ -113,7 +113,7 @@ found_step node client key Shared None = wait_step node client key (shared_numbe
 found_step node client key Cached None = fails node client 504
 found_step node client key Private None = open_step node client key false
 
--- the node after its store was asked for the key: a fresh pair is moved to the front, a stale one is taken out
+-- the node after its store was asked for the key, which puts a fresh pair first and drops a stale one
 abbrev pub looked_up : PlainNode → List ℕ → PlainNode
 looked_up node key = record node { store = after_get key node.clock node.store }
 

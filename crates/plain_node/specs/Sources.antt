@@ -30,7 +30,7 @@ is_sibling_source neighbours Origin = false
 abbrev pub source_of : PlainNode → PendingFetch → Option Source
 source_of node fetch = slice_get (sources fetch.round node.settings.origin) fetch.attempt
 
--- the fetch goes to its source; where there is none, each waiter is told this status, in order of joining, and the fetch is closed
+-- the fetch goes to its source; without one it is closed, and its waiters are told this status, the first to join first
 unfoldable pub tried : PlainNode → ℕ → PendingFetch → Option Source → PlainNode × List Action
 tried node status fetch (Some source) =
     (node, Fetch fetch.number fetch.attempt source (is_sibling_source node.rows.neighbours source) fetch.owner ∷ [])

@@ -20,12 +20,12 @@ use Rattle.plain_node.specs.declared.action.Answer.TheVariants.{Hit, Got, Fail}
 use Rattle.plain_node.specs.declared.tally.Tally.{Tally}
 
 -- the kinds of actions: 0 sends a datagram, 1 fetches, 2 to 4 tell a client of a stored object, of a fetched one, or of none
-abbrev pub kind_of : Action → ℕ
-kind_of (Send socket to payload) = 0
-kind_of (Fetch fetch attempt source only_if_cached owner) = 1
-kind_of (Serve client (Hit object age)) = 2
-kind_of (Serve client (Got object)) = 3
-kind_of (Serve client (Fail status)) = 4
+abbrev pub action_kind : Action → ℕ
+action_kind (Send socket to payload) = 0
+action_kind (Fetch fetch attempt source only_if_cached owner) = 1
+action_kind (Serve client (Hit object age)) = 2
+action_kind (Serve client (Got object)) = 3
+action_kind (Serve client (Fail status)) = 4
 
 -- a choice between no and yes
 abbrev pub spelled_flag : Bool → List ℕ
@@ -62,11 +62,11 @@ spelled_fields (Serve client (Fail status)) = spelled_number client ++ spelled_n
 
 -- an action: one octet for its kind, then what it holds
 abbrev pub spelled : Action → List ℕ
-spelled action = kind_of action ∷ spelled_fields action
+spelled action = action_kind action ∷ spelled_fields action
 
 -- how many actions are of a kind
 abbrev pub how_many : ℕ → List Action → ℕ
-how_many kind actions = count_by (λ action. kind_of action == kind) actions
+how_many kind actions = count_by (λ action. action_kind action == kind) actions
 
 -- the tally of the actions
 abbrev pub tally_of : List Action → Tally

@@ -7,27 +7,40 @@ use object_store::SharedObject;
 use peer_select::Source;
 use std::alloc::Global;
 use std::marker::Model;
+use std::sync::Arc;
 
-/// The octets of a datagram that is to be sent.
+/// Octets with several owners. Contracts see the octets.
 #[derive(Debug, Drop)]
-pub struct Payload {
-    octets: Vec<u8>,
+pub struct SharedOctets {
+    octets: Arc<Vec<u8>>,
 }
 
-impl Model for Payload {
+impl Model for SharedOctets {
     ghost use Rattle.std.specs.Prelude.{List, ℕ};
+    ghost use Rattle.std.specs.Arc.{arc_value};
 
     ghost Value = { List ℕ };
 
-    ghost view = { λ p. p.octets.items };
+    ghost view = { λ s. (arc_value s.octets).items };
 }
 
-impl Payload {
-    /// A payload of these octets.
-    pub fn new(octets: Vec<u8>) -> Payload
-        ensures { result ≡ octets.items }
+impl SharedOctets {
+    /// The first owner of these octets. An error says that there was no memory.
+    pub fn new(alloc: Global, octets: Vec<u8>) -> Result<SharedOctets, NoMemory>
+        ensures { IfOk result (λ shared. shared ≡ octets.items) }
     {
-        Payload { octets }
+        Ok(SharedOctets {
+            octets: Arc::new(alloc, octets)?,
+        })
+    }
+
+    /// One more owner. It requests no memory, and is refused only where there are too many owners.
+    pub fn share(&self) -> Result<SharedOctets, NoMemory>
+        ensures { IfOk result (λ shared. shared ≡ self.now) }
+    {
+        Ok(SharedOctets {
+            octets: Arc::try_clone(&self.octets)?,
+        })
     }
 
     /// The octets.
@@ -35,6 +48,59 @@ impl Payload {
         ensures { result.now ≡ self.now }
     {
         self.octets.as_slice()
+    }
+}
+
+/// The octets of a payload: its own, or those that several payloads have in common.
+#[derive(Debug, Drop)]
+pub enum Owned {
+    Alone(Vec<u8>),
+    InCommon(SharedOctets),
+}
+
+/// The octets of a datagram that is to be sent.
+#[derive(Debug, Drop)]
+pub struct Payload {
+    octets: Owned,
+}
+
+impl Model for Payload {
+    ghost use Rattle.std.specs.Prelude.{List, ℕ};
+    ghost use Rattle.plain_node.specs.Payloads.{octets_of};
+
+    ghost Value = { List ℕ };
+
+    ghost view = { λ p. octets_of p.octets };
+}
+
+impl Payload {
+    /// A payload of these octets.
+    pub fn new(octets: Vec<u8>) -> Payload
+        ensures { result ≡ octets.items }
+    {
+        Payload {
+            octets: Owned::Alone(octets),
+        }
+    }
+
+    /// A payload of octets that it has in common with others. It requests no memory, and is refused only where these are too many.
+    pub(crate) fn of(octets: &SharedOctets) -> Result<Payload, NoMemory>
+        ensures { IfOk result (λ payload. payload ≡ octets.now) }
+    {
+        let octets = octets.share()?;
+        Ok(Payload {
+            octets: Owned::InCommon(octets),
+        })
+    }
+
+    /// The octets.
+    pub fn as_slice(&self) -> &[u8]
+        ensures { result.now ≡ self.now }
+    {
+        match &self.octets {
+            Owned::Alone(octets) => octets.as_slice(),
+            Owned::InCommon(octets) => octets.as_slice(),
+        }
     }
 }
 

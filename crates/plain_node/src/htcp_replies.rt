@@ -1,9 +1,11 @@
 //! What an HTCP response does.
-ghost use Rattle.std.specs.Prelude.{◌≡◌, ◌<◌, [], length, true, Some};
+ghost use Rattle.std.specs.Prelude.{◌≡◌, ◌<◌, [], length, true, Some, IfSome};
 ghost use Rattle.std.specs.Option.{option_map};
 ghost use Rattle.bpf_run.specs.declared.ends.Socket.TheVariants.{Htcp};
 ghost use Rattle.htcp_packet.specs.View.{shown, received};
 ghost use Rattle.pending_fetch.specs.Fetches.{PendingFetch, fetch_of};
+ghost use Rattle.pending_fetch.specs.Standing.{place_of};
+ghost use Rattle.plain_node.specs.declared.messages.Awaited.{Awaited as AwaitedFetch};
 ghost use Rattle.plain_node.specs.PlainNode.{moved};
 ghost use Rattle.plain_node.specs.Messages.{awaiting};
 ghost use Rattle.plain_node.specs.HtcpReplies.{response_step, tested_step, is_trusted, key_name_at, response_kind, answer_kind};
@@ -11,11 +13,12 @@ ghost use Rattle.plain_node.specs.Signatures.{standing};
 
 use crate::action::Out;
 use crate::core_node::Core;
-use crate::messages::is_awaited;
+use crate::messages::{Awaited, is_awaited};
 use filter_slots::{End, Moment, Socket};
 use htcp_packet::HtcpView;
 use htcp_packet::codes::{FOUND, NOT_FOUND, TST};
 use peer_select::Kind;
+use pending_fetch::Located;
 
 impl Core {
     /// Takes a response: one that may be trusted of a neighbour counts for the round that asked it.
@@ -79,23 +82,27 @@ impl Core {
         ensures plain { self.new ≡ (tested_step self.old number n (Some kind)).0 }
         ensures actions { out.new ≡ (tested_step self.old number n (Some kind)).1 }
     {
-        let Some(start) = self.awaited_by(number, n) else {
+        let Some(awaited) = self.awaited_by(number, n) else {
             return;
         };
-        self.count(number, n, kind, start, out);
+        self.count(number, n, kind, awaited, out);
     }
 
-    /// When the round of the fetch of this number began, if a reply of the neighbour at a place counts for it.
-    fn awaited_by(&self, number: u32, n: usize) -> Option<Moment>
-        ensures { result ≡ option_map (λ (fetch : PendingFetch). fetch.round.start) (awaiting n (λ fetch. true) (fetch_of number self.now.fetches.list)) }
+    /// The fetch of this number, if a reply of the neighbour at a place counts for it.
+    fn awaited_by(&self, number: u32, n: usize) -> Option<Awaited>
+        ensures start { option_map (λ (it : AwaitedFetch). it.start) result ≡ option_map (λ (fetch : PendingFetch). fetch.round.start) (awaiting n (λ fetch. true) (fetch_of number self.now.fetches.list)) }
+        ensures place { IfSome result (λ it. place_of number self.now.fetches.list ≡ Some it.place) }
     {
-        let Some(fetch) = self.pending.fetch(number) else {
+        let Some(Located { place, fetch }) = self.located(number) else {
             return None;
         };
         if !is_awaited(&fetch, n) {
             return None;
         }
-        Some(fetch.round.began())
+        Some(Awaited {
+            place,
+            start: fetch.round.began(),
+        })
     }
 }
 

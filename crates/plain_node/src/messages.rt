@@ -1,14 +1,18 @@
 //! Messages of ICP: a query is answered, and a reply of a neighbour counts for its round.
-ghost use Rattle.std.specs.Prelude.{◌≡◌, ◌≤◌, ◌<◌, ◌+◌, ◌-◌, ◌++◌, ◌∷◌, [], ◌&&◌, length, true, Some, OnOk, OnErr, IfOk, IsOk, is_none, is_some, option_map};
+ghost use Rattle.std.specs.Prelude.{◌≡◌, ◌≤◌, ◌<◌, ◌+◌, ◌-◌, ◌++◌, ◌∷◌, [], ◌&&◌, length, true, Some, OnOk, OnErr, IfOk, IfSome, IsOk, is_none, is_some, option_map};
 ghost use Rattle.std.specs.Str.{bytes_eq};
 ghost use Rattle.icp_packet.specs.Message.{FitsOpcode, HasNoZero, spelling, url_only};
 ghost use Rattle.icp_packet.specs.Reading.{message_of};
 ghost use Rattle.icp_packet.specs.View.{shown as shown_message, shown_body};
 ghost use Rattle.bpf_run.specs.declared.ends.Socket.TheVariants.{Icp};
-ghost use Rattle.neighbours.specs.Rows.{place_of};
+ghost use Rattle.neighbours.specs.Rows.{place_of as row_of};
 ghost use Rattle.pending_fetch.specs.Fetches.{PendingFetch, fetch_of, changed, with_reply};
 ghost use Rattle.pending_fetch.specs.Calls.{told, shown};
+ghost use Rattle.pending_fetch.specs.Standing.{place_of};
+ghost use Rattle.pending_fetch.specs.declared.fetch.Located.{Located as LocatedFetch};
+ghost use Rattle.peer_select.specs.Poll.{decided};
 ghost use Rattle.plain_node.specs.declared.action.Action.{Action};
+ghost use Rattle.plain_node.specs.declared.messages.Awaited.{Awaited as AwaitedFetch};
 ghost use Rattle.plain_node.specs.PlainNode.{moved, with_fetches};
 ghost use Rattle.plain_node.specs.Messages.{read_step, body_step, kind_step, reply_step, counted_step, awaits, awaiting, heard, timed, with_time, kind_of, reply_to, reply_code};
 ghost use Rattle.plain_node.specs.Memory.{sends_none};
@@ -19,8 +23,15 @@ use crate::core_node::Core;
 use filter_slots::{End, Moment, Socket};
 use icp_packet::{EncodeFault, IcpBody, IcpView, Opcode, decode, encode};
 use peer_select::Kind;
-use pending_fetch::Fetch;
+use pending_fetch::{Fetch, Located};
 use std::alloc::Global;
+
+/// A fetch that a reply counts for: its place among the pending ones, and when its round began.
+#[derive(Clone, Copy)]
+pub struct Awaited {
+    pub place: usize,
+    pub start: Moment,
+}
 
 impl Core {
     /// Takes the octets of a datagram. Says whether they are no message.
@@ -170,8 +181,8 @@ impl Core {
     #[tactic(auto, unfolding(crate::specs::Messages::reply_step))]
     fn hear(&mut self, from: End, number: u32, url: &[u8], kind: Kind, out: &mut Out)
         requires { out.old ≡ [] }
-        ensures plain { self.new ≡ (reply_step self.old number url.now kind (place_of self.old.rows.neighbours Icp from)).0 }
-        ensures actions { out.new ≡ (reply_step self.old number url.now kind (place_of self.old.rows.neighbours Icp from)).1 }
+        ensures plain { self.new ≡ (reply_step self.old number url.now kind (row_of self.old.rows.neighbours Icp from)).0 }
+        ensures actions { out.new ≡ (reply_step self.old number url.now kind (row_of self.old.rows.neighbours Icp from)).1 }
     {
         let Some(n) = self.table.find(Socket::Icp, from) else {
             return;
@@ -188,10 +199,10 @@ impl Core {
         ensures actions { out.new ≡ (reply_step self.old number url.now kind (Some n)).1 }
     {
         self.forgive(n);
-        let Some(start) = self.awaited(number, n, url) else {
+        let Some(awaited) = self.awaited(number, n, url) else {
             return;
         };
-        self.count(number, n, kind, start, out);
+        self.count(number, n, kind, awaited, out);
     }
 
     /// The neighbour at a place has no misses.
@@ -202,33 +213,53 @@ impl Core {
         self.table.replied(n);
     }
 
-    /// When the round of the fetch of this number began, if a reply of the neighbour at a place counts for it and names its key.
-    fn awaited(&self, number: u32, n: usize, url: &[u8]) -> Option<Moment>
-        ensures { result ≡ option_map (λ (fetch : PendingFetch). fetch.round.start) (awaiting n (λ fetch. bytes_eq fetch.key url.now) (fetch_of number self.now.fetches.list)) }
+    /// The fetch of this number, if a reply of the neighbour at a place counts for it and names its key.
+    fn awaited(&self, number: u32, n: usize, url: &[u8]) -> Option<Awaited>
+        ensures start { option_map (λ (it : AwaitedFetch). it.start) result ≡ option_map (λ (fetch : PendingFetch). fetch.round.start) (awaiting n (λ fetch. bytes_eq fetch.key url.now) (fetch_of number self.now.fetches.list)) }
+        ensures place { IfSome result (λ it. place_of number self.now.fetches.list ≡ Some it.place) }
     {
-        let Some(fetch) = self.pending.fetch(number) else {
+        let Some(Located { place, fetch }) = self.located(number) else {
             return None;
         };
         if !is_awaited(&fetch, n) || fetch.key.as_slice() != url {
             return None;
         }
-        Some(fetch.round.began())
+        Some(Awaited {
+            place,
+            start: fetch.round.began(),
+        })
+    }
+
+    /// The pending fetch of this number, and where it stands.
+    pub(crate) fn located(&self, number: u32) -> Option<Located<'_>>
+        ensures fetch { option_map (λ (it : LocatedFetch). shown it.fetch) result ≡ option_map told (fetch_of number self.now.fetches.list) }
+        ensures place { IfSome result (λ it. place_of number self.now.fetches.list ≡ Some it.place) }
+    {
+        self.pending.locate(number)
     }
 
     /// A reply that counts: it is a sample of the time since the round's start, and may decide the round.
     #[tactic(auto, unfolding(crate::specs::Messages::counted_step))]
-    pub(crate) fn count(&mut self, number: u32, n: usize, kind: Kind, start: Moment, out: &mut Out)
+    pub(crate) fn count(
+        &mut self,
+        number: u32,
+        n: usize,
+        kind: Kind,
+        awaited: Awaited,
+        out: &mut Out,
+    )
         requires place { n < length self.old.rows.neighbours }
+        requires here { place_of number self.old.fetches.list ≡ Some awaited.place }
         requires empty { out.old ≡ [] }
-        ensures plain { (fetch : PendingFetch) → fetch_of number self.old.fetches.list ≡ Some fetch → fetch.round.start ≡ start →
+        ensures plain { (fetch : PendingFetch) → fetch_of number self.old.fetches.list ≡ Some fetch → fetch.round.start ≡ awaited.start →
             self.new ≡ (counted_step self.old n kind (Some fetch)).0 }
-        ensures actions { (fetch : PendingFetch) → fetch_of number self.old.fetches.list ≡ Some fetch → fetch.round.start ≡ start →
+        ensures actions { (fetch : PendingFetch) → fetch_of number self.old.fetches.list ≡ Some fetch → fetch.round.start ≡ awaited.start →
             out.new ≡ (counted_step self.old n kind (Some fetch)).1 }
     {
-        self.sample(n, start);
-        self.add_reply(number, n, kind);
+        self.sample(n, awaited.start);
+        let is_decided = self.add_reply(number, awaited.place, n, kind);
         self.few_waiters(number);
-        self.decide(number, out);
+        self.decide_at(number, awaited.place, is_decided, out);
     }
 
     /// The neighbour at a place took the time since a moment.
@@ -240,13 +271,17 @@ impl Core {
         self.table.sample(n, waited);
     }
 
-    /// A reply of the neighbour at a place is added to the round of this fetch.
-    fn add_reply(&mut self, number: u32, n: usize, kind: Kind)
-        requires { n < length self.old.rows.neighbours }
-        ensures { self.new ≡ with_fetches self.old (changed (with_reply (with_time self.old n kind)) number self.old.fetches.list) }
+    /// A reply of the neighbour at place n is added to the round of this fetch. Whether the round is decided then.
+    fn add_reply(&mut self, number: u32, place: usize, n: usize, kind: Kind) -> bool
+        requires place { n < length self.old.rows.neighbours }
+        requires here { place_of number self.old.fetches.list ≡ Some place }
+        ensures node { self.new ≡ with_fetches self.old (changed (with_reply (with_time self.old n kind)) number self.old.fetches.list) }
+        ensures here { place_of number self.new.fetches.list ≡ Some place }
+        ensures decided { (f : PendingFetch) → fetch_of number self.new.fetches.list ≡ Some f → result ≡ decided f.round }
     {
         let s = self.table.time(n).unwrap_or(0);
-        self.pending.reply(number, &self.table, n, kind, s);
+        self.pending
+            .reply_at(number, place, &self.table, n, kind, s)
     }
 }
 

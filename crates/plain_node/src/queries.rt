@@ -1,16 +1,19 @@
 //! The queries that a shared fetch sends to the neighbours.
-ghost use Rattle.std.specs.Prelude.{◌≡◌, ◌≤◌, [], length, slice_get, option_copied, IfOk, OnOk, OnErr};
+ghost use Rattle.std.specs.Prelude.{◌≡◌, ◌≤◌, [], length, slice_get, option_copied, None, IfOk, OnOk, OnErr};
 ghost use Rattle.icp_packet.specs.Message.{spelling};
 ghost use Rattle.pending_fetch.specs.Fetches.{next_number};
 ghost use Rattle.plain_node.specs.Requests.{queries, query_by, icp_query, htcp_query, key_named};
+ghost use Rattle.htcp_packet.specs.Writing.{message_text, without_auth};
+ghost use Rattle.plain_node.specs.Common.{IsCommon};
 ghost use Rattle.plain_node.specs.Fitting.{asking};
 ghost use Rattle.plain_node.specs.PlainNode.{moved};
 ghost use Rattle.plain_node.specs.Signatures.{text_to};
 ghost use Rattle.htcp_packet.specs.View.{shown as shown_htcp};
 
 use crate::NoMemory;
-use crate::action::{Action, Out, Payload};
+use crate::action::{Action, Out, Payload, SharedOctets};
 use crate::core_node::Core;
+use crate::signatures::unsigned;
 use filter_slots::Moment;
 use htcp_packet::codes::TST;
 use htcp_packet::{HtcpAuth, HtcpBody, HtcpView, Specifier};
@@ -63,9 +66,10 @@ impl Core {
         ensures err { OnErr result (out.new ≡ []) }
     {
         self.few();
+        let mut common = Common::new();
         let mut n = 0;
         while let Some(neighbour) = self.neighbour(n) {
-            match self.query_to(alloc, neighbour, number, key, clock) {
+            match self.query_to(alloc, neighbour, number, key, clock, &mut common) {
                 Ok(action) => out.push(action),
                 Err(e) => {
                     out.clear();
@@ -99,19 +103,22 @@ impl Core {
         number: u32,
         key: &CacheKey,
         clock: Moment,
+        common: &mut Common,
     ) -> Result<Action, NoMemory>
-        ensures { IfOk result (λ action. action ≡ query_by (record self.now { clock = clock }) number key.now neighbour.now neighbour.now.protocol) }
+        requires { IsCommon self.now number key.now common.old }
+        ensures action { IfOk result (λ action. action ≡ query_by (record self.now { clock = clock }) number key.now neighbour.now neighbour.now.protocol) }
+        ensures common { IsCommon self.now number key.now common.new }
     {
         match neighbour.protocol {
             Socket::Icp => Ok(Action::Send {
                 socket: Socket::Icp,
                 to: neighbour.end,
-                payload: self.icp_query(alloc, number, key)?,
+                payload: self.icp_query(alloc, number, key, common)?,
             }),
             Socket::Htcp => Ok(Action::Send {
                 socket: Socket::Htcp,
                 to: neighbour.end,
-                payload: self.htcp_query(alloc, neighbour, number, key, clock)?,
+                payload: self.htcp_query(alloc, neighbour, number, key, clock, common)?,
             }),
         }
     }
@@ -124,22 +131,67 @@ impl Core {
         number: u32,
         key: &CacheKey,
         clock: Moment,
+        common: &mut Common,
     ) -> Result<Payload, NoMemory>
-        ensures { IfOk result (λ payload. payload ≡ text_to (record self.now { clock = clock }) neighbour.now.end (htcp_query number key.now) (key_named self.now neighbour.now.key)) }
+        requires { IsCommon self.now number key.now common.old }
+        ensures payload { IfOk result (λ payload. payload ≡ text_to (record self.now { clock = clock }) neighbour.now.end (htcp_query number key.now) (key_named self.now neighbour.now.key)) }
+        ensures common { IsCommon self.now number key.now common.new }
     {
+        let signer = self.key_named(&neighbour.key);
+        if signer.is_none() {
+            return self.unsigned_query(alloc, number, key, common);
+        }
         let view = tested(number, key.as_slice());
-        self.text_to(
-            alloc,
-            clock,
-            neighbour.end,
-            &view,
-            self.key_named(&neighbour.key),
-        )
+        self.text_to(alloc, clock, neighbour.end, &view, signer)
     }
 
-    /// The query by ICP (RFC 2186).
-    fn icp_query(&self, alloc: Global, number: u32, key: &CacheKey) -> Result<Payload, NoMemory>
-        ensures { IfOk result (λ payload. payload ≡ spelling (icp_query self.now number key.now)) }
+    /// The query by HTCP without a signature, which is the same for all such neighbours.
+    fn unsigned_query(
+        &self,
+        alloc: Global,
+        number: u32,
+        key: &CacheKey,
+        common: &mut Common,
+    ) -> Result<Payload, NoMemory>
+        requires { IsCommon self.now number key.now common.old }
+        ensures payload { IfOk result (λ payload. payload ≡ message_text (without_auth (htcp_query number key.now))) }
+        ensures common { IsCommon self.now number key.now common.new }
+    {
+        if let Some(octets) = &common.htcp {
+            return Payload::of(octets);
+        }
+        let octets = unsigned(alloc, &tested(number, key.as_slice()))?;
+        let octets = SharedOctets::new(alloc, octets)?;
+        let payload = Payload::of(&octets)?;
+        common.htcp = Some(octets);
+        Ok(payload)
+    }
+
+    /// The query by ICP (RFC 2186), which is the same for all neighbours.
+    fn icp_query(
+        &self,
+        alloc: Global,
+        number: u32,
+        key: &CacheKey,
+        common: &mut Common,
+    ) -> Result<Payload, NoMemory>
+        requires { IsCommon self.now number key.now common.old }
+        ensures payload { IfOk result (λ payload. payload ≡ spelling (icp_query self.now number key.now)) }
+        ensures common { IsCommon self.now number key.now common.new }
+    {
+        if let Some(octets) = &common.icp {
+            return Payload::of(octets);
+        }
+        let octets = self.icp_octets(alloc, number, key)?;
+        let octets = SharedOctets::new(alloc, octets)?;
+        let payload = Payload::of(&octets)?;
+        common.icp = Some(octets);
+        Ok(payload)
+    }
+
+    /// The octets of the query by ICP.
+    fn icp_octets(&self, alloc: Global, number: u32, key: &CacheKey) -> Result<Vec<u8>, NoMemory>
+        ensures { IfOk result (λ octets. octets.items ≡ spelling (icp_query self.now number key.now)) }
     {
         let url = key.as_slice();
         let view = IcpView {
@@ -154,9 +206,29 @@ impl Core {
             },
         };
         match encode(alloc, &view) {
-            Ok(octets) => Ok(Payload::new(octets)),
+            Ok(octets) => Ok(octets),
             Err(EncodeFault::NoMemory) => Err(NoMemory),
             Err(EncodeFault::TooLong) => unreachable!(),
+        }
+    }
+}
+
+/// The octets that the queries of one fetch have in common, from the first neighbour on that gets them.
+#[derive(Drop)]
+pub struct Common {
+    icp: Option<SharedOctets>,
+    htcp: Option<SharedOctets>,
+}
+
+impl Common {
+    /// None is written.
+    fn new() -> Common
+        ensures icp { result.icp ≡ None }
+        ensures htcp { result.htcp ≡ None }
+    {
+        Common {
+            icp: None,
+            htcp: None,
         }
     }
 }

@@ -310,7 +310,7 @@ impl Core {
         }
     }
 
-    /// Asks the store for a key: a fresh pair is moved to the front, a stale one is taken out.
+    /// Asks the store for a key, which puts a fresh pair first and drops a stale one.
     fn look_up(&mut self, key: &CacheKey)
         ensures { self.new ≡ looked_up self.old key.now }
     {

@@ -135,13 +135,13 @@ impl Core {
         ensures { IfOk result (λ payload. payload ≡ text_to (record self.now { clock = clock }) to (shown view.now) (option_map shown_key key.entry)) }
     {
         match key {
-            None => unsigned(alloc, view),
+            None => Ok(Payload::new(unsigned(alloc, view)?)),
             Some(key) => self.signed_to(alloc, clock, to, view, key),
         }
     }
 
     /// The octets of a message to a receiver at a moment, signed with a key.
-    fn signed_to(
+    pub(crate) fn signed_to(
         &self,
         alloc: Global,
         clock: Moment,
@@ -192,13 +192,13 @@ fn signed(
 }
 
 /// The octets of a message without a signature.
-fn unsigned(alloc: Global, view: &HtcpView<'_>) -> Result<Payload, NoMemory>
+pub(crate) fn unsigned(alloc: Global, view: &HtcpView<'_>) -> Result<Vec<u8>, NoMemory>
     requires writable { IsWritable (shown view.now) }
     requires short { length (body_text (shown_body view.now.body)) ≤ 65000 }
-    ensures { IfOk result (λ payload. payload ≡ message_text (without_auth (shown view.now))) }
+    ensures { IfOk result (λ octets. octets.items ≡ message_text (without_auth (shown view.now))) }
 {
     match encode(alloc, view) {
-        Ok(octets) => Ok(Payload::new(octets)),
+        Ok(octets) => Ok(octets),
         Err(EncodeFault::NoMemory) => Err(NoMemory),
         Err(EncodeFault::TooLong) => unreachable!(),
     }

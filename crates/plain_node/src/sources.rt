@@ -4,6 +4,7 @@ ghost use Rattle.peer_select.specs.declared.reply.Source.{Source};
 ghost use Rattle.peer_select.specs.Poll.{decided, matches};
 ghost use Rattle.pending_fetch.specs.Fetches.{PendingFetch, fetch_of, waiters_of};
 ghost use Rattle.pending_fetch.specs.Calls.{told, shown};
+ghost use Rattle.pending_fetch.specs.Standing.{place_of};
 ghost use Rattle.plain_node.specs.declared.action.Action.TheVariants.{Fetch};
 ghost use Rattle.plain_node.specs.declared.action.Answer.TheVariants.{Fail};
 ghost use Rattle.plain_node.specs.PlainNode.{closed, serves};
@@ -29,6 +30,21 @@ impl Core {
         }
     }
 
+    /// The same for the fetch of this number that stands at this place, where the caller knows whether its round is decided.
+    #[tactic(auto, unfolding(crate::specs::Sources::decision_step))]
+    pub(crate) fn decide_at(&mut self, number: u32, place: usize, is_decided: bool, out: &mut Out)
+        requires room { length out.old + 1 + length (waiters_of number self.old.fetches.list) ≤ 1344 }
+        requires here { place_of number self.old.fetches.list ≡ Some place }
+        requires decided { (f : PendingFetch) → fetch_of number self.old.fetches.list ≡ Some f → is_decided ≡ decided f.round }
+        ensures node { (f : PendingFetch) → fetch_of number self.old.fetches.list ≡ Some f → self.new ≡ (decision_step self.old f).0 }
+        ensures actions { (f : PendingFetch) → fetch_of number self.old.fetches.list ≡ Some f → out.new ≡ out.old ++ (decision_step self.old f).1 }
+    {
+        if is_decided {
+            let action = self.attempt_at(number, place);
+            self.follow(number, action, 503, out);
+        }
+    }
+
     /// The fetch of this number goes to the source of its attempt. Where there is none, each waiter is told this status, and
     /// the fetch is closed.
     #[tactic(auto, unfolding(crate::specs::Sources::tried))]
@@ -37,7 +53,20 @@ impl Core {
         ensures node { (f : PendingFetch) → fetch_of number self.old.fetches.list ≡ Some f → self.new ≡ (tried self.old status f (source_of self.old f)).0 }
         ensures actions { (f : PendingFetch) → fetch_of number self.old.fetches.list ≡ Some f → out.new ≡ out.old ++ (tried self.old status f (source_of self.old f)).1 }
     {
-        match self.attempt(number) {
+        let action = self.attempt(number);
+        self.follow(number, action, status, out);
+    }
+
+    /// The same, by what the fetch of this number does at its attempt.
+    #[tactic(auto, unfolding(crate::specs::Sources::tried))]
+    fn follow(&mut self, number: u32, action: Option<Action>, status: u16, out: &mut Out)
+        requires room { length out.old + 1 + length (waiters_of number self.old.fetches.list) ≤ 1344 }
+        requires attempt { (f : PendingFetch) → fetch_of number self.old.fetches.list ≡ Some f →
+            action ≡ option_map (λ (source : Source). Fetch number f.attempt source (is_sibling_source self.old.rows.neighbours source) f.owner) (source_of self.old f) }
+        ensures node { (f : PendingFetch) → fetch_of number self.old.fetches.list ≡ Some f → self.new ≡ (tried self.old status f (source_of self.old f)).0 }
+        ensures actions { (f : PendingFetch) → fetch_of number self.old.fetches.list ≡ Some f → out.new ≡ out.old ++ (tried self.old status f (source_of self.old f)).1 }
+    {
+        match action {
             Some(action) => out.push(action),
             None => self.give_up(number, status, out),
         }
@@ -77,6 +106,25 @@ impl Core {
             result ≡ option_map (λ (source : Source). Fetch number f.attempt source (is_sibling_source self.now.rows.neighbours source) f.owner) (source_of self.now f) }
     {
         let fetch = self.held(number)?;
+        self.attempt_of(number, fetch)
+    }
+
+    /// The same for the fetch of this number that stands at this place.
+    fn attempt_at(&self, number: u32, place: usize) -> Option<Action>
+        requires { place_of number self.now.fetches.list ≡ Some place }
+        ensures { (f : PendingFetch) → fetch_of number self.now.fetches.list ≡ Some f →
+            result ≡ option_map (λ (source : Source). Fetch number f.attempt source (is_sibling_source self.now.rows.neighbours source) f.owner) (source_of self.now f) }
+    {
+        let fetch = self.held_at(number, place);
+        self.attempt_of(number, fetch)
+    }
+
+    /// A fetch under its number at its attempt, where it has a source.
+    fn attempt_of(&self, number: u32, fetch: Pended<'_>) -> Option<Action>
+        requires { matches self.now.rows.neighbours fetch.round.now.peers ≡ true }
+        ensures { (f : PendingFetch) → shown fetch.entry ≡ told f →
+            result ≡ option_map (λ (source : Source). Fetch number f.attempt source (is_sibling_source self.now.rows.neighbours source) f.owner) (source_of self.now f) }
+    {
         let source = self.source(fetch)?;
         Some(Action::Fetch {
             fetch: number,
@@ -124,6 +172,15 @@ impl Core {
         ensures matching { IfSome result (λ fetch. matches self.now.rows.neighbours fetch.round.now.peers ≡ true) }
     {
         self.pending.fetch(number)
+    }
+
+    /// The pending fetch of this number, which stands at this place.
+    fn held_at(&self, number: u32, place: usize) -> Pended<'_>
+        requires { place_of number self.now.fetches.list ≡ Some place }
+        ensures held { Some (shown result) ≡ option_map told (fetch_of number self.now.fetches.list) }
+        ensures matching { matches self.now.rows.neighbours result.round.now.peers ≡ true }
+    {
+        self.pending.fetch_at(number, place)
     }
 }
 

@@ -4,7 +4,7 @@ ghost use Rattle.std.specs.List.{flat_map};
 ghost use Rattle.md5.specs.Md5.{Holds, md5};
 ghost use Rattle.object_store.specs.Object.{spelled_number, spelled_octets};
 ghost use Rattle.plain_node.specs.declared.action.Action.TheVariants as action;
-ghost use Rattle.plain_node.specs.Tally.{how_many, kind_of, spelled, spelled_end, spelled_flag, spelled_owner, spelled_socket, spelled_source, tally_of};
+ghost use Rattle.plain_node.specs.Tally.{how_many, action_kind, spelled, spelled_end, spelled_flag, spelled_owner, spelled_socket, spelled_source, tally_of};
 
 use crate::{Action, Answer, Out};
 use filter_slots::{End, Socket};
@@ -55,8 +55,8 @@ impl Out {
 }
 
 // The kind of an action, as it is counted and spelled.
-fn kind_of(action: &Action) -> u8
-    ensures { result ≡ kind_of action.now }
+fn action_kind(action: &Action) -> u8
+    ensures { result ≡ action_kind action.now }
 {
     match action {
         Action::Send { .. } => 0,
@@ -82,7 +82,7 @@ fn how_many(kind: u8, actions: &[Action]) -> u64
 {
     actions
         .iter()
-        .filter(|action| kind_of(action) == kind)
+        .filter(|action| action_kind(action) == kind)
         .count() as u64
 }
 

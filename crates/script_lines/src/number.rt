@@ -27,40 +27,28 @@ pub(crate) fn number(text: &[u8], most: u64) -> Option<u64>
 pub(crate) fn octet(text: &[u8]) -> Option<u8>
     ensures { result ≡ number 255 text.now }
 {
-    match number(text, 255) {
-        Some(n) => Some(n as u8),
-        None => None,
-    }
+    Some(number(text, 255)? as u8)
 }
 
 /// A number of 16 bits.
 pub(crate) fn half(text: &[u8]) -> Option<u16>
     ensures { result ≡ number 65535 text.now }
 {
-    match number(text, 65_535) {
-        Some(n) => Some(n as u16),
-        None => None,
-    }
+    Some(number(text, 65_535)? as u16)
 }
 
 /// A number of 32 bits.
 pub(crate) fn word(text: &[u8]) -> Option<u32>
     ensures { result ≡ number 4294967295 text.now }
 {
-    match number(text, 4_294_967_295) {
-        Some(n) => Some(n as u32),
-        None => None,
-    }
+    Some(number(text, 4_294_967_295)? as u32)
 }
 
 /// The length of a prefix, at most 32.
 pub(crate) fn prefix(text: &[u8]) -> Option<u8>
     ensures { result ≡ number 32 text.now }
 {
-    match number(text, 32) {
-        Some(n) => Some(n as u8),
-        None => None,
-    }
+    Some(number(text, 32)? as u8)
 }
 
 /// A moment, in milliseconds.

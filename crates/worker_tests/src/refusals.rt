@@ -56,15 +56,17 @@ const FAILED_SECOND: Handed = Handed {
     is_object: false,
 };
 
+/// Nothing is refused.
+const NOTHING: Left = Left {
+    objects: 0,
+    failures: 0,
+    keys: 0,
+    passes: 0,
+};
+
 const ROWS: [Row; 6] = [
-    // Nothing is refused.
     Row {
-        left: Left {
-            objects: 0,
-            failures: 0,
-            keys: 0,
-            passes: 0,
-        },
+        left: NOTHING,
         results: &[GOT_FIRST],
         fetched: 1,
         got: 2,
@@ -76,8 +78,7 @@ const ROWS: [Row; 6] = [
         left: Left {
             objects: 1,
             failures: 3,
-            keys: 0,
-            passes: 0,
+            ..NOTHING
         },
         results: &[
             GOT_FIRST,
@@ -96,9 +97,7 @@ const ROWS: [Row; 6] = [
     Row {
         left: Left {
             objects: 9,
-            failures: 0,
-            keys: 0,
-            passes: 0,
+            ..NOTHING
         },
         results: &[GOT_FIRST, FAILED_FIRST, GOT_SECOND, FAILED_SECOND],
         fetched: 2,
@@ -108,12 +107,7 @@ const ROWS: [Row; 6] = [
     },
     // The key is refused: nothing is fetched at the first attempt.
     Row {
-        left: Left {
-            objects: 0,
-            failures: 0,
-            keys: 1,
-            passes: 0,
-        },
+        left: Left { keys: 1, ..NOTHING },
         results: &[FAILED_FIRST, GOT_SECOND],
         fetched: 1,
         got: 2,
@@ -122,12 +116,7 @@ const ROWS: [Row; 6] = [
     },
     // The key is refused each time.
     Row {
-        left: Left {
-            objects: 0,
-            failures: 0,
-            keys: 2,
-            passes: 0,
-        },
+        left: Left { keys: 2, ..NOTHING },
         results: &[FAILED_FIRST, FAILED_SECOND],
         fetched: 0,
         got: 0,
@@ -137,10 +126,8 @@ const ROWS: [Row; 6] = [
     // An answer is not passed on.
     Row {
         left: Left {
-            objects: 0,
-            failures: 0,
-            keys: 0,
             passes: 1,
+            ..NOTHING
         },
         results: &[GOT_FIRST],
         fetched: 1,

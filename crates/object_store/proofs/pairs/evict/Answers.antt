@@ -1,6 +1,6 @@
 use Rattle.std.proofs.Common.{◌≡◌, ◌-◌, List, length, take, ap, sym, ◌∙◌}
 use Rattle.std.proofs.lemmas.Bool.{iff_false}
-use Rattle.object_store.specs.Pairs.{Pair, cut, octets_of}
+use Rattle.object_store.specs.Pairs.{Pair, cut, total_size}
 use Rattle.object_store.proofs.CutLemmas.{cut-drop, cut-whole}
 use Rattle.object_store.proofs.PairLemmas.{cache-is}
 use Rattle.object_store.proofs.pairs.evict.Goals as goal
@@ -12,7 +12,7 @@ full-preserved c =
       cut = ap (λ (es : List Pair). cut c.args.most_entries c.args.most_octets es) rest
           ∙ cut-drop c.args.most_entries c.args.most_octets c.full.pairs.entries (iff_false c.are_within.ensures c.full-test.true)
           ∙ c.full.invariant.cut;
-      sum = c.drop_last-rest.ensures.sum ∙ ap octets_of (sym rest);
+      sum = c.drop_last-rest.ensures.sum ∙ ap total_size (sym rest);
       cap = ap (λ p. p.cap) c.drop_last-rest.ensures.pairs ∙ c.full.invariant.cap;
     }
 
@@ -25,4 +25,4 @@ returns-clause-pairs c =
 pub returns-clause-sum : goal.returns-clause-sum
 returns-clause-sum c =
     c.full.invariant.sum
-    ∙ ap octets_of (sym (cut-whole c.args.most_entries c.args.most_octets c.full.pairs.entries (c.are_within.ensures.0 c.full-test.false)) ∙ c.full.invariant.cut)
+    ∙ ap total_size (sym (cut-whole c.args.most_entries c.args.most_octets c.full.pairs.entries (c.are_within.ensures.0 c.full-test.false)) ∙ c.full.invariant.cut)

@@ -1,12 +1,12 @@
 use Rattle.std.proofs.Common.{◌≡◌, length}
-use Rattle.object_store.specs.Pairs.{cut, octets_of}
+use Rattle.object_store.specs.Pairs.{cut, total_size}
 use Rattle.object_store.proofs.pairs.evict.Given as goal
 
 -- what is left is cut to the same front, and the sum is kept
 abbrev pub invariant-full : goal.invariant-full
 invariant-full l = record {
   cut : cut l.most_entries l.most_octets l.pairs.entries ≡ cut l.most_entries l.most_octets l.fn.pairs.entries;
-  sum : l.rest ≡ octets_of l.pairs.entries;
+  sum : l.rest ≡ total_size l.pairs.entries;
   cap : l.pairs.cap ≡ l.fn.pairs.cap;
 }
 

@@ -1,36 +1,13 @@
-use Rattle.std.proofs.Common.{ℕ, None, Some, refl, length, ap, sym, ◌∙◌, arith, vec_capacity}
-use Rattle.pending_fetch.specs.Fetches.{Fetches, PendingFetch, changed, with_reply, fetch_of, has_number}
-use Rattle.std.specs.Prelude.{is_some}
-use Rattle.peer_select.specs.Poll.{decided}
-use Rattle.pending_fetch.specs.Calls.{fits}
-use Rattle.pending_fetch.proofs.Keeping.{Keeps-reply}
-use Rattle.pending_fetch.proofs.Queues.{queue_after, entries_distinct}
-use Rattle.pending_fetch.proofs.Calling.{put_view, KeepsKey-reply, indexed_changed, order_changed, some_found}
+use Rattle.std.proofs.Common.{ap, sym, ◌∙◌}
+use Rattle.pending_fetch.specs.Fetches.{with_reply}
+use Rattle.pending_fetch.proofs.Spots.{none_changed, present, absent}
 use Rattle.pending_fetch.proofs.pending.Pending.reply.Goals as goal
 
-pub settle-requires : goal.settle-requires
-settle-requires c = entries_distinct (vec_capacity c.self.inside.undecided) c.self.inside.undecided.items c.self.inside.slots.items c.self.invariant.1 c.self.invariant.0.legal.numbered
+pub returns-in_default-clause-list : goal.returns-in_default-clause-list
+returns-in_default-clause-list c = ap (λ list. record c.args.self.now { list = list }) (none_changed (with_reply (record { s = c.args.s; n = c.args.n; kind = c.args.kind })) c.args.number c.args.self.now.list (sym c.place.ensures ∙ c.in_default.is))
 
-pub invariant_of-self : goal.invariant_of-self
-invariant_of-self c = (
-  indexed_changed (with_reply (record { s = c.args.s; n = c.args.n; kind = c.args.kind })) c.args.number c.self.inside.slots.items c.reply_in-decided.new.slots.items c.self.inside.keys c.self.inside.clients
-      (Keeps-reply (record { s = c.args.s; n = c.args.n; kind = c.args.kind }) c.matching_law.ensures.start_replied) (KeepsKey-reply (record { s = c.args.s; n = c.args.n; kind = c.args.kind })) c.self.invariant.0 c.reply_in-decided.ensures.list,
-  queue_after (with_reply (record { s = c.args.s; n = c.args.n; kind = c.args.kind })) c.args.number (vec_capacity c.self.inside.undecided) (vec_capacity c.settle.new.queue) c.self.inside.slots.items c.reply_in-decided.new.slots.items c.self.inside.undecided.items c.settle.new.queue.items c.reply_in-decided.result
-      (Keeps-reply (record { s = c.args.s; n = c.args.n; kind = c.args.kind }) c.matching_law.ensures.start_replied)
-      (λ f d. ap decided (c.unchanged_law.ensures.reply f.round (record { s = c.args.s; n = c.args.n; kind = c.args.kind }) d) ∙ d)
-      c.self.invariant.0.legal.numbered c.self.invariant.1 c.settle.ensures.room c.reply_in-decided.ensures.list c.reply_in-decided.ensures.decided c.settle.ensures.items,
-  order_changed (with_reply (record { s = c.args.s; n = c.args.n; kind = c.args.kind })) (λ f. refl) c.args.number c.self.inside.order c.self.inside.slots.items c.reply_in-decided.new.slots.items c.self.invariant.2 c.reply_in-decided.ensures.list,
-)
-
-pub returns-clause-list : goal.returns-clause-list
-returns-clause-list c =
-    put_view c.self.inside.last c.reply_in-decided.new.slots.items c.self.inside.slots.items (changed (with_reply (record { s = c.args.s; n = c.args.n; kind = c.args.kind })) c.args.number) c.args.self.now c.reply_in-decided.ensures.list c.self.view_is
+pub returns-in_default-clause-found : goal.returns-in_default-clause-found
+returns-in_default-clause-found c = sym (absent c.args.number c.args.self.now.list (sym c.place.ensures ∙ c.in_default.is))
 
 pub returns-clause-found : goal.returns-clause-found
-returns-clause-found c =
-    c.is_some.ensures ∙ ap is_some c.reply_in-decided.ensures.decided
-    ∙ some_found (λ (f : PendingFetch). decided (with_reply (record { s = c.args.s; n = c.args.n; kind = c.args.kind }) f).round) c.args.number c.self.inside.slots.items ∙ ap (λ (w : Fetches). has_number c.args.number w.list) c.self.view_is
-
-pub reply_in-decided-requires-clause-table : goal.reply_in-decided-requires-clause-table
-reply_in-decided-requires-clause-table c =
-    ap (λ (w : Fetches). fits c.args.table.now.neighbours (fetch_of c.args.number w.list)) c.self.view_is ∙ c.requires.table
+returns-clause-found c = sym (present c.args.number c.args.self.now.list c.in-Some.place (sym c.place.ensures ∙ c.in-Some.is))

@@ -2,7 +2,7 @@ use Rattle.std.proofs.Common.{◌≡◌, ℕ, ◌+◌, ◌<◌, sym, ap, ◌∙�
 use Rattle.std.proofs.lemmas.Option.{slice_get-get_or}
 use Rattle.filter_slots.specs.Senders.{buckets}
 use Rattle.filter_slots.proofs.Chains.{walk-last, walk-later, walk-within, walk-end, walk-smaller}
-use Rattle.filter_slots.proofs.senders.Senders.find.Goals as goal
+use Rattle.filter_slots.proofs.senders.Senders.follow.Goals as goal
 
 pub loop-link-smaller : goal.loop-link-smaller
 loop-link-smaller c =

@@ -2,7 +2,7 @@ use Rattle.std.proofs.Common.{◌≡◌, ℕ, ◌+◌, ◌<◌, ◌≤◌, lengt
 use Rattle.std.specs.Prelude.{slice_get}
 use Rattle.filter_slots.specs.Senders.{pair_of, bucket_of, buckets, IsLast}
 use Rattle.filter_slots.proofs.Chains.{places_left}
-use Rattle.filter_slots.proofs.senders.Senders.find.Given as goal
+use Rattle.filter_slots.proofs.senders.Senders.follow.Given as goal
 
 -- the pair is nowhere from the limit on, and the link is to the last place of its bucket before the limit
 abbrev pub invariant-loop-link : goal.invariant-loop-link
