@@ -22,6 +22,3 @@ mod token;
 pub use assembly::assemble;
 pub use fault::AsmFault;
 pub use text::{NoMemory, to_text};
-
-#[cfg(test)]
-mod tests;

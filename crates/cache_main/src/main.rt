@@ -91,8 +91,3 @@ fn run_feed(rt: &HostRuntime) -> ExitCode {
         }
     }
 }
-
-#[cfg(test)]
-mod event_tests;
-#[cfg(test)]
-mod node_tests;

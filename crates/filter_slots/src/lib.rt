@@ -21,6 +21,3 @@ pub use judged::Judged;
 pub use slot::{NoSlot, Slot};
 pub use slots::Slots;
 pub use std::alloc::AllocError as NoMemory;
-
-#[cfg(test)]
-mod tests;

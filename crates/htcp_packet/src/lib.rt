@@ -21,6 +21,3 @@ pub use reading::decode;
 pub use signing::sign;
 pub use verifying::{Sign, verify};
 pub use writing::encode;
-
-#[cfg(test)]
-mod tests;

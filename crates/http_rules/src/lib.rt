@@ -17,6 +17,3 @@ pub use forwarding::{end_to_end, is_hop_by_hop};
 pub use request::classify;
 pub use response::may_store;
 pub use target::{TargetFault, key_of, key_of_url};
-
-#[cfg(test)]
-mod tests;

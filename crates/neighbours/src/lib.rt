@@ -22,6 +22,3 @@ pub use octets::Octets;
 pub use rank::{Ranked, is_before};
 pub use std::alloc::AllocError as NoMemory;
 pub use table::{Mark, Table};
-
-#[cfg(test)]
-mod tests;

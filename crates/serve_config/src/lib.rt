@@ -11,6 +11,3 @@ mod value;
 
 pub use fault::Fault;
 pub use settings::Settings;
-
-#[cfg(test)]
-mod tests;

@@ -1,6 +1,6 @@
 //! Tables of texts, with what they stand for.
 
-use crate::{assemble, to_text};
+use bpf_asm::{assemble, to_text};
 use bpf_check::{Insn, check, read_listing};
 use std::alloc::Global;
 use std::test::Fail;

@@ -1,4 +1,6 @@
-use super::*;
+//! Configurations of `serve` that are read, and those that are refused.
+
+use serve_config::Settings;
 use std::alloc::Global;
 use std::test::Fail;
 

@@ -1,7 +1,7 @@
 //! One datagram under each program, and slots that are filled, shared and emptied.
 
-use crate::{Checked, Datagram, End, Judged, NoSlot, Slot, Slots, Socket, Verdict, cut};
 use bpf_check::{Insn, check};
+use filter_slots::{Checked, Datagram, End, Judged, NoSlot, Slot, Slots, Socket, Verdict, cut};
 use std::sync::Arc;
 use std::test::Fail;
 

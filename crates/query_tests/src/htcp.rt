@@ -1,4 +1,9 @@
-use super::*;
+//! HTCP messages read, written, signed, verified and cut.
+
+use htcp_packet::{
+    Detail, EncodeFault, Form, HtcpAuth, HtcpBody, HtcpFault, HtcpView, Sign, Specifier, decode,
+    encode, sign, verify,
+};
 use std::test::*;
 
 // A request TST of `http://a/` with number 9.

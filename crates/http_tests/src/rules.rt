@@ -1,5 +1,7 @@
-use super::*;
+//! Which requests are private, what may be stored and for how long, the key of a URL, and what is forwarded.
+
 use http_header::{HeaderMap, HeaderName, HeaderValue};
+use http_rules::{TargetFault, classify, end_to_end, key_of, may_store};
 use node_core::Mode;
 use std::alloc::Global;
 use std::test::Fail;

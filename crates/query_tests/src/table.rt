@@ -1,4 +1,6 @@
-use crate::{ConfigFault, End, Key, Neighbour, Octets, Ranked, Role, Socket, Table};
+//! Tables of neighbours: what is refused, and what a round knows of them.
+
+use neighbours::{ConfigFault, End, Key, Neighbour, Octets, Ranked, Role, Socket, Table};
 use std::alloc::{AllocError, Global};
 
 // A neighbour at 10.0.0.(its last octet), with a key of one octet or none.

@@ -1,0 +1,7 @@
+//! Tests of the node: at one event, and over whole lists.
+#![tactic(auto)]
+
+#[cfg(test)]
+mod events;
+#[cfg(test)]
+mod runs;
