@@ -1,9 +1,10 @@
 //! The node at one event, and the configurations that it refuses.
 
+use crate::calls::{is_taken, outs_of};
 use bpf_check::{Insn, check};
 use filter_slots::{Datagram, End, Moment, Slot, Socket};
 use neighbours::{ConfigFault, Neighbour, Role};
-use node_core::{Action, Config, Event, Network, Node, NodeFault, Out, run_events};
+use node_core::{Action, Config, Event, Network, Node, NodeFault, Out};
 use std::alloc::Global;
 use std::sync::Arc;
 use std::test::*;
@@ -127,20 +128,31 @@ fn is_answered(alloc: Global, row: &Row) -> Result<bool, Fail> {
     let mut node = new_node(alloc)?;
     let mut out = Out::new(alloc)?;
     let event = arrival(alloc, row)?;
-    node.step(alloc, &event, &mut out)?;
-    Ok(is_sent(&out, row.reply))
+    Ok(is_taken(alloc, &mut node, &event, &mut out) && is_sent(&out, row.reply))
+}
+
+/// A swap, and then the query of a row.
+fn swap_and_query(alloc: Global, row: &Row) -> Result<Vec<Event>, Fail> {
+    let mut events = Vec::new(alloc);
+    events.push(swap(alloc)?)?;
+    events.push(arrival(alloc, row)?)?;
+    Ok(events)
+}
+
+/// Whether the second of two events sends the reply.
+fn is_sent_second(outs: &[Out], reply: &[u8]) -> bool {
+    match outs {
+        [_, second] => is_sent(second, reply),
+        _ => false,
+    }
 }
 
 /// Whether a query after a swap, in a list of events, gets its reply.
 fn is_answered_in_list(alloc: Global, row: &Row) -> Result<bool, Fail> {
+    let events = swap_and_query(alloc, row)?;
     let mut node = new_node(alloc)?;
-    let mut events = Vec::new(alloc);
-    events.push(swap(alloc)?)?;
-    events.push(arrival(alloc, row)?)?;
-    let outs = run_events(alloc, &mut node, &events)
-        .ok()
-        .ok_or("memory is there")?;
-    Ok(is_sent(outs.get(1).ok_or("a list for each event")?, row.reply))
+    let outs = outs_of(alloc, &mut node, &events).ok_or("memory is there")?;
+    Ok(is_sent_second(&outs, row.reply))
 }
 
 #[test]
