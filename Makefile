@@ -9,7 +9,7 @@
 #   make interop the proxy beside a real squid (it needs squid and curl, and says so)
 #   make load    a mixed load for eleven minutes (it needs wrk, curl and a C compiler)
 #   make bench   measures (it needs valgrind; wrk, nginx and squid where they are)
-#   make sweep   refuses each request for memory of each script case once; `make test` does a part of them
+#   make sweep   refuses each request for memory of each script case, and of the stories of `refusals`, once; `make test` a part
 #   make storm   100,000,000 events by chance for two nodes, which have to do the same; `make test` does 300,000
 
 PROGRAM = crates/cache_main/out/cache_main
@@ -61,7 +61,7 @@ hostile:
 	@tests/serve_hostile $(PROGRAM)
 
 sweep:
-	@tools/sweep $(PROGRAM) cases
+	@tools/sweep $(PROGRAM) cases --stories crates/refusals/out/refusals
 
 storm:
 	@tools/storm crates/storm/out/storm 100000000
