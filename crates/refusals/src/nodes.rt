@@ -174,20 +174,37 @@ fn step_beside(
     Ok((tally, copy))
 }
 
-/// A story that a node takes step by step, and its twin. For each event a copy goes on in the node's place. The tallies of the
-/// actions.
-pub fn by_step(alloc: Global, story: &Story) -> Result<Vec<Tally>, Trouble> {
-    let mut node = made(|| node_of(alloc, story))?;
-    let mut twin = made(|| node_of(alloc, story))?;
+/// A node and its twin take the lines of a story. For each event a copy goes on in the node's place. The tallies of the actions go to
+/// the list.
+fn step_through(
+    alloc: Global,
+    mut node: Node,
+    twin: &mut Node,
+    story: &Story,
+    tallies: &mut Vec<Tally>,
+) -> Result<(), Trouble> {
     let mut out = room(alloc)?;
-    let mut tallies = made(|| Vec::with_capacity(alloc, story.lines.len()).ok())?;
     for line in story.lines {
-        let (tally, copy) = step_beside(alloc, &mut node, &mut twin, line, &mut out)?;
+        let (tally, copy) = step_beside(alloc, &mut node, twin, line, &mut out)?;
         node = copy;
         if tallies.push(tally).is_err() {
             return Err(Trouble::Twice);
         }
     }
+    Ok(())
+}
+
+/// The node of a story, for which memory is asked once more where there was none.
+fn node_at_last(alloc: Global, story: &Story) -> Result<Node, Trouble> {
+    made(|| node_of(alloc, story))
+}
+
+/// A story that a node takes step by step, and its twin. The tallies of the actions.
+pub fn by_step(alloc: Global, story: &Story) -> Result<Vec<Tally>, Trouble> {
+    let mut tallies = made(|| Vec::with_capacity(alloc, story.lines.len()).ok())?;
+    let mut twin = node_at_last(alloc, story)?;
+    let node = node_at_last(alloc, story)?;
+    step_through(alloc, node, &mut twin, story, &mut tallies)?;
     Ok(tallies)
 }
 
@@ -211,7 +228,7 @@ fn fit(outs: &[Out], tallies: &[Tally]) -> bool {
 
 /// The node of a story once it has taken these events.
 fn node_after(alloc: Global, story: &Story, events: &[Event]) -> Result<Node, Trouble> {
-    let mut node = made(|| node_of(alloc, story))?;
+    let mut node = node_at_last(alloc, story)?;
     let mut out = room(alloc)?;
     for event in events {
         if !is_taken(alloc, &mut node, event, &mut out) {
@@ -251,7 +268,7 @@ fn run_on(
 /// A story that is run as one list. Where that is refused after some events, the node is one that took these, and the rest is run
 /// then.
 pub fn by_list(alloc: Global, story: &Story, tallies: &[Tally]) -> Result<(), Trouble> {
-    let mut node = made(|| node_of(alloc, story))?;
+    let mut node = node_at_last(alloc, story)?;
     let events = made(|| events_of(alloc, story))?;
     let refused = match ran(alloc, &mut node, &events) {
         Ok(outs) => return are_told(&outs, tallies),
