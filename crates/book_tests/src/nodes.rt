@@ -23,18 +23,29 @@ fn is_missed(out: &Out) -> bool {
     }
 }
 
-/// How many of so many queries are answered MISS.
-fn missed(alloc: Global, queries: u32) -> Option<u32> {
-    let mut node = node_of(alloc)?;
+/// Whether a node answers an event with a MISS.
+fn is_missed_at(alloc: Global, node: &mut Node, event: &Event, out: &mut Out) -> bool {
+    out.clear();
+    node.step(alloc, event, out).is_ok() && is_missed(out)
+}
+
+/// How many of so many equal queries a node answers MISS.
+fn missed_by(alloc: Global, node: &mut Node, event: &Event, queries: u32) -> Option<u32> {
     let mut out = Out::new(alloc).ok()?;
-    let event = query(alloc)?;
     let mut count = 0u32;
     for _ in 0..queries {
-        out.clear();
-        node.step(alloc, &event, &mut out).ok()?;
-        count = count.wrapping_add(is_missed(&out) as u32);
+        count = count.wrapping_add(is_missed_at(alloc, node, event, &mut out) as u32);
     }
     Some(count)
+}
+
+/// How many of so many queries a new node answers MISS.
+fn missed(alloc: Global, queries: u32) -> Option<u32> {
+    let event = query(alloc)?;
+    let mut node = node_of(alloc)?;
+    let count = missed_by(alloc, &mut node, &event, queries);
+    drop(node);
+    count
 }
 
 #[test]
@@ -56,13 +67,15 @@ fn queries(alloc: Global, count: u32) -> Option<Vec<Event>> {
 fn outs_of(alloc: Global, count: u32) -> Option<Vec<Out>> {
     let events = queries(alloc, count)?;
     let mut node = node_of(alloc)?;
-    run_events(alloc, &mut node, &events).ok()
+    let outs = run_events(alloc, &mut node, &events).ok();
+    drop(node);
+    outs
 }
 
 #[test]
 fn a_long_list_is_taken(rt: HostRuntime) -> Result<(), Fail> {
     let outs = outs_of(rt.alloc(), 1_000).ok_or("the list is taken")?;
-    assert_eq!(rt; outs.len(), 1_000);
+    assert!(rt; outs.len() == 1_000);
     assert!(rt; outs.iter().all(|out| is_missed(out)));
     Ok(())
 }
@@ -88,18 +101,29 @@ fn told(alloc: Global, node: &mut Node, client: u64, mode: Mode) -> Option<u16> 
     status_of(&out)
 }
 
+/// Whether each of so many clients' requests is told this at once.
+fn are_told(alloc: Global, node: &mut Node, clients: u64, mode: Mode, wanted: Option<u16>) -> bool {
+    for client in 0..clients {
+        if told(alloc, node, client, mode) != wanted {
+            return false;
+        }
+    }
+    true
+}
+
+/// Whether clients of a new node are turned away where nothing is stored, wait, and are turned away where it is full.
+fn turned_away(alloc: Global) -> Option<[bool; 3]> {
+    let mut node = node_of(alloc)?;
+    let cached = are_told(alloc, &mut node, 1_000, Mode::Cached, Some(504));
+    let waits = are_told(alloc, &mut node, 1_024, Mode::Shared, None);
+    let is_full = told(alloc, &mut node, 1_024, Mode::Shared) == Some(503);
+    drop(node);
+    Some([cached, waits, is_full])
+}
+
 #[test]
-fn clients_join_and_are_turned_away(rt: HostRuntime) -> Result<(), Fail> {
-    let alloc = rt.alloc();
-    let mut node = node_of(alloc).ok_or("a node")?;
-    for client in 0..1_000u64 {
-        assert!(rt; told(alloc, &mut node, client, Mode::Cached) == Some(504));
-    }
-    for client in 0..1_024u64 {
-        assert!(rt; told(alloc, &mut node, client, Mode::Shared).is_none());
-    }
-    assert!(rt; told(alloc, &mut node, 1_024, Mode::Shared) == Some(503));
-    Ok(())
+fn clients_join_and_are_turned_away(rt: HostRuntime) {
+    assert!(rt; turned_away(rt.alloc()) == Some([true, true, true]));
 }
 
 /// Whether a query that was judged by a filter that rejects it is answered MISS.
@@ -112,34 +136,55 @@ fn is_missed_when_judged(alloc: Global, node: &mut Node) -> Option<bool> {
     Some(is_missed(&out))
 }
 
-/// A node whose filter rejects each datagram.
-fn closed_node(alloc: Global) -> Option<Node> {
-    let mut node = node_of(alloc)?;
+/// Whether a node takes a filter that rejects each datagram.
+fn is_closed(alloc: Global, node: &mut Node) -> Option<bool> {
+    let event = swap(alloc, 0)?;
     let mut out = Out::new(alloc).ok()?;
-    node.step(alloc, &swap(alloc, 0)?, &mut out).ok()?;
-    Some(node)
+    Some(node.step(alloc, &event, &mut out).is_ok())
+}
+
+/// Whether a new node answers MISS to what a filter that rejects it judged beforehand, and how many datagrams it has rejected
+/// then. Such a filter is in its slot, or none.
+fn answered_judged(alloc: Global, closes: bool) -> Option<(bool, u64)> {
+    let mut node = node_of(alloc)?;
+    let is_ready = !closes || is_closed(alloc, &mut node) == Some(true);
+    let is_missed = is_missed_when_judged(alloc, &mut node);
+    let rejected = node.stats().icp.rejected;
+    drop(node);
+    if is_ready {
+        Some((is_missed?, rejected))
+    } else {
+        None
+    }
 }
 
 #[test]
-fn a_held_verdict_counts_only_under_its_filter(rt: HostRuntime) -> Result<(), Fail> {
-    let alloc = rt.alloc();
-    let mut closed = closed_node(alloc).ok_or("a node")?;
-    assert!(rt; is_missed_when_judged(alloc, &mut closed) == Some(false));
-    assert_eq!(rt; closed.stats().icp.rejected, 1);
-    let mut open = node_of(alloc).ok_or("a node")?;
-    assert!(rt; is_missed_when_judged(alloc, &mut open) == Some(true));
-    assert_eq!(rt; open.stats().icp.rejected, 0);
-    Ok(())
+fn a_held_verdict_counts_only_under_its_filter(rt: HostRuntime) {
+    assert!(rt; answered_judged(rt.alloc(), true) == Some((false, 1)));
+    assert!(rt; answered_judged(rt.alloc(), false) == Some((true, 0)));
+}
+
+/// A client asks a node, and a neighbour its copy: whether each does only its own part, and counts only that.
+fn are_apart(alloc: Global, node: &mut Node, copy: &mut Node) -> bool {
+    let waits = told(alloc, node, 1, Mode::Shared).is_none();
+    let is_missed = is_missed_when_judged(alloc, copy) == Some(true);
+    let judged = (node.stats().icp.judged, copy.stats().icp.judged);
+    waits && is_missed && judged == (0, 1) && node.key_of(1).is_some() && copy.key_of(1).is_none()
+}
+
+/// Whether a node and its copy go their own ways.
+fn is_copied(alloc: Global, node: &mut Node) -> Option<bool> {
+    let mut copy = node.copy(alloc).ok()?;
+    let are_apart = are_apart(alloc, node, &mut copy);
+    drop(copy);
+    Some(are_apart)
 }
 
 #[test]
 fn a_copy_goes_its_own_way(rt: HostRuntime) -> Result<(), Fail> {
-    let alloc = rt.alloc();
-    let mut node = node_of(alloc).ok_or("a node")?;
-    let mut copy = node.copy(alloc)?;
-    assert!(rt; told(alloc, &mut node, 1, Mode::Shared).is_none());
-    assert!(rt; is_missed_when_judged(alloc, &mut copy) == Some(true));
-    assert_eq!(rt; (node.stats().icp.judged, copy.stats().icp.judged), (0, 1));
-    assert!(rt; node.key_of(1).is_some() && copy.key_of(1).is_none());
+    let mut node = node_of(rt.alloc()).ok_or("a node")?;
+    let is_copied = is_copied(rt.alloc(), &mut node);
+    drop(node);
+    assert!(rt; is_copied == Some(true));
     Ok(())
 }

@@ -37,15 +37,22 @@ fn is_replayed(alloc: Global, node: &mut Node, entries: &[Entry]) -> Option<bool
     Some(are_tallies(outs.as_slice(), entries))
 }
 
-/// Whether a new node that takes the events of all entries, fifty at a time, has their tallies.
-fn all_replayed(alloc: Global, entries: &[Entry]) -> Option<bool> {
-    let mut node = node_of(alloc)?;
+/// Whether a node that takes the events of all entries, fifty at a time, has their tallies.
+fn are_replayed(alloc: Global, node: &mut Node, entries: &[Entry]) -> Option<bool> {
     for some in entries.chunks(50) {
-        if !is_replayed(alloc, &mut node, some)? {
+        if !is_replayed(alloc, node, some)? {
             return Some(false);
         }
     }
     Some(true)
+}
+
+/// The same of a new node.
+fn all_replayed(alloc: Global, entries: &[Entry]) -> Option<bool> {
+    let mut node = node_of(alloc)?;
+    let are_replayed = are_replayed(alloc, &mut node, entries);
+    drop(node);
+    are_replayed
 }
 
 /// What a desk tells once its threads have ended, and whether one thread has the tallies of its book.
@@ -62,8 +69,9 @@ fn replayed<L: Ledger + Send + Sync, R: Threads + Wait + Sync>(
     let (desk, seats) = desk_of::<L>(alloc, blank, row.volume, row.seats)?;
     let seats = worked(rt, alloc, &desk, seats, row)?;
     let ledgered = desk.close();
-    let is_same = all_replayed(alloc, ledgered.booked().entries())?;
-    Some((is_same, ledgered.settle(seats).ok()?))
+    let is_same = all_replayed(alloc, ledgered.booked().entries());
+    let report = ledgered.settle(seats).ok();
+    Some((is_same?, report?))
 }
 
 const LONGEST: Row = Row {

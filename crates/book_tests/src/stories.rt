@@ -20,7 +20,7 @@ const HIT: &[u8] =
     b"\x02\x02\x00\x1e\x00\x00\x00\x01\x00\x00\x00\x00\x00\x00\x00\x00\x0a\x00\x00\x01http://a/\x00";
 
 /// What an event has a node do, in short.
-#[derive(Clone, Copy, Debug, PartialEq, Eq)]
+#[derive(Clone, Copy, PartialEq)]
 enum Said {
     Nothing,
     FetchesFrom { fetch: u32 },
@@ -103,16 +103,29 @@ fn is_told<C: Clerk>(alloc: Global, clerk: &mut C, i: usize) -> bool {
     i < 6 && tell(alloc, clerk, i) == Some((i as u64, SAID[i]))
 }
 
-#[test]
-fn a_node_by_itself_tells_the_story(rt: HostRuntime) -> Result<(), Fail> {
-    let alloc = rt.alloc();
-    let mut clerk = Lone::new(alloc, node_of(alloc).ok_or("a node")?);
+/// Whether a clerk tells the whole story.
+fn tells_all<C: Clerk>(alloc: Global, clerk: &mut C) -> bool {
     for i in 0..6 {
-        assert!(rt; is_told(alloc, &mut clerk, i));
+        if !is_told(alloc, clerk, i) {
+            return false;
+        }
     }
-    assert_eq!(rt; clerk.passed().len(), 5);
-    assert!(rt; clerk.key_of(alloc, 2)?.is_some());
-    Ok(())
+    true
+}
+
+/// Whether a node by itself tells the story, how many actions it was passed, and whether it knows the key of the second fetch.
+fn told_alone(alloc: Global) -> Option<(bool, usize, bool)> {
+    let mut clerk = Lone::new(alloc, node_of(alloc)?);
+    let tells = tells_all(alloc, &mut clerk);
+    let passed = clerk.passed().len();
+    let key = clerk.key_of(alloc, 2);
+    drop(clerk);
+    Some((tells, passed, key.ok()?.is_some()))
+}
+
+#[test]
+fn a_node_by_itself_tells_the_story(rt: HostRuntime) {
+    assert!(rt; told_alone(rt.alloc()) == Some((true, 5, true)));
 }
 
 /// Two clerks take turns at the events of the story.
@@ -131,6 +144,14 @@ fn knows_second<C: Clerk>(alloc: Global, clerk: &mut C) -> Option<bool> {
     Some(key.as_slice() == b"http://a/".as_slice() && none.is_none())
 }
 
+/// Both seats in a list.
+fn pair_of<L: Ledger>(alloc: Global, one: Seat<L>, other: Seat<L>) -> Option<Vec<Seat<L>>> {
+    let mut seats = Vec::new(alloc);
+    seats.push(one).ok()?;
+    seats.push(other).ok()?;
+    Some(seats)
+}
+
 /// Two clerks at seats of a desk take turns at submitting the events of the story, and hand the seats back. None says that one
 /// of them was told something else.
 fn clerks<L: Ledger, R: Wait>(
@@ -144,14 +165,17 @@ fn clerks<L: Ledger, R: Wait>(
     let mut second = Seated::new(alloc, rt, desk, other);
     let told = turns_told(alloc, &mut first, &mut second);
     let passed = first.passed().len() == 3 && second.passed().len() == 2;
-    let knows = knows_second(alloc, &mut first)? && knows_second(alloc, &mut second)?;
-    if !told || !passed || !knows || desk.stats(rt).icp.judged != 1 {
-        return None;
+    let knows = (
+        knows_second(alloc, &mut first),
+        knows_second(alloc, &mut second),
+    );
+    let seats = pair_of(alloc, second.into_seat(), first.into_seat())?;
+    let is_well = told && passed && knows == (Some(true), Some(true));
+    if is_well && desk.stats(rt).icp.judged == 1 {
+        Some(seats)
+    } else {
+        None
     }
-    let mut seats = Vec::new(alloc);
-    seats.push(second.into_seat()).ok()?;
-    seats.push(first.into_seat()).ok()?;
-    Some(seats)
 }
 
 /// What a desk tells of two clerks who took turns.
@@ -188,24 +212,36 @@ fn taken(alloc: Global, booked: &mut Booked, i: usize) -> Option<Result<(u64, Sa
     })
 }
 
-#[test]
-fn a_full_volume_is_turned(rt: HostRuntime) -> Result<(), Fail> {
-    let alloc = rt.alloc();
-    let mut booked = book_of(alloc, 2).ok_or("a book")?;
-    assert!(rt; taken(alloc, &mut booked, 0) == Some(Ok((0, SAID[0]))));
-    assert!(rt; taken(alloc, &mut booked, 1) == Some(Ok((1, SAID[1]))));
-    assert!(rt; taken(alloc, &mut booked, 2) == Some(Err(TakeFault::VolumeFull)));
+/// Whether a book says to the i-th event of the story what it is to say.
+fn is_taken(alloc: Global, booked: &mut Booked, i: usize) -> bool {
+    i < 6 && taken(alloc, booked, i) == Some(Ok((i as u64, SAID[i])))
+}
+
+/// Whether a book takes two events and no third, and that one once it was turned.
+fn is_turned(alloc: Global, booked: &mut Booked) -> bool {
+    let takes_two = is_taken(alloc, booked, 0) && is_taken(alloc, booked, 1);
+    let is_full = taken(alloc, booked, 2) == Some(Err(TakeFault::VolumeFull));
     drop(booked.turn(alloc));
-    assert!(rt; taken(alloc, &mut booked, 2) == Some(Ok((2, SAID[2]))));
-    Ok(())
+    takes_two && is_full && is_taken(alloc, booked, 2)
 }
 
 #[test]
-fn volumes_beyond_the_limits_are_refused(rt: HostRuntime) -> Result<(), Fail> {
-    let alloc = rt.alloc();
-    for volume in [0, 1_048_577] {
-        let booked = Booked::new(alloc, node_of(alloc).ok_or("a node")?, volume);
-        assert!(rt; booked.err() == Some(BookFault::Limits));
-    }
+fn a_full_volume_is_turned(rt: HostRuntime) -> Result<(), Fail> {
+    let mut booked = book_of(rt.alloc(), 2).ok_or("a book")?;
+    let is_turned = is_turned(rt.alloc(), &mut booked);
+    drop(booked);
+    assert!(rt; is_turned);
     Ok(())
+}
+
+/// Why there is no book of this volume.
+fn refused(alloc: Global, volume: usize) -> Option<BookFault> {
+    Booked::new(alloc, node_of(alloc)?, volume).err()
+}
+
+#[test]
+fn volumes_beyond_the_limits_are_refused(rt: HostRuntime) {
+    for volume in [0, 1_048_577] {
+        assert!(rt; refused(rt.alloc(), volume) == Some(BookFault::Limits));
+    }
 }

@@ -13,6 +13,3 @@ pub use ends::{End, Socket};
 pub use interpreter::{Verdict, judge};
 pub use moment::Moment;
 pub use packet::Packet;
-
-#[cfg(test)]
-mod tests;

@@ -12,6 +12,3 @@ pub use laws::{message_read_is_spelled, one_message, one_spelling};
 pub use message::{IcpBody, IcpView, Opcode};
 pub use reading::decode;
 pub use writing::encode;
-
-#[cfg(test)]
-mod tests;

@@ -1,10 +1,10 @@
 //! One thread swaps a filter while others submit datagrams that they judged by what they saw of it.
 ghost use Rattle.std.specs.Prelude.{◌≡◌, ◌<◌, ◌≤◌};
 
+use crate::calls::{desk_of, judged_for, settled, takes, takes_judged};
 use crate::events::{SLOTS, query, swap};
-use crate::orders::desk_of;
 use filter_slots::Moment;
-use node_book::{Clerk, Desk, Programs, Report, Seat, Seated};
+use node_book::{Clerk, Desk, Report, Seat, Seated};
 use node_core::{Counters, Out};
 use std::alloc::Global;
 use std::marker::Brand;
@@ -50,34 +50,54 @@ const CROWDS: [Crowd; 2] = [
     },
 ];
 
+/// Has a clerk take the swap of this number.
+fn swap_once<C: Clerk>(alloc: Global, clerk: &mut C, i: u32, out: &mut Out) -> Option<bool> {
+    let k = if i % 2 == 0 { Some(0) } else { None };
+    let slot = SLOTS[(i / 2 % 2) as usize];
+    Some(takes(alloc, clerk, swap(alloc, slot, k)?, out))
+}
+
 /// Swaps filters so often, by turns to one that rejects everything and to none: the one of the socket and that of who asks.
 fn swap_often<C: Clerk>(alloc: Global, clerk: &mut C, swaps: u32) -> Option<()> {
     let mut out = Out::new(alloc).ok()?;
     for i in 0..swaps {
-        out.clear();
-        let k = if i % 2 == 0 { Some(0) } else { None };
-        let slot = SLOTS[(i / 2 % 2) as usize];
-        clerk.submit(alloc, swap(alloc, slot, k)?, &mut out).ok()?;
+        if !swap_once(alloc, clerk, i, &mut out)? {
+            return None;
+        }
     }
     Some(())
 }
 
-/// Judges the query by the clerk's programs and submits it, so often. How many datagrams were to be sent for it.
+/// Judges the query by the clerk's programs and submits it at this millisecond. How many datagrams were to be sent for it.
+fn ask_once<C: Clerk>(alloc: Global, clerk: &mut C, ms: u64, out: &mut Out) -> Option<u64> {
+    let now = Moment::new(ms)?;
+    let judged = judged_for(clerk, query(alloc)?)?;
+    match takes_judged(alloc, clerk, &judged, now, out) {
+        true => Some(out.actions().len() as u64),
+        false => None,
+    }
+}
+
+/// Does so this often. How many datagrams were to be sent in all.
 fn ask_often<C: Clerk>(alloc: Global, clerk: &mut C, datagrams: u32) -> Option<u64> {
     let mut out = Out::new(alloc).ok()?;
     let mut sent = 0u64;
     for i in 0..datagrams {
-        out.clear();
-        let judged = clerk.judge(query(alloc)?).ok()?;
-        clerk
-            .submit_judged(alloc, &judged, Moment::new(i as u64)?, &mut out)
-            .ok()?;
-        sent = sent.saturating_add(out.actions().len() as u64);
+        sent = sent.saturating_add(ask_once(alloc, clerk, u64::from(i), &mut out)?);
     }
     Some(sent)
 }
 
-/// What one thread does by its seat, which it hands back: the first swaps, the others ask. How many sends it saw.
+/// What one thread does by its clerk: the first swaps, the others ask. How many sends it saw.
+fn work_by<C: Clerk>(alloc: Global, clerk: &mut C, place: u64, crowd: Crowd) -> Option<u64> {
+    if place != 0 {
+        return ask_often(alloc, clerk, crowd.datagrams);
+    }
+    swap_often(alloc, clerk, crowd.swaps)?;
+    Some(0)
+}
+
+/// What one thread does by its seat, which it hands back. How many sends it saw.
 fn work<L: Ledger, R: Wait>(
     rt: &R,
     alloc: Global,
@@ -87,27 +107,29 @@ fn work<L: Ledger, R: Wait>(
 ) -> Option<(u64, Seat<L>)> {
     let place = seat.place();
     let mut clerk = Seated::new(alloc, rt, desk, seat);
-    let sent = if place == 0 {
-        swap_often(alloc, &mut clerk, crowd.swaps)?;
-        0
-    } else {
-        ask_often(alloc, &mut clerk, crowd.datagrams)?
-    };
+    let sent = work_by(alloc, &mut clerk, place, crowd)?;
     Some((sent, clerk.into_seat()))
 }
 
-/// The threads of the seats do their work. How many sends they saw in all, and the seats.
-fn worked<L: Ledger + Send + Sync, R: Threads + Wait + Sync>(
+/// The threads of the seats do their work. What each saw and hands back.
+fn each_worked<L: Ledger + Send + Sync, R: Threads + Wait + Sync>(
     rt: &R,
     alloc: Global,
     desk: &Desk<L>,
     seats: Vec<Seat<L>>,
     crowd: Crowd,
+) -> Option<Vec<Option<(u64, Seat<L>)>>> {
+    thread::map_vec(rt, seats, &|seat| work(rt, alloc, desk, seat, crowd)).ok()
+}
+
+/// How many sends the threads saw in all, and the seats.
+fn summed<L: Ledger>(
+    alloc: Global,
+    each: Vec<Option<(u64, Seat<L>)>>,
 ) -> Option<(u64, Vec<Seat<L>>)> {
-    let done = thread::map_vec(rt, seats, &|seat| work(rt, alloc, desk, seat, crowd)).ok()?;
     let mut back = Vec::new(alloc);
     let mut sent = 0u64;
-    for one in done {
+    for one in each {
         let (some, seat) = one?;
         sent = sent.saturating_add(some);
         back.push(seat).ok()?;
@@ -127,9 +149,10 @@ fn told<L: Ledger + Send + Sync, R: Threads + Wait + Sync>(
     requires one_each { blank.parts ≡ 4 }
 {
     let (desk, seats) = desk_of::<L>(alloc, blank, crowd.volume, 4)?;
-    let (sent, seats) = worked(rt, alloc, &desk, seats, crowd)?;
+    let each = each_worked(rt, alloc, &desk, seats, crowd)?;
+    let (sent, seats) = summed(alloc, each)?;
     let (icp, swaps) = (desk.stats(rt).icp, desk.swaps());
-    Some((sent, icp, swaps, desk.settle(seats).ok()?))
+    Some((sent, icp, swaps, settled(desk, seats)?))
 }
 
 /// Whether each datagram was judged, and either rejected or answered.

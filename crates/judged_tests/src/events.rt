@@ -38,7 +38,6 @@ pub(crate) const SLOTS: [Slot; 2] = [Slot::Socket(Socket::Icp), Slot::Neighbour(
 
 /// Who asks is a neighbour.
 fn neighbours(alloc: Global) -> Option<Vec<Neighbour>> {
-    let mut neighbours = Vec::new(alloc);
     let asker = Neighbour {
         kind: Role::Parent,
         protocol: Socket::Icp,
@@ -47,18 +46,17 @@ fn neighbours(alloc: Global) -> Option<Vec<Neighbour>> {
         weight: 1,
         key: None,
     };
-    neighbours.push(asker).ok()?;
-    Some(neighbours)
+    Vec::from_array(alloc, [asker]).ok()
 }
 
 /// The settings of a node at 10.0.0.1, which answers 10.0.0.0/8.
 fn settings(alloc: Global) -> Option<Config> {
-    let mut allowed = Vec::new(alloc);
     let ten = Network {
         addr: [10, 0, 0, 0],
         prefix: 8,
     };
-    allowed.push(ten).ok()?;
+    let allowed = [ten].to_vec(alloc).ok()?;
+    let neighbours = neighbours(alloc)?;
     Some(Config {
         icp: OWN,
         htcp: OWN_HTCP,
@@ -67,7 +65,7 @@ fn settings(alloc: Global) -> Option<Config> {
         origin: true,
         entries: 100,
         octets: 10_000,
-        neighbours: neighbours(alloc)?,
+        neighbours,
         keys: Vec::new(alloc),
     })
 }
@@ -99,11 +97,13 @@ pub(crate) fn program(alloc: Global, k: u32) -> Option<Arc<Checked>> {
 /// The query as it was judged by a program that gives every packet the verdict k, or by none, in one slot, and by none in the
 /// other.
 pub(crate) fn judged_by(alloc: Global, slot: Slot, k: Option<u32>) -> Option<Judged> {
+    let datagram = query(alloc)?;
     let program = program_if(alloc, k)?;
-    match slot {
-        Slot::Socket(_) => Some(Judged::new(query(alloc)?, program, None)),
-        Slot::Neighbour(_) => Some(Judged::new(query(alloc)?, None, program)),
-    }
+    let (first, second) = match slot {
+        Slot::Socket(_) => (program, None),
+        Slot::Neighbour(_) => (None, program),
+    };
+    Some(Judged::new(datagram, first, second))
 }
 
 /// A program that gives every packet the verdict k, or none.
@@ -121,8 +121,8 @@ pub(crate) fn at(second: u64) -> Option<Moment> {
 
 /// The query arrives at this second.
 pub(crate) fn arrival(alloc: Global, second: u64) -> Option<Arc<Event>> {
-    let datagram = query(alloc)?;
     let now = at(second)?;
+    let datagram = query(alloc)?;
     Arc::new(alloc, Event::Datagram { datagram, now }).ok()
 }
 
@@ -132,17 +132,23 @@ pub(crate) fn tick(alloc: Global, second: u64) -> Option<Arc<Event>> {
     Arc::new(alloc, Event::Timer { now }).ok()
 }
 
-/// A client asks at this second for a key of its own.
-pub(crate) fn request(alloc: Global, second: u64) -> Option<Arc<Event>> {
+/// A key of this second.
+fn key_of(alloc: Global, second: u64) -> Option<CacheKey> {
     let mut octets = b"http://a/".to_vec(alloc).ok()?;
     for _ in 0..second % 1_000 {
         octets.push(b'a').ok()?;
     }
+    CacheKey::new(alloc, octets).ok()
+}
+
+/// A client asks at this second for a key of its own.
+pub(crate) fn request(alloc: Global, second: u64) -> Option<Arc<Event>> {
+    let now = at(second)?;
     let request = Event::Request {
         client: second,
-        key: CacheKey::new(alloc, octets).ok()?,
+        key: key_of(alloc, second)?,
         mode: Mode::Shared,
-        now: at(second)?,
+        now,
     };
     Arc::new(alloc, request).ok()
 }

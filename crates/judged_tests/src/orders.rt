@@ -1,11 +1,11 @@
 //! A filter, of the socket or of who asks, that is swapped between the judging of a datagram and its taking.
-ghost use Rattle.std.specs.Prelude.{◌≡◌, ◌<◌, ◌≤◌, [], OnSome, IfSome};
-ghost use Rattle.node_book.specs.Book.{count_of};
+ghost use Rattle.std.specs.Prelude.{◌≡◌};
 
-use crate::events::{MISS, SLOTS, arrival, at, judged_by, node_of, swap};
-use filter_slots::{Moment, Slot};
-use node_book::{Booked, Clerk, Desk, Lone, Report, Seat, Seated, TakeFault};
-use node_core::{Action, Counters, Node, Out, same_event};
+use crate::calls::{book_of, booked, counted_by, desk_of, lone_of, settled, swap_in, takes_judged};
+use crate::events::{MISS, SLOTS, arrival, at, judged_by};
+use filter_slots::{Judged, Moment, Slot};
+use node_book::{Booked, Clerk, Desk, Report, Seat, Seated, TakeFault};
+use node_core::{Action, Counters, Event, Out, same_event};
 use std::alloc::Global;
 use std::marker::Brand;
 use std::sync::Wait;
@@ -13,7 +13,6 @@ use std::sync::ledger::{Blank, Ledger};
 use std::test::Fail;
 
 /// A datagram is judged by a program that gives every packet a verdict, or by none; the one in force gives another.
-#[derive(Clone, Copy)]
 struct Row {
     judged: Option<u32>,
     in_force: Option<u32>,
@@ -82,65 +81,59 @@ fn counted(in_force: Option<u32>) -> Counters {
 
 /// Has a clerk take a swap and then the query, which was judged before; whether it is answered.
 fn answered<C: Clerk>(alloc: Global, clerk: &mut C, slot: Slot, row: &Row) -> Option<bool> {
+    let now = Moment::new(5)?;
     let judged = judged_by(alloc, slot, row.judged)?;
+    swap_in(alloc, clerk, slot, row.in_force)?;
+    is_answered(alloc, clerk, &judged, now)
+}
+
+/// Has a clerk take the query judged; whether it is answered.
+fn is_answered<C: Clerk>(
+    alloc: Global,
+    clerk: &mut C,
+    judged: &Judged,
+    now: Moment,
+) -> Option<bool> {
     let mut out = Out::new(alloc).ok()?;
-    clerk
-        .submit(alloc, swap(alloc, slot, row.in_force)?, &mut out)
-        .ok()?;
-    out.clear();
-    clerk
-        .submit_judged(alloc, &judged, Moment::new(5)?, &mut out)
-        .ok()?;
-    is_answer(&out)
+    match takes_judged(alloc, clerk, judged, now, &mut out) {
+        true => is_answer(&out),
+        false => None,
+    }
+}
+
+/// Whether the query is answered by submit_judged of a new node by itself, and what was counted.
+fn answered_alone(alloc: Global, slot: Slot, row: &Row) -> Option<(bool, Counters)> {
+    let mut clerk = lone_of(alloc)?;
+    let is_answered = answered(alloc, &mut clerk, slot, row)?;
+    Some((is_answered, counted_by(&clerk)))
 }
 
 #[test]
 fn a_node_by_itself_judges_again(rt: HostRuntime) -> Result<(), Fail> {
-    let alloc = rt.alloc();
     for row in &ROWS {
         for slot in SLOTS {
-            let mut clerk = Lone::new(alloc, node_of(alloc).ok_or("a node")?);
-            assert!(rt; answered(alloc, &mut clerk, slot, row) == Some(row.is_answered));
-            assert!(rt; clerk.node().stats().icp == counted(row.in_force));
+            let told = answered_alone(rt.alloc(), slot, row);
+            let (is_answered, icp) = told.ok_or("the query is taken")?;
+            assert!(rt; is_answered == row.is_answered);
+            assert!(rt; icp == counted(row.in_force));
         }
     }
     Ok(())
 }
 
-/// Whether the query is answered by submit_judged at a seat, what was counted, and the seat.
+/// Whether the query is answered by submit_judged at the last of the seats.
 fn answered_at<L: Ledger, R: Wait>(
     rt: &R,
     alloc: Global,
     desk: &Desk<L>,
-    seat: Seat<L>,
+    seats: &mut Vec<Seat<L>>,
     slot: Slot,
     row: &Row,
-) -> Option<(bool, Counters, Seat<L>)> {
-    let mut clerk = Seated::new(alloc, rt, desk, seat);
+) -> Option<bool> {
+    let mut clerk = Seated::new(alloc, rt, desk, seats.pop()?);
     let is_answered = answered(alloc, &mut clerk, slot, row)?;
-    Some((is_answered, desk.stats(rt).icp, clerk.into_seat()))
-}
-
-/// The desk of a new node, and its seats.
-pub(crate) fn desk_of<L: Ledger>(
-    alloc: Global,
-    blank: Blank,
-    volume: usize,
-    seats: u64,
-) -> Option<(Desk<L>, Vec<Seat<L>>)>
-    requires name { blank.name ≡ L.name }
-    requires parts { blank.parts ≡ L.parts }
-    requires one_each { blank.parts ≡ seats }
-{
-    let booked = book_of(alloc, volume)?;
-    Desk::<L>::open(alloc, blank, booked, seats).ok()
-}
-
-/// The book of a new node.
-fn book_of(alloc: Global, volume: usize) -> Option<Booked>
-    ensures { IfSome result (λ b. count_of b ≡ 0) }
-{
-    Booked::new(alloc, node_of(alloc)?, volume).ok()
+    seats.push(clerk.into_seat()).ok()?;
+    Some(is_answered)
 }
 
 /// Whether the query is answered by submit_judged at a desk, what was counted, and what the desk tells at the end.
@@ -156,10 +149,9 @@ fn told<L: Ledger, R: Wait>(
     requires one { blank.parts ≡ 1 }
 {
     let (desk, mut seats) = desk_of::<L>(alloc, blank, 4, 1)?;
-    let seat = seats.pop()?;
-    let (is_answered, icp, seat) = answered_at(rt, alloc, &desk, seat, slot, row)?;
-    seats.push(seat).ok()?;
-    Some((is_answered, icp, desk.settle(seats).ok()?))
+    let is_answered = answered_at(rt, alloc, &desk, &mut seats, slot, row)?;
+    let icp = desk.stats(rt).icp;
+    Some((is_answered, icp, settled(desk, seats)?))
 }
 
 #[test]
@@ -178,17 +170,26 @@ fn a_desk_judges_again(rt: HostRuntime) -> Result<(), Fail> {
     Ok(())
 }
 
+/// Whether this is the event of the query's arrival at 5.
+fn is_arrival(alloc: Global, event: &Event) -> Option<bool> {
+    Some(same_event(event, &*arrival(alloc, 5)?))
+}
+
 /// Whether a book that takes the query judged keeps the event of its arrival, and a full volume takes none.
-fn is_kept(alloc: Global) -> Option<bool> {
+fn keeps(alloc: Global, book: &mut Booked, judged: &Judged) -> Option<bool> {
     let now = at(5)?;
-    let judged = judged_by(alloc, SLOTS[0], Some(65_535))?;
-    let mut booked = book_of(alloc, 1)?;
     let mut out = Out::new(alloc).ok()?;
-    let receipt = booked.take_judged(alloc, &judged, now, &mut out).ok()?;
-    let is_same = same_event(&*receipt.event, &*arrival(alloc, 5)?);
-    out.clear();
-    let refused = booked.take_judged(alloc, &judged, now, &mut out).err();
-    Some(is_same && refused == Some(TakeFault::VolumeFull) && booked.count() == 1)
+    let receipt = booked(alloc, book, judged, now, &mut out).ok()?;
+    let is_same = is_arrival(alloc, &*receipt.event)?;
+    let refused = booked(alloc, book, judged, now, &mut out).err();
+    Some(is_same && refused == Some(TakeFault::VolumeFull) && book.count() == 1)
+}
+
+/// The same of a new book.
+fn is_kept(alloc: Global) -> Option<bool> {
+    let judged = judged_by(alloc, SLOTS[0], Some(65_535))?;
+    let mut book = book_of(alloc, 1)?;
+    keeps(alloc, &mut book, &judged)
 }
 
 #[test]

@@ -1,20 +1,17 @@
 //! The loop between a wire and a clerk judges what it receives by the clerk's programs.
 ghost use Rattle.std.specs.Prelude.{◌≡◌};
 
-use crate::events::{ASKER, MISS, SLOTS, node_of, query, swap};
-use crate::orders::desk_of;
+use crate::calls::{desk_of, lone_of, pumped, settled, swap_in};
+use crate::events::{ASKER, MISS, SLOTS, query};
 use filter_slots::{Moment, Slot};
-use mio_queries::{MemoryWire, PumpFault, Pumped, Received, Sending, WireFault, pump};
-use node_book::{Clerk, Lone, Report, Seat, Seated};
-use node_core::Out;
+use mio_queries::{MemoryWire, Pumped, Received, Sending, WireFault};
+use node_book::{Clerk, Desk, Report, Seat, Seated};
 use std::alloc::Global;
 use std::marker::Brand;
 use std::sync::Wait;
 use std::sync::ledger::{Blank, Ledger};
-use std::test::Fail;
 
 /// A query is received, then nothing, for so many turns, where this filter is in force and the sends fail or not.
-#[derive(Clone, Copy)]
 struct Row {
     filter: Option<u32>,
     turns: u32,
@@ -83,16 +80,21 @@ const ROWS: [Row; 6] = [
     },
 ];
 
+/// The query at 5, and then nothing twice.
+fn answers(alloc: Global) -> Option<Vec<Result<Received, WireFault>>> {
+    let (first, second, third) = (Moment::new(5)?, Moment::new(6)?, Moment::new(7)?);
+    let answers = [
+        Ok(Received::Datagram(query(alloc)?, first)),
+        Ok(Received::Idle(second)),
+        Ok(Received::Idle(third)),
+    ];
+    Vec::from_array(alloc, answers).ok()
+}
+
 /// A wire that receives the query at 5, and then nothing twice.
 fn wire_of(alloc: Global, fails: bool) -> Option<MemoryWire> {
-    let mut answers: Vec<Result<Received, WireFault>> = Vec::new(alloc);
-    let query = Received::Datagram(query(alloc)?, Moment::new(5)?);
-    answers.push(Ok(query)).ok()?;
-    for ms in 6..8u64 {
-        answers.push(Ok(Received::Idle(Moment::new(ms)?))).ok()?;
-    }
     let failing = [fails].to_vec(alloc).ok()?;
-    Some(MemoryWire::new(alloc, answers, failing))
+    Some(MemoryWire::new(alloc, answers(alloc)?, failing))
 }
 
 /// Whether the answer to the query was sent so often, and nothing else.
@@ -105,25 +107,25 @@ fn are_answers(sent: &[Sending], count: u64) -> bool {
 
 /// Whether pumping gives what the row says, once the clerk has taken the row's filter in a slot.
 fn holds<C: Clerk>(alloc: Global, clerk: &mut C, slot: Slot, row: &Row) -> Option<bool> {
-    let mut out = Out::new(alloc).ok()?;
-    clerk
-        .submit(alloc, swap(alloc, slot, row.filter)?, &mut out)
-        .ok()?;
+    swap_in(alloc, clerk, slot, row.filter)?;
     let mut wire = wire_of(alloc, row.fails)?;
-    let gives = pump(alloc, &mut wire, clerk, row.turns);
-    Some(gives == Ok(row.gives) && are_answers(wire.sent(), row.gives.sent))
+    let gives = pumped(alloc, &mut wire, clerk, row.turns);
+    Some(gives == Some(row.gives) && are_answers(wire.sent(), row.gives.sent))
+}
+
+/// Whether pumping for a new node by itself gives what the row says, where its filter is in this slot.
+fn holds_alone(alloc: Global, slot: Slot, row: &Row) -> Option<bool> {
+    let mut clerk = lone_of(alloc)?;
+    holds(alloc, &mut clerk, slot, row)
 }
 
 #[test]
-fn a_node_by_itself_is_pumped(rt: HostRuntime) -> Result<(), Fail> {
-    let alloc = rt.alloc();
+fn a_node_by_itself_is_pumped(rt: HostRuntime) {
     for row in &ROWS {
         for slot in SLOTS {
-            let mut clerk = Lone::new(alloc, node_of(alloc).ok_or("a node")?);
-            assert!(rt; holds(alloc, &mut clerk, slot, row) == Some(true));
+            assert!(rt; holds_alone(rt.alloc(), slot, row) == Some(true));
         }
     }
-    Ok(())
 }
 
 /// Whether pumping gives what the rows say, one after the other.
@@ -136,6 +138,19 @@ fn all_hold<C: Clerk>(alloc: Global, clerk: &mut C) -> Option<bool> {
     Some(true)
 }
 
+/// Whether pumping for the last of the seats gives what the rows say, one after the other.
+fn all_hold_at<L: Ledger, R: Wait>(
+    rt: &R,
+    alloc: Global,
+    desk: &Desk<L>,
+    seats: &mut Vec<Seat<L>>,
+) -> Option<bool> {
+    let mut clerk = Seated::new(alloc, rt, desk, seats.pop()?);
+    let hold = all_hold(alloc, &mut clerk)?;
+    seats.push(clerk.into_seat()).ok()?;
+    Some(hold)
+}
+
 /// Whether pumping for a seat gives what the rows say, one after the other, and what the desk tells at the end.
 fn told<L: Ledger, R: Wait>(rt: &R, alloc: Global, blank: Blank) -> Option<(bool, Report)>
     requires name { blank.name ≡ L.name }
@@ -143,10 +158,8 @@ fn told<L: Ledger, R: Wait>(rt: &R, alloc: Global, blank: Blank) -> Option<(bool
     requires one { blank.parts ≡ 1 }
 {
     let (desk, mut seats) = desk_of::<L>(alloc, blank, 100, 1)?;
-    let mut clerk = Seated::new(alloc, rt, &desk, seats.pop()?);
-    let hold = all_hold(alloc, &mut clerk)?;
-    seats.push(clerk.into_seat()).ok()?;
-    Some((hold, desk.settle(seats).ok()?))
+    let hold = all_hold_at(rt, alloc, &desk, &mut seats)?;
+    Some((hold, settled(desk, seats)?))
 }
 
 /// Six swaps and sixteen turns.

@@ -1,23 +1,30 @@
 //! A neighbour that is down keeps its filter.
 
-use crate::events::{SLOTS, arrival, node_of, request, swap, tick};
+use crate::calls::{actions_of, counted_by, lone_of, swap_in};
+use crate::events::{SLOTS, arrival, request, tick};
 use node_book::{Clerk, Lone};
-use node_core::{Action, Out};
+use node_core::Action;
 use std::alloc::Global;
+
+/// Whether actions ask a neighbour and fetch at once.
+fn is_fetch(actions: &[Action]) -> bool {
+    match actions {
+        [Action::Send { .. }, Action::Fetch { .. }] => true,
+        _ => false,
+    }
+}
+
+/// Has a clerk take a request at this second; whether it was fetched at once.
+fn is_fetched<C: Clerk>(alloc: Global, clerk: &mut C, second: u64) -> Option<bool> {
+    let out = actions_of(alloc, clerk, request(alloc, second)?)?;
+    Some(is_fetch(out.actions()))
+}
 
 /// Has a clerk take a request at this second, and two seconds later that time went by; whether the request was fetched at once.
 fn is_fetched_at_once<C: Clerk>(alloc: Global, clerk: &mut C, second: u64) -> Option<bool> {
-    let mut out = Out::new(alloc).ok()?;
-    clerk.submit(alloc, request(alloc, second)?, &mut out).ok()?;
-    let is_fetch = match out.actions() {
-        [Action::Send { .. }, Action::Fetch { .. }] => true,
-        _ => false,
-    };
-    out.clear();
-    clerk
-        .submit(alloc, tick(alloc, second.saturating_add(2))?, &mut out)
-        .ok()?;
-    Some(is_fetch)
+    let is_fetched = is_fetched(alloc, clerk, second)?;
+    actions_of(alloc, clerk, tick(alloc, second.saturating_add(2))?)?;
+    Some(is_fetched)
 }
 
 /// Lets the neighbour miss twenty rounds. Whether it was asked and waited for in each, and in the next one no more.
@@ -32,22 +39,23 @@ fn goes_down<C: Clerk>(alloc: Global, clerk: &mut C) -> Option<bool> {
 
 /// How many actions the query has, once its sender's filter rejects everything.
 fn actions_of_query<C: Clerk>(alloc: Global, clerk: &mut C) -> Option<usize> {
-    let mut out = Out::new(alloc).ok()?;
-    clerk
-        .submit(alloc, swap(alloc, SLOTS[1], Some(0))?, &mut out)
-        .ok()?;
-    out.clear();
-    clerk.submit(alloc, arrival(alloc, 300)?, &mut out).ok()?;
+    swap_in(alloc, clerk, SLOTS[1], Some(0))?;
+    let out = actions_of(alloc, clerk, arrival(alloc, 300)?)?;
     Some(out.actions().len())
 }
 
-/// Whether a neighbour goes down, and what it sends is rejected by its filter then.
-fn holds(alloc: Global) -> Option<bool> {
-    let mut clerk = Lone::new(alloc, node_of(alloc)?);
-    let is_down = goes_down(alloc, &mut clerk)?;
-    let count = actions_of_query(alloc, &mut clerk)?;
-    let icp = clerk.node().stats().icp;
+/// Whether the neighbour of a new node goes down, and what it sends is rejected by its filter then.
+fn is_filtered(alloc: Global, clerk: &mut Lone) -> Option<bool> {
+    let is_down = goes_down(alloc, clerk)?;
+    let count = actions_of_query(alloc, clerk)?;
+    let icp = counted_by(clerk);
     Some(is_down && count == 0 && icp.judged == 1 && icp.rejected == 1)
+}
+
+/// The same of a node by itself.
+fn holds(alloc: Global) -> Option<bool> {
+    let mut clerk = lone_of(alloc)?;
+    is_filtered(alloc, &mut clerk)
 }
 
 #[test]

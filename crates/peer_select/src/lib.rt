@@ -10,6 +10,3 @@ mod set;
 pub use laws::{matching_law, parent_law, unchanged_law};
 pub use reply::{Kind, Peer, Reply, Source};
 pub use round::Round;
-
-#[cfg(test)]
-mod tests;

@@ -1,5 +1,6 @@
 //! One datagram under each program, and slots that are filled, shared and emptied.
 
+use crate::programs::{Listing, insns_of};
 use bpf_check::{Insn, check};
 use filter_slots::{Checked, Datagram, End, Judged, NoSlot, Slot, Slots, Socket, Verdict, cut};
 use std::sync::Arc;
@@ -24,21 +25,9 @@ const QUERY: [u8; 34] = [
     58, 47, 47, 97, 47, 0,
 ];
 
-// A program's instructions: code, `jt`, `jf` and `k` of each.
-type Listing = &'static [(u16, u8, u8, u32)];
-
 // A program of these instructions.
 fn program(rt: &HostRuntime, listing: Listing) -> Result<Arc<Checked>, Fail> {
-    let mut insns = Vec::new(rt.alloc());
-    for (code, jt, jf, k) in listing {
-        insns.push(Insn {
-            code: *code,
-            jt: *jt,
-            jf: *jf,
-            k: *k,
-        })?;
-    }
-    let program = check(insns).map_err(|_| "refused")?;
+    let program = check(insns_of(rt, listing)?).map_err(|_| "refused")?;
     Ok(Arc::new(rt.alloc(), program)?)
 }
 
@@ -71,46 +60,83 @@ fn sockets() -> Result<Slots, Fail> {
     Ok(Slots::new(&[]).ok_or("slots")?)
 }
 
+// Limits, and how many octets of the query they leave.
+const LIMITS: [(u32, usize); 7] = [
+    (0, 0),
+    (28, 0),
+    (29, 1),
+    (40, 12),
+    (61, 33),
+    (62, 34),
+    (65_535, 34),
+];
+
+// Whether a limit that is put into ICP's slot is the verdict, and leaves so many octets.
+fn leaves(
+    rt: &HostRuntime,
+    slots: &mut Slots,
+    datagram: &Datagram,
+    k: u32,
+    left: usize,
+) -> Result<bool, Fail> {
+    slots.install(ICP, limit(rt, k)?)?;
+    let forced = slots.force(datagram);
+    let kept = cut(datagram, forced.value);
+    let is_front = kept.len() == left && QUERY.as_slice().starts_with(kept);
+    Ok(forced == Verdict { value: k, steps: 1 } && is_front)
+}
+
 #[test]
 fn verdicts_and_cuts(rt: HostRuntime) -> Result<(), Fail> {
     let datagram = query(&rt, Socket::Icp)?;
     let mut slots = sockets()?;
     let empty = slots.force(&datagram);
-    assert_eq!(rt; (empty.value, empty.steps), (4_294_967_295, 0));
-    assert_eq!(rt; cut(&datagram, empty.value), QUERY.as_slice());
-    // limits with what they leave of the payload
-    for (k, left) in [
-        (0, 0),
-        (28, 0),
-        (29, 1),
-        (40, 12),
-        (61, 33),
-        (62, 34),
-        (65_535, 34),
-    ] {
-        slots.install(ICP, limit(&rt, k)?)?;
-        let forced = slots.force(&datagram);
-        assert_eq!(rt; forced, Verdict { value: k, steps: 1 });
-        assert_eq!(rt; cut(&datagram, forced.value), &QUERY[..left]);
+    assert!(rt; (empty.value, empty.steps) == (4_294_967_295, 0));
+    assert!(rt; cut(&datagram, empty.value) == QUERY.as_slice());
+    for (k, left) in &LIMITS {
+        assert!(rt; leaves(&rt, &mut slots, &datagram, *k, *left)?, "{}", *k);
     }
     Ok(())
+}
+
+// The limit of the program that was in ICP's slot before this one was put there.
+fn limit_before(rt: &HostRuntime, slots: &mut Slots, k: u32) -> Result<Option<u32>, Fail> {
+    Ok(limit_of(slots.install(ICP, limit(rt, k)?)?))
+}
+
+// Whether ICP's slot gives back the limit 40 when 0 is put there, and then 0 when it is cleared, and is empty.
+fn is_emptied(rt: &HostRuntime, slots: &mut Slots) -> Result<bool, Fail> {
+    let first = limit_before(rt, slots, 0)?;
+    let second = limit_of(slots.clear(ICP)?);
+    Ok((first, second) == (Some(40), Some(0)) && slots.installed(ICP).is_none())
+}
+
+// Whether ICP's slot has the one instruction of the limit 40.
+fn has_forty(rt: &HostRuntime, slots: &Slots) -> Result<bool, Fail> {
+    let kept = slots.installed(ICP).ok_or("the shared program")?;
+    Ok(kept.insns().len() == 1 && verdicts(rt, slots)? == (40, WHOLE))
+}
+
+// Whether slots are emptied, and their copy keeps its program.
+fn are_apart(rt: &HostRuntime, slots: &mut Slots, copy: &Slots) -> Result<bool, Fail> {
+    Ok(is_emptied(rt, slots)? && has_forty(rt, copy)?)
+}
+
+// Whether the first program finds ICP's slot empty, and is still in a copy once the slots have lost it.
+fn is_shared(rt: &HostRuntime, slots: &mut Slots) -> Result<bool, Fail> {
+    let first = limit_before(rt, slots, 40)?;
+    let copy = slots.copy()?;
+    let are_apart = are_apart(rt, slots, &copy);
+    drop(copy);
+    Ok(are_apart? && first == None)
 }
 
 #[test]
 fn slots_are_shared_and_emptied(rt: HostRuntime) -> Result<(), Fail> {
     let mut slots = sockets()?;
-    assert!(rt; slots.install(ICP, limit(&rt, 40)?)?.is_none());
-    let copy = slots.copy()?;
-    let old = slots
-        .install(ICP, limit(&rt, 0)?)?
-        .ok_or("the first program")?;
-    assert_eq!(rt; old.insns()[0].k, 40);
-    let old = slots.clear(ICP)?.ok_or("the second program")?;
-    assert_eq!(rt; old.insns()[0].k, 0);
-    assert!(rt; slots.installed(ICP).is_none());
-    let kept = copy.installed(ICP).ok_or("the shared program")?;
-    assert_eq!(rt; kept.insns().len(), 1);
-    assert_eq!(rt; copy.force(&query(&rt, Socket::Icp)?).value, 40);
+    let is_shared = is_shared(&rt, &mut slots);
+    drop(slots);
+    assert!(rt; is_shared?);
     Ok(())
 }
 
@@ -146,20 +172,53 @@ fn verdicts(rt: &HostRuntime, slots: &Slots) -> Result<(u32, u32), Fail> {
     Ok((icp, htcp))
 }
 
+// What a step's slot gives back.
+fn given(rt: &HostRuntime, slots: &mut Slots, step: &Row) -> Result<Option<u32>, Fail> {
+    let slot = Slot::Socket(step.0);
+    let program = match step.1 {
+        None => slots.clear(slot)?,
+        Some(k) => slots.install(slot, limit(rt, k)?)?,
+    };
+    Ok(limit_of(program))
+}
+
+// Whether a step gives back the limit that it says, and the verdicts then are its own, and those of a copy made before the last ones.
+fn is_step(
+    rt: &HostRuntime,
+    slots: &mut Slots,
+    copy: &Slots,
+    last: (u32, u32),
+    step: &Row,
+) -> Result<bool, Fail> {
+    let is_given = given(rt, slots, step)? == step.2;
+    Ok(is_given && verdicts(rt, slots)? == (step.3, step.4) && verdicts(rt, copy)? == last)
+}
+
+// The same beside a copy that is made first.
+fn is_done(
+    rt: &HostRuntime,
+    slots: &mut Slots,
+    last: (u32, u32),
+    step: &Row,
+) -> Result<bool, Fail> {
+    let copy = slots.copy()?;
+    let is_step = is_step(rt, slots, &copy, last, step);
+    drop(copy);
+    is_step
+}
+
 #[test]
 fn slots_are_independent(rt: HostRuntime) -> Result<(), Fail> {
     let mut slots = sockets()?;
     let mut last = (WHOLE, WHOLE);
-    for (socket, put, old, icp, htcp) in STEPS {
-        let copy = slots.copy()?;
-        let given = match put {
-            None => slots.clear(Slot::Socket(socket))?,
-            Some(k) => slots.install(Slot::Socket(socket), limit(&rt, k)?)?,
-        };
-        assert_eq!(rt; limit_of(given), old, "{icp} {htcp}");
-        assert_eq!(rt; verdicts(&rt, &slots)?, (icp, htcp));
-        assert_eq!(rt; verdicts(&rt, &copy)?, last);
-        last = (icp, htcp);
+    for step in &STEPS {
+        assert!(rt;
+            is_done(&rt, &mut slots, last, step)?,
+            "{} {}",
+            step.3,
+            step.4
+        );
+        last = (step.3, step.4);
     }
     Ok(())
 }
@@ -167,10 +226,10 @@ fn slots_are_independent(rt: HostRuntime) -> Result<(), Fail> {
 #[test]
 fn ends_and_length(rt: HostRuntime) -> Result<(), Fail> {
     let ends = query(&rt, Socket::Icp)?.ends();
-    assert_eq!(rt; ends, [10, 0, 0, 9, 0x0c, 0x3a, 192, 0, 2, 1, 0x12, 0xdb]);
+    assert!(rt; ends == [10, 0, 0, 9, 0x0c, 0x3a, 192, 0, 2, 1, 0x12, 0xdb]);
     let payload = [7; 65_508].to_vec(rt.alloc())?;
     let refused = Datagram::new(Socket::Icp, FROM, TO, payload).err();
-    assert_eq!(rt; refused.map(|octets| octets.len()), Some(65_508));
+    assert!(rt; refused.map(|octets| octets.len()) == Some(65_508));
     Ok(())
 }
 
@@ -184,21 +243,35 @@ const JUDGED: [(Option<u32>, Option<u32>, u32); 5] = [
     (None, Some(29), 29),
 ];
 
+// A limit as a program, where there is one.
+fn limit_if(rt: &HostRuntime, k: Option<u32>) -> Result<Option<Arc<Checked>>, Fail> {
+    match k {
+        None => Ok(None),
+        Some(k) => Ok(Some(limit(rt, k)?)),
+    }
+}
+
+// The query as ICP's socket has it, judged by the limits of the socket and of who sends it.
+fn judged_by(rt: &HostRuntime, socket: Option<u32>, sender: Option<u32>) -> Result<Judged, Fail> {
+    let datagram = Arc::new(rt.alloc(), query(rt, Socket::Icp)?)?;
+    Ok(Judged::new(datagram, limit_if(rt, socket)?, limit_if(rt, sender)?))
+}
+
+// The verdict in force where this limit is installed in ICP's slot, or none.
+fn in_force(rt: &HostRuntime, put: Option<u32>, judged: &Judged) -> Result<u32, Fail> {
+    let mut slots = sockets()?;
+    if let Some(k) = put {
+        slots.install(ICP, limit(rt, k)?)?;
+    }
+    Ok(slots.force_judged(judged).value)
+}
+
 #[test]
 fn judged_datagrams(rt: HostRuntime) -> Result<(), Fail> {
-    for (held, put, verdict) in JUDGED {
-        let program = match held {
-            None => None,
-            Some(k) => Some(limit(&rt, k)?),
-        };
-        let datagram = Arc::new(rt.alloc(), query(&rt, Socket::Icp)?)?;
-        let judged = Judged::new(datagram, program, None);
-        assert_eq!(rt; judged.verdict().value, held.unwrap_or(WHOLE));
-        let mut slots = sockets()?;
-        if let Some(k) = put {
-            slots.install(ICP, limit(&rt, k)?)?;
-        }
-        assert_eq!(rt; slots.force_judged(&judged).value, verdict);
+    for (held, put, verdict) in &JUDGED {
+        let judged = judged_by(&rt, *held, None)?;
+        assert!(rt; judged.verdict().value == held.unwrap_or(WHOLE));
+        assert!(rt; in_force(&rt, *put, &judged)? == *verdict);
     }
     Ok(())
 }
@@ -268,15 +341,20 @@ fn slots_of(rt: &HostRuntime, icp: Listing, neighbour: Listing) -> Result<Slots,
     Ok(slots)
 }
 
+// Whether both filters' verdict and steps are what a row says. By the other socket the datagram is from nobody, and no program is
+// there.
+fn is_judged_twice(rt: &HostRuntime, row: &Twice) -> Result<bool, Fail> {
+    let (icp, neighbour, from, octets, value, steps) = *row;
+    let slots = slots_of(rt, icp, neighbour)?;
+    let forced = slots.force(&datagram(rt, Socket::Icp, from, octets)?);
+    let other = slots.force(&datagram(rt, Socket::Htcp, from, octets)?);
+    Ok(forced == Verdict { value, steps } && other.value == WHOLE)
+}
+
 #[test]
 fn two_filters_judge(rt: HostRuntime) -> Result<(), Fail> {
-    for (icp, neighbour, from, octets, value, steps) in TWICE {
-        let slots = slots_of(&rt, icp, neighbour)?;
-        let forced = slots.force(&datagram(&rt, Socket::Icp, from, octets)?);
-        assert_eq!(rt; forced, Verdict { value, steps });
-        // By the other socket it is from nobody, and no program is there.
-        let other = slots.force(&datagram(&rt, Socket::Htcp, from, octets)?);
-        assert_eq!(rt; other.value, WHOLE);
+    for row in &TWICE {
+        assert!(rt; is_judged_twice(&rt, row)?, "{} {}", row.4, row.5);
     }
     Ok(())
 }
@@ -292,39 +370,60 @@ const JUDGED_AGAIN: [(Option<u32>, Option<u32>, u32); 6] = [
     (None, Some(29), 29),
 ];
 
-// The program of a limit, if there is one.
-fn limit_if(rt: &HostRuntime, k: Option<u32>) -> Result<Option<Arc<Checked>>, Fail> {
-    match k {
-        None => Ok(None),
-        Some(k) => Ok(Some(limit(rt, k)?)),
+// Slots with the limit 50 for ICP's socket, and this one for the neighbour, or none.
+fn slots_with(rt: &HostRuntime, put: Option<u32>) -> Result<Slots, Fail> {
+    let mut slots = slots_of(rt, TWENTY_TWO, NONE)?;
+    if let Some(program) = limit_if(rt, put)? {
+        slots.install(Slot::Neighbour(0), program)?;
     }
+    Ok(slots)
+}
+
+// The verdict on the query where it is judged now.
+fn verdict_now(rt: &HostRuntime, slots: &Slots) -> Result<u32, Fail> {
+    let arrived = Arc::new(rt.alloc(), query(rt, Socket::Icp)?)?;
+    Ok(slots.judge(arrived)?.verdict().value)
+}
+
+// The verdict in force on what was judged before, and the one on what is judged now.
+fn both_in_force(
+    rt: &HostRuntime,
+    held: Option<u32>,
+    put: Option<u32>,
+) -> Result<(u32, u32), Fail> {
+    let judged = judged_by(rt, Some(50), held)?;
+    let slots = slots_with(rt, put)?;
+    let now = verdict_now(rt, &slots);
+    let before = slots.force_judged(&judged).value;
+    drop(slots);
+    Ok((before, now?))
 }
 
 #[test]
 fn either_program_is_compared(rt: HostRuntime) -> Result<(), Fail> {
-    for (held, put, verdict) in JUDGED_AGAIN {
-        let arrived = Arc::new(rt.alloc(), query(&rt, Socket::Icp)?)?;
-        let judged = Judged::new(arrived, Some(limit(&rt, 50)?), limit_if(&rt, held)?);
-        let mut slots = slots_of(&rt, TWENTY_TWO, NONE)?;
-        if let Some(program) = limit_if(&rt, put)? {
-            slots.install(Slot::Neighbour(0), program)?;
-        }
-        assert_eq!(rt; slots.force_judged(&judged).value, verdict);
-        let arrived = Arc::new(rt.alloc(), query(&rt, Socket::Icp)?)?;
-        assert_eq!(rt; slots.judge(arrived)?.verdict().value, verdict);
+    for (held, put, verdict) in &JUDGED_AGAIN {
+        assert!(rt; both_in_force(&rt, *held, *put)? == (*verdict, *verdict));
     }
     Ok(())
 }
 
+// Whether a slot that isn't there takes no program, gives none and has none.
+fn is_nowhere(rt: &HostRuntime, slots: &mut Slots, slot: Slot) -> Result<bool, Fail> {
+    let is_put = slots.install(slot, limit(rt, 0)?).err() == Some(NoSlot);
+    let is_cleared = slots.clear(slot).err() == Some(NoSlot);
+    Ok(is_put && is_cleared && slots.installed(slot).is_none() && !slots.has(slot))
+}
+
+// Whether a neighbour's slot that is there is empty, and judges nothing.
+fn is_empty(rt: &HostRuntime, slots: &mut Slots) -> Result<bool, Fail> {
+    let cleared = slots.clear(Slot::Neighbour(0))?;
+    Ok(cleared.is_none() && verdicts(rt, slots)? == (WHOLE, WHOLE))
+}
+
 #[test]
 fn missing_slots_are_told(rt: HostRuntime) -> Result<(), Fail> {
-    let mut slots = slots_of(&rt, NONE, NONE)?;
-    let nowhere = Slot::Neighbour(1);
-    assert!(rt; slots.install(nowhere, limit(&rt, 0)?).err() == Some(NoSlot));
-    assert!(rt; slots.clear(nowhere).err() == Some(NoSlot));
-    assert!(rt; slots.installed(nowhere).is_none() && !slots.has(nowhere));
-    assert!(rt; slots.clear(Slot::Neighbour(0))?.is_none());
-    assert_eq!(rt; slots.force(&query(&rt, Socket::Icp)?).value, WHOLE);
+    assert!(rt; is_nowhere(&rt, &mut slots_of(&rt, NONE, NONE)?, Slot::Neighbour(1))?);
+    assert!(rt; is_empty(&rt, &mut slots_of(&rt, NONE, NONE)?)?);
     Ok(())
 }
 
@@ -345,31 +444,62 @@ fn crowd(rt: &HostRuntime, count: u16) -> Result<Vec<(Socket, End)>, Fail> {
     Ok(neighbours)
 }
 
-#[test]
-fn a_crowd_in_one_bucket_is_told_apart(rt: HostRuntime) -> Result<(), Fail> {
-    let neighbours = crowd(&rt, 64)?;
+// Slots of 64 neighbours of that crowd, the n-th with the limit 100 + n.
+fn crowded_slots(rt: &HostRuntime) -> Result<Slots, Fail> {
+    let neighbours = crowd(rt, 64)?;
     let mut slots = Slots::new(&neighbours).ok_or("slots")?;
     for n in 0..64u16 {
-        slots.install(Slot::Neighbour(n as usize), limit(&rt, 100 + n as u32)?)?;
+        slots.install(Slot::Neighbour(n as usize), limit(rt, 100 + n as u32)?)?;
     }
-    let copy = slots.copy()?;
+    Ok(slots)
+}
+
+// The verdict on the query of the n-th of that crowd.
+fn verdict_on(rt: &HostRuntime, slots: &Slots, n: u16) -> Result<u32, Fail> {
+    let one = datagram(rt, Socket::Icp, crowded(n), &QUERY)?;
+    Ok(slots.force(&one).value)
+}
+
+// Whether each of that crowd has its own verdict, and who is none of it has that of an empty slot.
+fn are_told_apart(rt: &HostRuntime, slots: &Slots) -> Result<bool, Fail> {
     for n in 0..64u16 {
-        let one = datagram(&rt, Socket::Icp, crowded(n), &QUERY)?;
-        assert_eq!(rt; slots.force(&one).value, 100 + n as u32);
-        assert_eq!(rt; copy.force(&one).value, 100 + n as u32);
+        if verdict_on(rt, slots, n)? != 100 + n as u32 {
+            return Ok(false);
+        }
     }
-    let stranger = datagram(&rt, Socket::Icp, crowded(64), &QUERY)?;
-    assert_eq!(rt; slots.force(&stranger).value, WHOLE);
+    Ok(verdict_on(rt, slots, 64)? == WHOLE)
+}
+
+#[test]
+fn a_crowd_in_one_bucket_is_told_apart(rt: HostRuntime) -> Result<(), Fail> {
+    let slots = crowded_slots(&rt)?;
+    let are_told_apart = are_told_apart(&rt, &slots);
+    drop(slots);
+    assert!(rt; are_told_apart?);
     Ok(())
 }
 
 #[test]
+fn a_copy_tells_a_crowd_apart(rt: HostRuntime) -> Result<(), Fail> {
+    let slots = crowded_slots(&rt)?.copy()?;
+    let are_told_apart = are_told_apart(&rt, &slots);
+    drop(slots);
+    assert!(rt; are_told_apart?);
+    Ok(())
+}
+
+// Whether there are slots for these neighbours.
+fn are_slots(neighbours: &[(Socket, End)]) -> bool {
+    Slots::new(neighbours).is_some()
+}
+
+#[test]
 fn crowds_and_doubles_are_refused(rt: HostRuntime) -> Result<(), Fail> {
-    assert!(rt; Slots::new(&crowd(&rt, 65)?).is_none());
+    assert!(rt; !are_slots(&crowd(&rt, 65)?));
     let mut neighbours = crowd(&rt, 3)?;
     neighbours.push((Socket::Htcp, crowded(1)))?;
-    assert!(rt; Slots::new(&neighbours).is_some());
+    assert!(rt; are_slots(&neighbours));
     neighbours.push((Socket::Icp, crowded(1)))?;
-    assert!(rt; Slots::new(&neighbours).is_none());
+    assert!(rt; !are_slots(&neighbours));
     Ok(())
 }

@@ -134,24 +134,50 @@ fn lengths_of_names(rt: HostRuntime) -> Result<(), AllocError> {
     Ok(())
 }
 
+// What a table shows of itself.
+fn shown(alloc: Global, table: &Table) -> Result<String, AllocError> {
+    format!(in alloc; "{table:?}")
+}
+
+// A table of two neighbours with a time and a miss.
+fn known(alloc: Global) -> Result<Table, AllocError> {
+    let list = neighbours(alloc, 1, 2, 7, Some(b'k'))?;
+    let keys = keys(alloc, b"k")?;
+    let mut table = Table::new(alloc, list, keys).map_err(|_| AllocError)?;
+    if table.len() != 2 {
+        return Err(AllocError);
+    }
+    table.sample(1, 40);
+    table.missed(0);
+    Ok(table)
+}
+
+// What a table and its copy show, and then both again once the first has missed once more.
+fn twice_shown(alloc: Global, table: &mut Table, copy: &Table) -> Result<[String; 4], AllocError> {
+    let first = shown(alloc, table)?;
+    let copied = shown(alloc, copy)?;
+    if table.len() == 2 {
+        table.missed(0);
+    }
+    Ok([first, copied, shown(alloc, table)?, shown(alloc, copy)?])
+}
+
+// What is shown of a table with a time and a miss, and of its copy.
+fn copy_shown(alloc: Global) -> Result<[String; 4], AllocError> {
+    let mut table = known(alloc)?;
+    let copy = table.copy(alloc)?;
+    let shown = twice_shown(alloc, &mut table, &copy);
+    drop(copy);
+    drop(table);
+    shown
+}
+
 // A copy has the times and misses, and is changed alone; neither shows the secret.
 #[test]
 fn copied(rt: HostRuntime) -> Result<(), AllocError> {
-    let list = neighbours(rt.alloc(), 1, 2, 7, Some(b'k'))?;
-    let Ok(mut table) = Table::new(rt.alloc(), list, keys(rt.alloc(), b"k")?) else {
-        return Err(AllocError);
-    };
-    assert!(rt; table.len() == 2);
-    table.sample(1, 40);
-    table.missed(0);
-    let copy = table.copy(rt.alloc())?;
-    let shown = format!(in rt.alloc(); "{table:?}")?;
-    let again = format!(in rt.alloc(); "{copy:?}")?;
-    assert!(rt; shown.as_str() == again.as_str() && !shown.as_str().contains("1, 2, 3"));
-    table.missed(0);
-    let changed = format!(in rt.alloc(); "{table:?}")?;
-    let kept = format!(in rt.alloc(); "{copy:?}")?;
-    assert!(rt; changed.as_str() != shown.as_str() && kept.as_str() == shown.as_str());
+    let [first, copied, changed, kept] = copy_shown(rt.alloc())?;
+    assert!(rt; first.as_str() == copied.as_str() && !first.as_str().contains("1, 2, 3"));
+    assert!(rt; changed.as_str() != first.as_str() && kept.as_str() == first.as_str());
     Ok(())
 }
 

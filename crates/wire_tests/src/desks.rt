@@ -1,11 +1,13 @@
 //! Pumping for the seats of a desk.
-ghost use Rattle.std.specs.Prelude.{◌≡◌};
+ghost use Rattle.std.specs.Prelude.{◌≡◌, IfSome};
+ghost use Rattle.node_book.specs.Book.{count_of};
 
 use crate::fixtures::{
-    Step, WAITS, ask, at, fetches_from_origin, has_replied, node_of, pumped, wire_of,
+    Step, WAITS, asks, fetches_from_origin, has_replied, node_of, pumped, wire_of,
 };
 use mio_queries::{PumpFault, Pumped, WireFault};
 use node_book::{Booked, Desk, Report, Seat, Seated};
+use node_core::Action;
 use std::alloc::Global;
 use std::marker::Brand;
 use std::sync::Wait;
@@ -48,57 +50,113 @@ const SECOND: Row = Row {
     fetches: true,
 };
 
+/// The book of a new node.
+fn book_of(alloc: Global) -> Option<Booked>
+    ensures { IfSome result (λ b. count_of b ≡ 0) }
+{
+    Booked::new(alloc, node_of(alloc, WAITS)?, 100).ok()
+}
+
 /// A desk with two seats.
-fn opened<L: Ledger>(alloc: Global, blank: Blank) -> Result<(Desk<L>, Vec<Seat<L>>), Fail>
+fn desk_of<L: Ledger>(alloc: Global, blank: Blank) -> Option<(Desk<L>, Vec<Seat<L>>)>
     requires name { blank.name ≡ L.name }
     requires parts { blank.parts ≡ L.parts }
     requires two { blank.parts ≡ 2 }
 {
-    let booked = Booked::new(alloc, node_of(alloc, WAITS)?, 100)?;
-    Ok(Desk::<L>::open(alloc, blank, booked, 2)?)
+    let booked = book_of(alloc)?;
+    Desk::<L>::open(alloc, blank, booked, 2).ok()
 }
 
-/// Pumps for a clerk. Whether this gives what the row says.
+/// Whether the pending fetch was passed, and nothing else.
+fn has_passed_fetch(passed: &[Action]) -> bool {
+    match passed {
+        [action] => fetches_from_origin(action, 1),
+        _ => false,
+    }
+}
+
+/// Pumps for a clerk. Whether this gives what the row says; none where memory is refused.
 fn holds<L: Ledger, R: Wait>(
     alloc: Global,
     clerk: &mut Seated<'_, L, R>,
     row: &Row,
-) -> Result<bool, Fail> {
+) -> Option<bool> {
     let mut wire = wire_of(alloc, row.steps, &[])?;
     let gives = pumped(alloc, &mut wire, clerk, row.turns);
-    let fetches = match clerk.passed() {
-        [action] => fetches_from_origin(action, 1),
-        _ => false,
-    };
-    Ok(gives == row.gives && has_replied(&wire, row.replied) && fetches == row.fetches)
+    let fetches = has_passed_fetch(clerk.passed());
+    Some(gives == row.gives && has_replied(&wire, row.replied) && fetches == row.fetches)
+}
+
+/// A client asks the first seat, and both pump, one after the other. Whether each gives what its row says; none where the
+/// client isn't taken or memory is refused.
+fn both_hold<L: Ledger, R: Wait>(
+    alloc: Global,
+    first: &mut Seated<'_, L, R>,
+    second: &mut Seated<'_, L, R>,
+) -> Option<(bool, bool)> {
+    if !asks(alloc, first, 1, b"http://a/") {
+        return None;
+    }
+    let one = holds(alloc, first, &FIRST)?;
+    Some((one, holds(alloc, second, &SECOND)?))
+}
+
+/// The first and the second seat of two.
+fn pair_of<L: Ledger>(seats: &mut Vec<Seat<L>>) -> Option<(Seat<L>, Seat<L>)> {
+    let second = seats.pop()?;
+    Some((seats.pop()?, second))
+}
+
+/// Two seats of a desk pump, and are handed back.
+fn seats_pump<L: Ledger, R: Wait>(
+    rt: &R,
+    alloc: Global,
+    desk: &Desk<L>,
+    first: Seat<L>,
+    second: Seat<L>,
+) -> (Option<(bool, bool)>, Seat<L>, Seat<L>) {
+    let mut first = Seated::new(alloc, rt, desk, first);
+    let mut second = Seated::new(alloc, rt, desk, second);
+    let hold = both_hold(alloc, &mut first, &mut second);
+    (hold, first.into_seat(), second.into_seat())
+}
+
+/// The two seats of a desk pump, and are put back.
+fn all_pump<L: Ledger, R: Wait>(
+    rt: &R,
+    alloc: Global,
+    desk: &Desk<L>,
+    seats: &mut Vec<Seat<L>>,
+) -> Option<(bool, bool)> {
+    let (first, second) = pair_of(seats)?;
+    let (hold, first, second) = seats_pump(rt, alloc, desk, first, second);
+    seats.push(second).ok()?;
+    seats.push(first).ok()?;
+    hold
+}
+
+/// What a desk tells at its end.
+fn report_of<L: Ledger>(desk: Desk<L>, seats: Vec<Seat<L>>) -> Option<Report> {
+    desk.settle(seats).ok()
 }
 
 /// Both seats pump, one after the other, for the node of a desk. Whether this gives what the rows say, and what the desk
 /// tells then.
-fn settled<L: Ledger, R: Wait>(
-    rt: &R,
-    alloc: Global,
-    blank: Blank,
-) -> Result<(bool, bool, Report), Fail>
+fn settled<L: Ledger, R: Wait>(rt: &R, alloc: Global, blank: Blank) -> Option<(bool, bool, Report)>
     requires name { blank.name ≡ L.name }
     requires parts { blank.parts ≡ L.parts }
     requires two { blank.parts ≡ 2 }
 {
-    let (desk, mut seats) = opened::<L>(alloc, blank)?;
-    let mut second = Seated::new(alloc, rt, &desk, seats.pop().ok_or("a second seat")?);
-    let mut first = Seated::new(alloc, rt, &desk, seats.pop().ok_or("a first seat")?);
-    ask(alloc, &mut first, 1, b"http://a/", at(1_000)?)?;
-    let one = holds(alloc, &mut first, &FIRST)?;
-    let other = holds(alloc, &mut second, &SECOND)?;
-    seats.push(second.into_seat())?;
-    seats.push(first.into_seat())?;
-    Ok((one, other, desk.settle(seats)?))
+    let (desk, mut seats) = desk_of::<L>(alloc, blank)?;
+    let (one, other) = all_pump(rt, alloc, &desk, &mut seats)?;
+    Some((one, other, report_of(desk, seats)?))
 }
 
 /// Six events are in the book: the client's, and those of all receives that gave one.
 #[test]
 fn two_seats_pump(rt: HostRuntime) -> Result<(), Fail> {
-    let (one, other, report) = settled::<Brand, _>(&rt, rt.alloc(), Blank::new(2))?;
+    let settled = settled::<Brand, _>(&rt, rt.alloc(), Blank::new(2));
+    let (one, other, report) = settled.ok_or("a settled desk")?;
     assert!(rt; one);
     assert!(rt; other);
     let wanted = Report {
@@ -106,6 +164,6 @@ fn two_seats_pump(rt: HostRuntime) -> Result<(), Fail> {
         base: 0,
         matched: 6,
     };
-    assert_eq!(rt; report, wanted);
+    assert!(rt; report == wanted);
     Ok(())
 }

@@ -1,6 +1,6 @@
 //! Ends, octets, nodes and wires that the tests share.
 use filter_slots::{Datagram, End, Moment, Socket};
-use mio_queries::{MemoryWire, PumpFault, Pumped, Received, Wire, WireFault, pump};
+use mio_queries::{MemoryWire, PumpFault, Pumped, Received, Sending, Wire, WireFault, pump};
 use neighbours::{Neighbour, Role};
 use node_book::{Clerk, Lone};
 use node_core::{Action, Config, Event, Mode, Network, Node, Out};
@@ -8,7 +8,6 @@ use object_store::CacheKey;
 use peer_select::Source;
 use std::alloc::Global;
 use std::sync::Arc;
-use std::test::Fail;
 
 /// The own end of a node in memory.
 pub(crate) const OWN: End = End {
@@ -78,27 +77,39 @@ fn network(first: u8) -> Network {
 }
 
 /// The neighbours of a node: one, or none.
-fn neighbours_of(alloc: Global, site: Site) -> Result<Vec<Neighbour>, Fail> {
+fn neighbours_of(alloc: Global, site: Site) -> Option<Vec<Neighbour>> {
     let mut neighbours = Vec::new(alloc);
     if let Some((kind, end)) = site.silent {
-        neighbours.push(Neighbour {
-            kind,
-            protocol: Socket::Icp,
-            end,
-            http_port: 3128,
-            weight: 1,
-            key: None,
-        })?;
+        neighbours
+            .push(Neighbour {
+                kind,
+                protocol: Socket::Icp,
+                end,
+                http_port: 3128,
+                weight: 1,
+                key: None,
+            })
+            .ok()?;
     }
-    Ok(neighbours)
+    Some(neighbours)
 }
 
-/// A node that answers 10.0.0.0/8 and 127.0.0.0/8.
-pub(crate) fn node_of(alloc: Global, site: Site) -> Result<Node, Fail> {
-    let mut allowed = Vec::new(alloc);
-    allowed.push(network(10))?;
-    allowed.push(network(127))?;
-    let config = Config {
+/// The networks 10.0.0.0/8 and 127.0.0.0/8.
+fn networks(alloc: Global) -> Option<Vec<Network>> {
+    let mut networks = Vec::new(alloc);
+    for first in [10, 127] {
+        networks.push(network(first)).ok()?;
+    }
+    Some(networks)
+}
+
+fn config_of(
+    alloc: Global,
+    site: Site,
+    allowed: Vec<Network>,
+    neighbours: Vec<Neighbour>,
+) -> Config {
+    Config {
         icp: site.icp,
         htcp: site.htcp,
         allowed,
@@ -106,19 +117,21 @@ pub(crate) fn node_of(alloc: Global, site: Site) -> Result<Node, Fail> {
         origin: site.origin,
         entries: 10,
         octets: 1_000,
-        neighbours: neighbours_of(alloc, site)?,
+        neighbours,
         keys: Vec::new(alloc),
-    };
-    Ok(Node::new(alloc, config).ok().ok_or("a node")?)
+    }
+}
+
+/// A node that answers 10.0.0.0/8 and 127.0.0.0/8.
+pub(crate) fn node_of(alloc: Global, site: Site) -> Option<Node> {
+    let allowed = networks(alloc)?;
+    let neighbours = neighbours_of(alloc, site)?;
+    Node::new(alloc, config_of(alloc, site, allowed, neighbours)).ok()
 }
 
 /// Such a node by itself.
-pub(crate) fn lone(alloc: Global, site: Site) -> Result<Lone, Fail> {
-    Ok(Lone::new(alloc, node_of(alloc, site)?))
-}
-
-pub(crate) fn at(millis: u64) -> Result<Moment, Fail> {
-    Ok(Moment::new(millis).ok_or("a moment")?)
+pub(crate) fn lone(alloc: Global, site: Site) -> Option<Lone> {
+    Some(Lone::new(alloc, node_of(alloc, site)?))
 }
 
 /// What a wire in memory is to answer.
@@ -130,39 +143,63 @@ pub(crate) enum Step {
     Fault(WireFault),
 }
 
-fn query(alloc: Global, place: usize) -> Result<Received, Fail> {
-    let octets = QUERIES.get(place).ok_or("a query")?.to_vec(alloc)?;
-    let datagram = Datagram::new(Socket::Icp, PEER, OWN, octets).ok();
-    let datagram = Arc::new(alloc, datagram.ok_or("a datagram")?)?;
-    Ok(Received::Datagram(datagram, at(5)?))
+/// All queries, in order.
+pub(crate) const FIVE: [Step; 5] = [
+    Step::Query(0),
+    Step::Query(1),
+    Step::Query(2),
+    Step::Query(3),
+    Step::Query(4),
+];
+
+fn datagram_of(alloc: Global, place: usize) -> Option<Datagram> {
+    let octets = QUERIES.get(place)?.to_vec(alloc).ok()?;
+    Datagram::new(Socket::Icp, PEER, OWN, octets).ok()
 }
 
-fn answer_of(alloc: Global, step: Step) -> Result<Result<Received, WireFault>, Fail> {
+fn query(alloc: Global, place: usize) -> Option<Received> {
+    let now = Moment::new(5)?;
+    let datagram = Arc::new(alloc, datagram_of(alloc, place)?).ok()?;
+    Some(Received::Datagram(datagram, now))
+}
+
+fn answer_of(alloc: Global, step: Step) -> Option<Result<Received, WireFault>> {
     match step {
-        Step::Query(place) => Ok(Ok(query(alloc, place)?)),
-        Step::Idle(now) => Ok(Ok(Received::Idle(at(now)?))),
-        Step::Fault(fault) => Ok(Err(fault)),
+        Step::Query(place) => Some(Ok(query(alloc, place)?)),
+        Step::Idle(now) => Some(Ok(Received::Idle(Moment::new(now)?))),
+        Step::Fault(fault) => Some(Err(fault)),
     }
+}
+
+fn answers_of(alloc: Global, steps: &[Step]) -> Option<Vec<Result<Received, WireFault>>> {
+    let mut answers = Vec::new(alloc);
+    for step in steps {
+        answers.push(answer_of(alloc, *step)?).ok()?;
+    }
+    Some(answers)
 }
 
 /// A wire that answers these, and of whose sends those fail for which `failing` says so.
-pub(crate) fn wire_of(alloc: Global, steps: &[Step], failing: &[bool]) -> Result<MemoryWire, Fail> {
-    let mut answers = Vec::new(alloc);
-    for step in steps {
-        answers.push(answer_of(alloc, *step)?)?;
-    }
-    Ok(MemoryWire::new(alloc, answers, failing.to_vec(alloc)?))
+pub(crate) fn wire_of(alloc: Global, steps: &[Step], failing: &[bool]) -> Option<MemoryWire> {
+    let failing = failing.to_vec(alloc).ok()?;
+    Some(MemoryWire::new(alloc, answers_of(alloc, steps)?, failing))
+}
+
+/// Whether this is the reply to a query, back to who asked.
+fn is_reply(sending: &Sending, place: usize) -> bool {
+    sending.socket == Socket::Icp
+        && sending.to == PEER
+        && MISSES.get(place).copied() == Some(sending.payload.as_slice())
 }
 
 /// Whether exactly the replies to these queries were sent, in this order, back to who asked.
 pub(crate) fn has_replied(wire: &MemoryWire, places: &[usize]) -> bool {
-    let mut sent = wire.sent().iter().zip(places);
+    for (sending, place) in wire.sent().iter().zip(places) {
+        if !is_reply(sending, *place) {
+            return false;
+        }
+    }
     wire.sent().len() == places.len()
-        && sent.all(|(sending, place)| {
-            sending.socket == Socket::Icp
-                && sending.to == PEER
-                && MISSES.get(*place).copied() == Some(sending.payload.as_slice())
-        })
 }
 
 /// What pumping gives.
@@ -175,24 +212,57 @@ pub(crate) fn pumped<W: Wire, C: Clerk>(
     pump(alloc, wire, clerk, turns)
 }
 
-/// A client asks for an address.
-pub(crate) fn ask<C: Clerk>(
+/// What pumping gives for a node by itself that has no neighbours, and how many datagrams the node has judged then.
+pub(crate) fn pumped_alone(
     alloc: Global,
-    clerk: &mut C,
-    client: u64,
-    address: &[u8],
-    now: Moment,
-) -> Result<(), Fail> {
-    let key = CacheKey::new(alloc, address.to_vec(alloc)?).ok();
+    wire: &mut MemoryWire,
+    turns: u32,
+) -> Option<(Result<Pumped, PumpFault>, u64)> {
+    let mut clerk = lone(alloc, ALONE)?;
+    let gives = pumped(alloc, wire, &mut clerk, turns);
+    let judged = judged_by(&clerk);
+    drop(clerk);
+    Some((gives, judged))
+}
+
+fn judged_by(clerk: &Lone) -> u64 {
+    clerk.node().stats().icp.judged
+}
+
+/// A client that asks for an address at 1000.
+fn request(alloc: Global, client: u64, address: &[u8]) -> Option<Arc<Event>> {
+    let now = Moment::new(1_000)?;
+    let key = CacheKey::new(alloc, address.to_vec(alloc).ok()?).ok()?;
     let event = Event::Request {
         client,
-        key: key.ok_or("a key")?,
+        key,
         mode: Mode::Shared,
         now,
     };
-    let mut out = Out::new(alloc)?;
-    clerk.submit(alloc, Arc::new(alloc, event)?, &mut out)?;
-    Ok(())
+    Arc::new(alloc, event).ok()
+}
+
+/// Whether a clerk takes an event.
+fn is_taken<C: Clerk>(alloc: Global, clerk: &mut C, event: Arc<Event>) -> bool {
+    match Out::new(alloc) {
+        Ok(mut out) => clerk.submit(alloc, event, &mut out).is_ok(),
+        Err(_) => false,
+    }
+}
+
+/// A client asks for an address at 1000. Whether the clerk takes that.
+pub(crate) fn asks<C: Clerk>(alloc: Global, clerk: &mut C, client: u64, address: &[u8]) -> bool {
+    match request(alloc, client, address) {
+        Some(event) => is_taken(alloc, clerk, event),
+        None => false,
+    }
+}
+
+/// A node by itself at which clients 1 and 2 ask at 1000, each for another address.
+pub(crate) fn asked(alloc: Global, site: Site) -> Option<Lone> {
+    let mut clerk = lone(alloc, site)?;
+    let both = asks(alloc, &mut clerk, 1, b"http://a/") && asks(alloc, &mut clerk, 2, b"http://b/");
+    both.then_some(clerk)
 }
 
 /// Whether an action is the first attempt at a shared fetch from the origin.

@@ -6,7 +6,7 @@ ghost use Rattle.pending_fetch.specs.Fetches.{fetch_of};
 ghost use Rattle.node_core.specs.Happening.{arrives, happening};
 ghost use Rattle.node_book.specs.Told.{Told, Submits, passing};
 
-use crate::fixtures::{ALONE, Step, WAITS, ask, at, has_replied, lone, pumped, wire_of};
+use crate::fixtures::{ALONE, FIVE, Step, WAITS, asked, has_replied, lone, pumped, wire_of};
 use filter_slots::{Judged, Moment, Slots};
 use mio_queries::{NoMemory, PumpFault};
 use node_book::{Clerk, Lone, SubmitFault};
@@ -14,7 +14,6 @@ use node_core::{Action, Event, Out};
 use object_store::CacheKey;
 use std::alloc::Global;
 use std::sync::Arc;
-use std::test::Fail;
 
 /// A clerk over another, to which so many events more can be submitted and so many actions more can be passed.
 #[derive(Drop)]
@@ -126,62 +125,58 @@ const ROWS: [Row; 5] = [
     },
 ];
 
-const FIVE: &[Step] = &[
-    Step::Query(0),
-    Step::Query(1),
-    Step::Query(2),
-    Step::Query(3),
-    Step::Query(4),
-];
-
 /// Whether pumping gives what a row says, one query more was received than replies were sent, and these were.
-fn holds(alloc: Global, row: &Row) -> Result<bool, Fail> {
-    let mut wire = wire_of(alloc, FIVE, &[])?;
+fn holds(alloc: Global, clerk: &mut Limited<Lone>, row: &Row) -> Option<bool> {
+    let mut wire = wire_of(alloc, &FIVE, &[])?;
+    let gives = pumped(alloc, &mut wire, clerk, 5);
+    let one_more = wire.taken().checked_sub(1) == Some(row.replied.len());
+    Some(gives.err() == Some(row.gives) && one_more && has_replied(&wire, row.replied))
+}
+
+/// Whether a row holds for the clerk of a node by itself; none where memory is refused.
+fn row_holds(alloc: Global, row: &Row) -> Option<bool> {
     let mut clerk = Limited {
         clerk: lone(alloc, ALONE)?,
         events: row.events,
         passes: 0,
         fault: row.fault,
     };
-    let gives = pumped(alloc, &mut wire, &mut clerk, 5);
-    let one_more = wire.taken().checked_sub(1) == Some(row.replied.len());
-    Ok(gives.err() == Some(row.gives) && one_more && has_replied(&wire, row.replied))
+    let holds = holds(alloc, &mut clerk, row);
+    drop(clerk);
+    holds
 }
 
 #[test]
-fn a_clerk_takes_no_more(rt: HostRuntime) -> Result<(), Fail> {
+fn a_clerk_takes_no_more(rt: HostRuntime) {
     for row in &ROWS {
-        assert!(rt; holds(rt.alloc(), row)?);
+        assert!(rt; row_holds(rt.alloc(), row) == Some(true));
     }
-    Ok(())
 }
 
-/// A node by itself with a silent parent, at which two clients wait.
-fn waiting(alloc: Global) -> Result<Lone, Fail> {
-    let mut clerk = lone(alloc, WAITS)?;
-    ask(alloc, &mut clerk, 1, b"http://a/", at(1_000)?)?;
-    ask(alloc, &mut clerk, 2, b"http://b/", at(1_000)?)?;
-    Ok(clerk)
+/// What two turns give, of which the first is idle at 3000.
+fn fault_after_idle(alloc: Global, clerk: &mut Limited<Lone>) -> Option<Option<PumpFault>> {
+    let mut wire = wire_of(alloc, &[Step::Idle(3_000), Step::Query(0)], &[])?;
+    Some(pumped(alloc, &mut wire, clerk, 2).err())
 }
 
 /// What an idle turn gives in which two fetches are to be passed, and how many of them the clerk was passed.
-fn passes(alloc: Global, passes: u32) -> Result<(Option<PumpFault>, usize), Fail> {
+fn passes(alloc: Global, passes: u32) -> Option<(Option<PumpFault>, usize)> {
     let mut clerk = Limited {
-        clerk: waiting(alloc)?,
+        clerk: asked(alloc, WAITS)?,
         events: 2,
         passes,
         fault: SubmitFault::Ended,
     };
-    let mut wire = wire_of(alloc, &[Step::Idle(3_000), Step::Query(0)], &[])?;
-    let gives = pumped(alloc, &mut wire, &mut clerk, 2);
-    Ok((gives.err(), clerk.clerk.passed().len()))
+    let gives = fault_after_idle(alloc, &mut clerk);
+    let passed = clerk.clerk.passed().len();
+    drop(clerk);
+    Some((gives?, passed))
 }
 
 #[test]
-fn a_clerk_has_no_room(rt: HostRuntime) -> Result<(), Fail> {
+fn a_clerk_has_no_room(rt: HostRuntime) {
     let alloc = rt.alloc();
-    assert_eq!(rt; passes(alloc, 0)?, (Some(PumpFault::NoMemory), 0));
-    assert_eq!(rt; passes(alloc, 1)?, (Some(PumpFault::NoMemory), 1));
-    assert_eq!(rt; passes(alloc, 2)?, (None, 2));
-    Ok(())
+    assert!(rt; passes(alloc, 0) == Some((Some(PumpFault::NoMemory), 0)));
+    assert!(rt; passes(alloc, 1) == Some((Some(PumpFault::NoMemory), 1)));
+    assert!(rt; passes(alloc, 2) == Some((None, 2)));
 }

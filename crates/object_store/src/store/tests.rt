@@ -32,54 +32,78 @@ fn touches(store: &mut Store, key: &CacheKey, now: Moment) -> bool
     store.get(key, now).is_some()
 }
 
+// Whether these octets are refused as no key, and given back.
+fn is_given_back(alloc: Global, text: &str) -> Result<bool, Fail> {
+    let octets = text.as_bytes().to_vec(alloc)?;
+    match CacheKey::new(alloc, octets) {
+        Ok(_) => Ok(false),
+        Err((fault, octets)) => Ok(
+            fault == KeyFault::NotKey && octets.as_slice() == text.as_bytes(),
+        ),
+    }
+}
+
+const NO_KEYS: [&str; 6] = [
+    "",
+    "http:/",
+    "ftp://a/",
+    "HTTP://a/",
+    "http://a b",
+    "http://a\x7f",
+];
+
+#[test]
+fn what_is_no_key(rt: HostRuntime) -> Result<(), Fail> {
+    for text in &NO_KEYS {
+        assert!(rt; is_given_back(rt.alloc(), *text)?, "{}", *text);
+    }
+    Ok(())
+}
+
+// Whether there is a key of so many octets.
+fn is_key(alloc: Global, length: usize) -> Result<bool, Fail> {
+    let mut octets = b"http://!~".to_vec(alloc)?;
+    octets.resize(length, 0x61)?;
+    Ok(CacheKey::new(alloc, octets).is_ok())
+}
+
 #[test]
 fn keys(rt: HostRuntime) -> Result<(), Fail> {
     let alloc = rt.alloc();
-    let refused = [
-        "",
-        "http:/",
-        "ftp://a/",
-        "HTTP://a/",
-        "http://a b",
-        "http://a\x7f",
-    ];
-    for text in refused {
-        let octets = text.as_bytes().to_vec(alloc)?;
-        let refused = CacheKey::new(alloc, octets).err().ok_or("a key")?;
-        assert_eq!(rt; refused.0, KeyFault::NotKey, "{text}");
-        assert_eq!(rt; refused.1.as_slice(), text.as_bytes());
-    }
-    for (length, accepted) in [(8192, true), (8193, false)] {
-        let mut octets = b"http://!~".to_vec(alloc)?;
-        octets.resize(length, 0x61)?;
-        assert_eq!(rt; CacheKey::new(alloc, octets).is_ok(), accepted);
-    }
+    assert!(rt; is_key(alloc, 8192)?);
+    assert!(rt; !is_key(alloc, 8193)?);
     let first = key(alloc, "http://a/")?;
     assert!(rt; first.share()? == key(alloc, "http://a/")?);
     assert!(rt; first != key(alloc, "http://b/")?);
     Ok(())
 }
 
-#[test]
-fn digests(rt: HostRuntime) -> Result<(), Fail> {
-    let alloc = rt.alloc();
+// A status of 200 with the head `a: b` and the body `hi`.
+fn greeting(alloc: Global) -> Result<Object, Fail> {
     let mut head = Vec::new(alloc);
     head.push((b"a".to_vec(alloc)?, b"b".to_vec(alloc)?))?;
-    let object = Object::new(200, head, b"hi".to_vec(alloc)?, 1, 60);
-    let wanted: [u8; 16] = [
-        0xd7, 0xda, 0xfd, 0xeb, 0x90, 0x7b, 0xbf, 0x1f, 0xc4, 0xb1, 0xc3, 0xe4, 0xc9, 0xbf, 0x8c,
-        0x09,
-    ];
-    assert_eq!(rt; object.digest(), wanted);
-    let shared = SharedObject::new(alloc, object)?;
+    Ok(Object::new(200, head, b"hi".to_vec(alloc)?, 1, 60))
+}
+
+const DIGEST: [u8; 16] = [
+    0xd7, 0xda, 0xfd, 0xeb, 0x90, 0x7b, 0xbf, 0x1f, 0xc4, 0xb1, 0xc3, 0xe4, 0xc9, 0xbf, 0x8c, 0x09,
+];
+
+#[test]
+fn digests(rt: HostRuntime) -> Result<(), Fail> {
+    assert!(rt; greeting(rt.alloc())?.digest() == DIGEST);
+    Ok(())
+}
+
+// What another owner of an object has of it.
+#[test]
+fn sharing(rt: HostRuntime) -> Result<(), Fail> {
+    let shared = SharedObject::new(rt.alloc(), greeting(rt.alloc())?)?;
     let second = shared.share()?;
     let object = second.get();
-    assert_eq!(rt;
-        (object.status(), object.age(), object.life()),
-        (200, 1, 60)
-    );
-    assert_eq!(rt; object.head().len(), 1);
-    assert_eq!(rt; object.body(), b"hi".as_slice());
+    assert!(rt; (object.status(), object.age(), object.life()) == (200, 1, 60));
+    assert!(rt; object.head().len() == 1);
+    assert!(rt; object.body() == b"hi".as_slice());
     Ok(())
 }
 
@@ -186,6 +210,13 @@ impl Twins {
         Ok(answer)
     }
 
+    // Whether a row's answer is what both say, and its keys are what both hold then.
+    fn follow(&mut self, alloc: Global, row: Row) -> Result<bool, Fail> {
+        let answer = self.call(alloc, row)?;
+        let keys = self.keys(alloc)?;
+        Ok(answer == row.5 && keys.as_slice() == row.6.as_bytes())
+    }
+
     // The eighth octets of the keys of both, the most recently used first, if they are the same.
     fn keys(&self, alloc: Global) -> Result<Vec<u8>, Fail> {
         let mut names = Vec::new(alloc);
@@ -249,51 +280,73 @@ const BY_ENTRIES: [Row; 9] = [
     (Call::Get, C, 0, 0, 1010, Ok(None), "d"),
 ];
 
+// The place of the first row whose answer, or whose keys after it, are others than it says.
+fn first_wrong(alloc: Global, twins: &mut Twins, rows: &[Row]) -> Result<Option<usize>, Fail> {
+    for (place, row) in rows.iter().enumerate() {
+        if !twins.follow(alloc, *row)? {
+            return Ok(Some(place));
+        }
+    }
+    Ok(None)
+}
+
 #[test]
-fn calls(rt: HostRuntime) -> Result<(), Fail> {
+fn calls_within_octets(rt: HostRuntime) -> Result<(), Fail> {
     let alloc = rt.alloc();
     let mut twins = Twins::new(alloc, 10, 100)?;
-    for row in BY_OCTETS {
-        assert_eq!(rt; twins.call(alloc, row)?, row.5, "{}", row.6);
-        assert_eq!(rt; twins.keys(alloc)?.as_slice(), row.6.as_bytes());
-    }
+    assert!(rt; first_wrong(alloc, &mut twins, &BY_OCTETS)? == None);
+    Ok(())
+}
+
+#[test]
+fn calls_within_entries(rt: HostRuntime) -> Result<(), Fail> {
+    let alloc = rt.alloc();
     let mut twins = Twins::new(alloc, 3, 1000)?;
-    for row in BY_ENTRIES {
-        assert_eq!(rt; twins.call(alloc, row)?, row.5, "{}", row.6);
-        assert_eq!(rt; twins.keys(alloc)?.as_slice(), row.6.as_bytes());
-    }
+    assert!(rt; first_wrong(alloc, &mut twins, &BY_ENTRIES)? == None);
     let now = Moment::new(1020).ok_or("no moment")?;
     assert!(rt; touches(&mut twins.store, &key(alloc, D)?, now));
     twins.store.facts();
     Ok(())
 }
 
+// Whether an entry of so many octets of body is put under a name, at 1010 for a minute.
+fn is_put(alloc: Global, store: &mut Store, name: &str, body: usize) -> Result<bool, Fail> {
+    let key = key(alloc, name)?;
+    let entry = entry(alloc, body, 60, 1010)?;
+    Ok(store.put(key, entry).is_ok())
+}
+
+// The octets of body of the entry that is removed under a name, if there is one.
+fn removed(store: &mut Store, name: &str) -> Option<usize> {
+    let entry = store.remove_octets(name.as_bytes())?;
+    Some(entry.object.get().body().len())
+}
+
 // An entry that is no longer fresh is held until it is removed, by the octets of its key.
 #[test]
-fn stale_entries(rt: HostRuntime) -> Result<(), Fail> {
+fn stale_entries_are_held(rt: HostRuntime) -> Result<(), Fail> {
     let alloc = rt.alloc();
     let mut store = Store::new(alloc, 10, 100)?;
-    assert!(rt;
-        store
-            .put(key(alloc, A)?, entry(alloc, 21, 60, 1010)?)
-            .is_ok()
-    );
+    assert!(rt; is_put(alloc, &mut store, A, 21)?);
     let stale = Moment::new(61010).ok_or("no moment")?;
     assert!(rt; store.peek_octets(A.as_bytes(), stale).is_none());
     for (name, held) in [(A, true), (B, false), ("http://a", false), ("", false)] {
         assert!(rt; store.holds_octets(name.as_bytes()) == held, "{name}");
     }
-    assert!(rt; store.remove_octets(B.as_bytes()).is_none());
-    let removed = store.remove_octets(A.as_bytes()).ok_or("the entry")?;
-    assert_eq!(rt; removed.object.get().body().len(), 21);
+    Ok(())
+}
+
+#[test]
+fn stale_entries_are_removed(rt: HostRuntime) -> Result<(), Fail> {
+    let alloc = rt.alloc();
+    let mut store = Store::new(alloc, 10, 100)?;
+    assert!(rt; is_put(alloc, &mut store, A, 21)?);
+    assert!(rt; removed(&mut store, B).is_none());
+    assert!(rt; removed(&mut store, A) == Some(21));
     assert!(rt; !store.holds_octets(A.as_bytes()));
-    assert!(rt; store.remove_octets(A.as_bytes()).is_none());
+    assert!(rt; removed(&mut store, A).is_none());
     // the octets that it had are free again
-    assert!(rt;
-        store
-            .put(key(alloc, B)?, entry(alloc, 91, 60, 1010)?)
-            .is_ok()
-    );
+    assert!(rt; is_put(alloc, &mut store, B, 91)?);
     Ok(())
 }
 
@@ -373,19 +426,24 @@ fn thousands(rt: HostRuntime) -> Result<(), Fail> {
     Ok(())
 }
 
+// Whether a row holds, and then still for a copy that stays when the store has lost its pairs.
+fn outlives(alloc: Global, twins: &mut Twins, row: Row) -> Result<bool, Fail> {
+    let is_followed = twins.follow(alloc, row)?;
+    let copy = twins.store.copy(alloc)?;
+    for name in [A, B, C, D] {
+        let _ = twins.store.remove(&key(alloc, name)?);
+    }
+    twins.store = copy;
+    Ok(is_followed && twins.keys(alloc)?.as_slice() == row.6.as_bytes())
+}
+
 // A copy holds the same pairs in the same order, and is changed alone.
 #[test]
 fn copied(rt: HostRuntime) -> Result<(), Fail> {
     let alloc = rt.alloc();
     let mut twins = Twins::new(alloc, 3, 1000)?;
-    for row in BY_ENTRIES {
-        assert_eq!(rt; twins.call(alloc, row)?, row.5, "{}", row.6);
-        let copy = twins.store.copy(alloc)?;
-        for name in [A, B, C, D] {
-            let _ = twins.store.remove(&key(alloc, name)?);
-        }
-        twins.store = copy;
-        assert_eq!(rt; twins.keys(alloc)?.as_slice(), row.6.as_bytes());
+    for row in &BY_ENTRIES {
+        assert!(rt; outlives(alloc, &mut twins, *row)?, "{}", row.6);
     }
     Ok(())
 }

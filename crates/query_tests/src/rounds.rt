@@ -1,8 +1,10 @@
+//! The sources of a round, whatever the order of its replies.
+
 ghost use Rattle.std.specs.Prelude.{◌≡◌, true};
 ghost use Rattle.peer_select.specs.Poll.{matches};
 
-use crate::{Kind, Round, Source};
 use neighbours::{End, Moment, Neighbour, Role, Socket, Table};
+use peer_select::{Kind, Round, Source};
 use std::alloc::{AllocError, Global};
 
 fn neighbour(kind: Role, last: u8, weight: u32) -> Neighbour {
