@@ -1,16 +1,16 @@
 # On a machine that has the Rattle toolchain (`rt`), python3 and make:
-#   make feed    runs the example script: by the proved program where it is built, otherwise unproved, and says which
+#   make feed    runs the example script with the proved program if it is built, otherwise unproved, and says which
 #   make serve   runs the proxy on examples/serve.json, proved or unproved likewise
-#   make group   runs three proxies that ask one another, by the built program; without it, it says what to do
-#   make build   proves and builds the program, with every crate that it stands on
+#   make group   runs the built program as three proxies that ask one another; if it is not built, it says what to do
+#   make build   proves and builds the program and all crates below it
 #   make test    proves every crate from nothing, tries the must-fail edits, runs all tests, script cases and documents
-#   make edits   tries every must-fail edit there is, also those of more-edits/
-#   make slow    what a running proxy does with who is silent for a minute (80 s)
-#   make interop the proxy beside a real squid (it needs squid and curl, and says so)
-#   make load    a mixed load for eleven minutes (it needs wrk, curl and a C compiler)
-#   make bench   measures (it needs valgrind; wrk, nginx and squid where they are)
-#   make sweep   refuses each request for memory of each script case, and of the stories of `refusals`, once; `make test` a part
-#   make storm   100,000,000 events by chance for two nodes, which have to do the same; `make test` does 300,000
+#   make edits   tries every must-fail edit, also those in more-edits/
+#   make slow    tests the proxy with clients and origins that are silent for a minute (80 s)
+#   make interop tests the proxy beside a real squid (needs squid and curl)
+#   make load    runs a mixed load for eleven minutes (needs wrk, curl and a C compiler)
+#   make bench   runs the benchmarks (needs valgrind; wrk, nginx and squid are used if they are installed)
+#   make sweep   makes each allocation of each script case, and of the stories of `test_refusals`, fail once; `make test` does a part
+#   make storm   gives 100,000,000 random events to two nodes, which must do the same; `make test` does 300,000
 
 PROGRAM = crates/cache_main/out/cache_main
 SCRIPT ?= examples/first_path.script
@@ -26,7 +26,7 @@ serve:
 	@tools/serve $(CONFIG)
 
 group:
-	@tools/group $(PROGRAM)
+	@demo/group $(PROGRAM)
 
 build:
 	@tools/build
@@ -34,10 +34,10 @@ build:
 test:
 	@tools/gate
 
-# The script cases, and the documents' commands, against the program as it was last built; and PROMISES' list of what has to be
-# believed, against the definitions.
+# The script cases and the examples in the documents, with the program as it was last built; and the list of trusted definitions in
+# PROMISES.
 cases:
-	@tools/cases $(PROGRAM) cases
+	@tests/cases $(PROGRAM) cases
 
 documents:
 	@tools/documents $(PROGRAM)
@@ -51,20 +51,20 @@ slow:
 	@tests/serve_slow $(PROGRAM)
 
 interop:
-	@tools/interop $(PROGRAM)
+	@tests/interop $(PROGRAM)
 
 load:
-	@tools/load $(PROGRAM)
+	@tests/load $(PROGRAM)
 
-# The proxy over loopback while memory or descriptors are refused.
+# The proxy over loopback while allocations or descriptors fail.
 hostile:
 	@tests/serve_hostile $(PROGRAM)
 
 sweep:
-	@tools/sweep $(PROGRAM) cases --stories crates/refusals/out/refusals
+	@tests/sweep $(PROGRAM) cases --stories crates/test_refusals/out/test_refusals
 
 storm:
-	@tools/storm crates/storm/out/storm 100000000
+	@tests/storm crates/test_storm/out/test_storm 100000000
 
 edits:
 	@tools/edits

@@ -1,4 +1,4 @@
-/* The least that answers ICP queries: recvfrom, check, sendto. It answers MISS to a query (RFC 2186) whose length field, version and
+/* A minimal ICP responder: recvfrom, check, sendto. It answers MISS to a query (RFC 2186) whose length field, version and
  * URL are right, and nothing else; given `drop`, it receives and drops.
  *
  *   icp_responder SECONDS [drop]
@@ -15,7 +15,7 @@
 
 enum { QUERY = 1, MISS = 3, HEADER = 20, REQUESTER = 4, VERSION = 2, MOST = 16384 };
 
-/* The URL's octets with the zero octet at its end, or 0 where the datagram is no query. */
+/* The length of the URL with its final zero octet, or 0 if the datagram is not a query. */
 static size_t url_of(const uint8_t *packet, size_t count)
 {
     if (count < HEADER + REQUESTER + 1 || count > MOST)

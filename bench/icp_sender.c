@@ -2,8 +2,8 @@
  *
  *   icp_sender PORT COUNT WINDOW [bad]
  *
- * has at most WINDOW queries on their way; with `bad` it sends datagrams of a wrong version, which get no answer, and looks at nothing
- * that comes back. After 200 ms without an answer those on their way are taken as lost. Prints answers and seconds. */
+ * keeps at most WINDOW queries in flight; with `bad` it sends datagrams of a wrong version, which get no answer, and reads no
+ * replies. After 200 ms without an answer the queries in flight count as lost. Prints answers and seconds. */
 #include <arpa/inet.h>
 #include <netinet/in.h>
 #include <stdint.h>

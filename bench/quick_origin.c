@@ -1,9 +1,9 @@
-/* An origin that takes little time of its own, for measuring caches.
+/* A fast origin server for benchmarks of caches.
  *
  *   quick_origin PORT
  *
- * listens at 127.0.0.1 and answers GET of /DELAY/OCTETS/LIFE/anything after DELAY milliseconds with a body of so many octets that is
- * fresh for LIFE seconds (0: may not be stored). A DELAY of 9999 is never over. Prints its port once it listens. */
+ * listens at 127.0.0.1 and answers GET of /DELAY/OCTETS/LIFE/anything after DELAY milliseconds with a body of OCTETS octets that
+ * is fresh for LIFE seconds (0: may not be stored). With a DELAY of 9999 it never answers. Prints its port once it listens. */
 #define _GNU_SOURCE
 #include <arpa/inet.h>
 #include <errno.h>

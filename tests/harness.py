@@ -1,7 +1,7 @@
-"""What the tests over loopback, the loads and the measurements share: origins, proxies, clients' answers, datagrams.
+"""Shared by the tests over loopback, the load test and the benchmarks: origins, proxies, clients' answers, datagrams.
 
-A proxy is a process of its own on ports that were free. Whoever starts one ends it: by its last answer (`end`), by as many requests as
-it still answers (`finish`), or by its process id (`kill`). What a test leaves running is ended after it.
+A proxy is a process on free ports. Whoever starts one ends it: by its last answer (`end`), by as many requests as it still
+answers (`finish`), or by its process id (`kill`). What a test leaves running is ended after it.
 """
 import json
 import os
@@ -14,15 +14,15 @@ import tempfile
 import threading
 import time
 
-# The program, and the tests of a file in their order.
+# The program, and the tests of a file in order.
 PROGRAM = os.path.abspath(sys.argv[1]) if len(sys.argv) > 1 else None
 TESTS = []
-# What the test of each thread has started.
+# What the test on each thread has started.
 STARTED = threading.local()
 
 
 class Skipped(Exception):
-    """What a test needs is not here."""
+    """Something that a test needs is missing."""
 
 
 def test(function):
@@ -41,7 +41,7 @@ def holds(truth, what):
 
 
 def until(truth, seconds=10.0, what="it did not come about"):
-    """Waits for something to hold. Answers after how many seconds it did."""
+    """Waits until a condition holds. Returns after how many seconds it did."""
     began = time.monotonic()
     while not truth():
         holds(time.monotonic() - began < seconds, f"{what} within {seconds} s")
@@ -50,7 +50,7 @@ def until(truth, seconds=10.0, what="it did not come about"):
 
 
 def at_once(count, function):
-    """Calls a function of a number in so many threads, and answers what they answered."""
+    """Calls a function with 0, 1, .. on so many threads. Returns the results."""
     seen = [None] * count
 
     def ask(n):
@@ -73,7 +73,7 @@ def free_port(kind=socket.SOCK_STREAM, address="127.0.0.1"):
 # ---- an origin
 
 class Origin:
-    """Answers each connection once, by a table of paths. It counts what it was asked for, and who went away from a silent path."""
+    """Answers one request on each connection, by a table of paths. Counts requests, and clients that left a silent path."""
 
     def __init__(self, pages, delay=0.0):
         self.pages, self.delay, self.asked, self.heads, self.left = pages, delay, [], [], []
@@ -138,7 +138,7 @@ def written(settings, folder):
 
 
 class Proxy:
-    """A proxy that gives so many answers and then ends. `files` is the most files that it may have open."""
+    """A proxy that ends after so many answers. `files` is its limit of open files."""
 
     def __init__(self, stop_after, address="127.0.0.1", files=None, **settings):
         self.address, self.folder = address, tempfile.TemporaryDirectory()
@@ -158,7 +158,7 @@ class Proxy:
         raise AssertionError(f"not ready: {said!r}")
 
     def start(self, files):
-        """Starts the process. Answers what it said where it is not ready."""
+        """Starts the process. Returns its output if it does not get ready."""
         limit = None if files is None else (lambda: resource.setrlimit(resource.RLIMIT_NOFILE, (files, files)))
         self.process = subprocess.Popen([PROGRAM, "serve", written(self.settings, self.folder.name)], stdin=subprocess.DEVNULL,
                                         stdout=subprocess.PIPE, stderr=subprocess.PIPE, text=True, preexec_fn=limit)
@@ -170,7 +170,7 @@ class Proxy:
         return line + self.process.stderr.read()
 
     def end(self, wanted=0, seconds=20):
-        """Waits for its end after the last answer: the book settles, so the status is 0."""
+        """Waits until it ends after the last answer: the book settles, so the status is 0."""
         try:
             status = self.process.wait(seconds)
         except subprocess.TimeoutExpired:
@@ -180,7 +180,7 @@ class Proxy:
         check((status, said), (wanted, ""), "status and standard error")
 
     def finish(self, seconds=60):
-        """Has it give the answers that are left, to requests that ask for nothing, and waits for its end."""
+        """Uses up its remaining answers with trivial requests, and waits until it ends."""
         asks = b"GET https://a/ HTTP/1.1\r\nHost: a\r\n\r\n" * 50
         began = time.monotonic()
         while self.process.poll() is None and time.monotonic() - began < seconds:
@@ -216,8 +216,13 @@ class Proxy:
         return self.raw(f"{method} {url} HTTP/1.1\r\nHost: {host}\r\nConnection: close\r\n{head}\r\n".encode(), seconds)
 
     def admin(self, method, path, body=b""):
+        return self.admin_raw(method, path, f"Host: 127.0.0.1:{self.ports['admin_port']}", body=body)
+
+    def admin_raw(self, method, target, *fields, body=b"", version="HTTP/1.1"):
+        """A request to the administration with these fields."""
+        head = "".join(f"{field}\r\n" for field in (*fields, "Connection: close", f"Content-Length: {len(body)}"))
         with socket.create_connection(("127.0.0.1", self.ports["admin_port"]), timeout=10) as s:
-            s.sendall(f"{method} {path} HTTP/1.1\r\nHost: x\r\nConnection: close\r\nContent-Length: {len(body)}\r\n\r\n".encode() + body)
+            s.sendall(f"{method} {target} {version}\r\n{head}\r\n".encode() + body)
             return whole(s)
 
     def udp(self, port, payload, seconds=2.0):
@@ -231,12 +236,12 @@ class Proxy:
                 return None
 
     def resident(self):
-        """The octets of its resident memory."""
+        """Its resident memory in octets."""
         with open(f"/proc/{self.process.pid}/statm") as it:
             return int(it.read().split()[1]) * resource.getpagesize()
 
     def sockets(self):
-        """How many files it has open."""
+        """The number of its open files."""
         return len(os.listdir(f"/proc/{self.process.pid}/fd"))
 
     def processor_seconds(self):
@@ -260,7 +265,7 @@ class Answer:
 
 
 def rest(s):
-    """All that still comes of a connection."""
+    """Everything that is still received on a connection."""
     pieces = []
     while True:
         piece = s.recv(65536)
@@ -274,7 +279,7 @@ def whole(s):
 
 
 def closed(s):
-    """Waits for the other side to close the connection: after how many seconds, or None where its time limit came first."""
+    """Waits until the other side closes the connection. Returns after how many seconds, or None after its time limit."""
     began = time.monotonic()
     try:
         while s.recv(65536):
@@ -298,7 +303,7 @@ def query(number, url):
 
 
 def htcp_tst(number, url):
-    """An HTCP TST request of a GET, with no signature."""
+    """An unsigned HTCP TST request for a GET."""
     def counted(text):
         return struct.pack(">H", len(text)) + text
     specifier = counted(b"GET") + counted(url.encode()) + counted(b"HTTP/1.1") + counted(b"")
@@ -309,7 +314,7 @@ def htcp_tst(number, url):
 # ---- running tests
 
 def run_one(function):
-    """Runs one test, and ends what it leaves. Answers whether it passed, with the line to print."""
+    """Runs one test, and ends what it leaves running. Returns whether it passed, and the line to print."""
     began = time.monotonic()
     try:
         function()
@@ -324,7 +329,7 @@ def run_one(function):
 
 
 def run_tests(side_by_side=False):
-    """Runs the file's tests, or those that are named, one after the other or all at the same time. The last line has their numbers."""
+    """Runs the file's tests, or those that are named, one by one or all at the same time. The last line has the counts."""
     names = sys.argv[2:]
     chosen = [it for it in TESTS if not names or it.__name__ in names]
     verdicts = []

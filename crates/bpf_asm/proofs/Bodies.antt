@@ -1,4 +1,4 @@
--- A body is written in one row, which is the one that is found.
+-- A body matches one row of the table, and this row is found.
 use Rattle.std.proofs.Common.{◌≡◌, ℕ, List, [], ◌∷◌, Some, None, ap, sym, ◌∙◌}
 use Rattle.bpf_check.specs.declared.operation.Operation.{Operation}
 use Rattle.bpf_check.specs.Operation.{table}

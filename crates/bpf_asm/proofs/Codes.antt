@@ -104,7 +104,7 @@ one_code code operation e = in_rows_code table table_codes code operation e
 same_word : (x y : List ℕ) → bytes_eq x y ≡ true → x ≡ y
 same_word x y = (bytes_eq-Decides x y).0
 
--- what is known of a row that was found
+-- the facts about a row that was found
 pub record Found (word : List ℕ) (ts : List (List ℕ)) (r : Row) : Type 0 where
   pub decodes : operation_of r.code ≡ Some r.operation
   pub mnemonic : word ≡ mnemonic r.operation

@@ -1,4 +1,4 @@
--- The decimal text of a number is a numeral of it.
+-- The decimal text of a number is a numeral with its value.
 use Rattle.std.proofs.Common.{◌≡◌, ℕ, suc, ◌+◌, ◌-◌, ◌*◌, ◌^◌, ◌<◌, min, List, [], ◌∷◌, length, take, Bool, true, false, cond, ◌&&◌, ◌||◌, nat_eq, nat_lt, decimal, refl, ap, sym, ◌∙◌, arith, rules}
 use Rattle.std.specs.Prelude.{codes}
 use Rattle.std.specs.Char.{is_ascii_digit}
@@ -9,7 +9,7 @@ use Rattle.std.proofs.lemmas.Bool.Decides.{nat_tests}
 use Rattle.std.proofs.lemmas.Fmt.{digits_decimal, digits_value-decimal, decimal_nonempty}
 use Rattle.std.proofs.lemmas.Str.Parse.{IsNumeralModel, numerals_by_fold}
 use Rattle.bpf_asm.specs.Token.{is_word_octet, first_two, is_number_text}
-use Rattle.bpf_asm.specs.Number.{digit_value, value_after, IsNumber}
+use Rattle.bpf_asm.specs.Number.{digit_value, value_in_base, IsNumber}
 
 abbrev read_on : ℕ → List ℕ → ℕ
 read_on n [] = n
@@ -29,18 +29,18 @@ digits_same : (ds : List ℕ) → all_ascii_digits ds ≡ list_all is_ascii_digi
 digits_same [] = refl
 digits_same (c ∷ cs) = ap (λ (b : Bool). is_ascii_digit c && b) (digits_same cs)
 
-value_same : (n : ℕ) (ds : List ℕ) → list_all is_ascii_digit ds ≡ true → value_after 10 n ds ≡ read_on n ds
+value_same : (n : ℕ) (ds : List ℕ) → list_all is_ascii_digit ds ≡ true → value_in_base 10 n ds ≡ read_on n ds
 value_same n [] h = refl
 value_same n (c ∷ cs) h =
     let p = both (is_ascii_digit c) (list_all is_ascii_digit cs) h in
     let digit : digit_value c ≡ c - 48 = ap (λ (b : Bool). cond b (c - 48) (cond (nat_lt c 97) (c - 55) (c - 87))) p.0 in
     let next : n * 10 + digit_value c ≡ 10 * n + (c - 48) = omega (arith, digit) in
-    ap (λ (m : ℕ). value_after 10 m cs) next ∙ value_same (10 * n + (c - 48)) cs p.1
+    ap (λ (m : ℕ). value_in_base 10 m cs) next ∙ value_same (10 * n + (c - 48)) cs p.1
 
 pub decimal_digits : (n : ℕ) → n < 2 ^ 64 → list_all is_ascii_digit (decimal n) ≡ true
 decimal_digits n h = sym (digits_same (decimal n)) ∙ digits_decimal own n h
 
-decimal_value : (n : ℕ) → n < 2 ^ 64 → value_after 10 0 (decimal n) ≡ n
+decimal_value : (n : ℕ) → n < 2 ^ 64 → value_in_base 10 0 (decimal n) ≡ n
 decimal_value n h = value_same 0 (decimal n) (decimal_digits n h) ∙ digits_value-decimal own n h
 
 same_number : (x y : ℕ) → nat_eq x y ≡ true → x ≡ y
@@ -50,7 +50,7 @@ apart_with : (c k : ℕ) (b : Bool) → nat_eq c k ≡ b → is_ascii_digit c �
 apart_with c k true e p q = absurd (let f : is_ascii_digit c ≡ is_ascii_digit k = ap is_ascii_digit (same_number c k e) in cc)
 apart_with c k false e p q = refl
 
--- an octet that is no digit isn't a digit
+-- an octet that is not a digit differs from every digit
 pub digit_apart : (c k : ℕ) → is_ascii_digit c ≡ true → is_ascii_digit k ≡ false → nat_eq c k ≡ false
 digit_apart c k p q = apart_with c k (nat_eq c k) refl p q
 

@@ -1,4 +1,4 @@
--- What is read of the tokens is spelled by them, and its words are numerals and labels.
+-- The words read from the tokens spell the tokens, and are numerals and labels.
 use Rattle.bpf_check.specs.declared.operation.Operand.TheVariants.{Constant, Index}
 use Rattle.bpf_check.specs.declared.operation.Operation.{Operation}
 use Rattle.bpf_check.specs.declared.operation.Operation.TheVariants.{Compute, Branch}
@@ -109,7 +109,7 @@ read_open (exactly token ∷ ks) ts ws e =
     let p = and_then (left_of token ts) (λ left. fill ks left) ws e in
     read_open ks p.0 ws p.2
 
--- there is a word for each open place
+-- there is a word for each placeholder
 pub fill_opens : (ks : List Kind) (ts ws : List (List ℕ)) → fill ks ts ≡ Some ws → length ws ≡ open_places ks
 fill_opens [] [] ws e = let n : [] ≡ ws = cc in ap length (sym n)
 fill_opens [] (t ∷ ts) ws e = absurd (cc)

@@ -12,7 +12,7 @@ use Rattle.bpf_asm.specs.declared.fault.AsmFault.TheVariants as faults
 use Rattle.bpf_asm.specs.Spelling.{kinds, AreOpen}
 use Rattle.bpf_asm.specs.Token.{first_two}
 use Rattle.bpf_asm.specs.Number.{IsNumber, SpelledBy}
-use Rattle.bpf_asm.specs.Assembly.{body_of, some_token, has_body, place_of, LabelAt, IsAtDistance, Puts, IsInsn, Assembles, labels_in, WrongNumber, IsBranch, BodyFault, LineFault, JumpFault, FaultAt, IsAssemblyFault}
+use Rattle.bpf_asm.specs.Assembly.{body_of, some_token, has_body, instruction_index, LabelAt, IsAtDistance, Puts, IsInsn, Assembles, labels_in, WrongNumber, IsBranch, BodyFault, LineFault, JumpFault, FaultAt, IsAssemblyFault}
 use Rattle.bpf_asm.proofs.Bodies.{one_body}
 use Rattle.bpf_asm.proofs.Places.{place_less, place_line}
 use Rattle.bpf_asm.proofs.Passes.{is_mnemonic_of, no_empty_fault, first_word}
@@ -77,7 +77,7 @@ body_empty line [] e h = refl
 body_empty line (t ∷ ts) e h = absurd (let f : has_body line ≡ true = ap some_token e in cc)
 
 no_body_fault : (ls : List (List (List ℕ))) (p : List Insn) (n : ℕ) (line : List (List ℕ)) (b : Bool) (fault : AsmFault) → Assembles ls p → slice_get ls n ≡ Some line → has_body line ≡ b → BodyFault (body_of line) (n + 1) fault → ⊥
-no_body_fault ls p n line true fault is here body h = let i = is.each n line here body in no_insn_fault ls (place_of ls n) (body_of line) i.0 (n + 1) fault i.2 h
+no_body_fault ls p n line true fault is here body h = let i = is.each n line here body in no_insn_fault ls (instruction_index ls n) (body_of line) i.0 (n + 1) fault i.2 h
 no_body_fault ls p n line false fault is here body h = no_empty_fault (n + 1) fault (subst (λ (ts : List (List ℕ)). BodyFault ts (n + 1) fault) (body_empty line (body_of line) refl body) h)
 
 no_line_fault : (ls : List (List (List ℕ))) (p : List Insn) (time n : ℕ) (line : List (List ℕ)) (fault : AsmFault) → Assembles ls p → slice_get ls n ≡ Some line → LineFault ls time n line fault → ⊥
@@ -98,8 +98,8 @@ no_jump_fault ls p time n line fault is here b =
     let i = is.each n line here (body_has line b.code b.operation b.ws b.written) in
     let e = one_body (body_of line) i.0.code b.code i.2.operation b.operation i.2.ws b.ws i.2.written b.written in
     let named = ap (λ (ws : List (List ℕ)). slice_get (labels_in ws i.2.operation) b.j) e.words ∙ ap (λ (o : Operation). slice_get (labels_in b.ws o) b.j) e.operation ∙ b.named in
-    let led = puts_leads ls (place_of ls n) i.0 i.2.operation i.2.ws i.2.ranges i.2.written.form i.2.puts b.j b.label named in
-    led_right ls (place_of ls n) b.operation b.label led.distance (λ k m x y. is.labels k m b.label x y) led.lead (λ branch. led.near (subst IsBranch (sym e.operation) branch)) (n + 1) fault b.wrong
+    let led = puts_leads ls (instruction_index ls n) i.0 i.2.operation i.2.ws i.2.ranges i.2.written.form i.2.puts b.j b.label named in
+    led_right ls (instruction_index ls n) b.operation b.label led.distance (λ k m x y. is.labels k m b.label x y) led.lead (λ branch. led.near (subst IsBranch (sym e.operation) branch)) (n + 1) fault b.wrong
 
 pub no_fault : (ls : List (List (List ℕ))) (p : List Insn) (time : ℕ) (fault : AsmFault) → Assembles ls p → FaultAt ls time fault → ⊥
 no_fault ls p time fault is h = elim h.3 [
@@ -118,7 +118,7 @@ unfolding IsNumber
 number_same w m n p q = spelled_same (bytes_eq (first_two w) (codes "0x")) w m n p.0 q.0
 
 lead_same : (ls : List (List (List ℕ))) (place : ℕ) (label : List ℕ) (d e : ℕ) → ((m n : ℕ) (l : List ℕ) → LabelAt ls m l → LabelAt ls n l → m ≡ n) → IsAtDistance ls place label d → IsAtDistance ls place label e → d ≡ e
-lead_same ls place label d e one a b = let same = ap (place_of ls) (one a.0 b.0 label a.1 b.1) in let x = a.2 in let y = b.2 in omega arith
+lead_same ls place label d e one a b = let same = ap (instruction_index ls) (one a.0 b.0 label a.1 b.1) in let x = a.2 in let y = b.2 in omega arith
 
 zeros : (a b : ℕ) → a ≡ 0 → b ≡ 0 → a ≡ b
 zeros a b p q = p ∙ sym q
@@ -173,7 +173,7 @@ one_program ls p q a b = same_list p q (a.count ∙ sym b.count) same
         let t = b.each r.n r.x r.found r.passes in
         let e = some_same (slice_get p k) s.0 i (ap (slice_get p) (sym r.earlier) ∙ s.1) x in
         let f = some_same (slice_get q k) t.0 j (ap (slice_get q) (sym r.earlier) ∙ t.1) y in
-        sym e ∙ one_insn ls (place_of ls r.n) (body_of r.x) s.0 t.0 a.labels s.2 t.2 ∙ f
+        sym e ∙ one_insn ls (instruction_index ls r.n) (body_of r.x) s.0 t.0 a.labels s.2 t.2 ∙ f
 
 only_memory : (ls : List (List (List ℕ))) (p : List Insn) (fault : AsmFault) → Assembles ls p → IsAssemblyFault ls fault → fault ≡ faults.NoMemory
 only_memory ls p faults.NoMemory is h = refl

@@ -13,7 +13,7 @@ use Rattle.bpf_asm.specs.declared.fault.AsmFault.TheVariants as faults
 use Rattle.bpf_asm.specs.Form.{mnemonic}
 use Rattle.bpf_asm.specs.Spelling.{kinds, AreOpen}
 use Rattle.bpf_asm.specs.Number.{IsNumber}
-use Rattle.bpf_asm.specs.Assembly.{body_of, has_body, place_of, LabelAt, IsBody, IsAtDistance, Puts, IsInsn, Assembles, IsBranch, labels_in, LabelFault, BodyFault, LineFault, JumpFault, FaultAt, IsFirstFault, IsAssemblyFault}
+use Rattle.bpf_asm.specs.Assembly.{body_of, has_body, instruction_index, LabelAt, IsBody, IsAtDistance, Puts, IsInsn, Assembles, IsBranch, labels_in, LabelFault, BodyFault, LineFault, JumpFault, FaultAt, IsFirstFault, IsAssemblyFault}
 use Rattle.bpf_asm.specs.Drafts.{Draft, Keeps, IsDraft, IsTable, NoneBefore, Resolves, IsResolved, labels_kept, FineLabel, WrongLabel, Unresolved, HasInsn, InsnRefused, IsInsnAt}
 use Rattle.bpf_asm.proofs.Bodies.{one_body}
 use Rattle.bpf_asm.proofs.Resolving.{each_pushed}
@@ -45,8 +45,8 @@ same_labels d (Branch test Index) (l ∷ m ∷ []) fits keeps = (let a = keeps.1
 same_labels d (Branch test Index) (l ∷ m ∷ v ∷ ws) fits keeps = absurd fits.1.1
 same_labels d _ ws fits keeps = refl
 
--- a label of a jump at the place of a draft's line is the draft's
-jump_label : (ls : List (List (List ℕ))) (n m : ℕ) (line other : List (List ℕ)) (d : Draft) (time : ℕ) (fault : AsmFault) → slice_get ls n ≡ Some line → slice_get ls m ≡ Some other → place_of ls m ≡ place_of ls n → IsDraft (body_of line) d → (b : JumpFault ls time m other fault)
+-- the label of a jump on a draft's line is the draft's label
+jump_label : (ls : List (List (List ℕ))) (n m : ℕ) (line other : List (List ℕ)) (d : Draft) (time : ℕ) (fault : AsmFault) → slice_get ls n ≡ Some line → slice_get ls m ≡ Some other → instruction_index ls m ≡ instruction_index ls n → IsDraft (body_of line) d → (b : JumpFault ls time m other fault)
     → (slice_get (labels_kept d d.operation) b.j ≡ Some b.label) × (d.operation ≡ b.operation)
 jump_label ls n m line other d time fault here there place is b =
     let one = place_injective ls n m line other here there (body_has line d.code d.operation is.ws is.written) (body_has other b.code b.operation b.ws b.written) (sym place) in
@@ -65,16 +65,16 @@ resolved_fine look place i d (Branch test side) res (suc zero) l e = (i.jf, (let
 resolved_fine look place i d (Branch test side) res (suc (suc j)) l e = absurd (none_past j l e)
 resolved_fine look place i d _ res j l e = absurd (none_past j l e)
 
--- a label that leads to a later place in reach has no fault
+-- a label of a later instruction within reach has no fault
 pub led_right : (ls : List (List (List ℕ))) (place : ℕ) (o : Operation) (label : List ℕ) (distance : ℕ) → ((m n : ℕ) → LabelAt ls m label → LabelAt ls n label → m ≡ n) → IsAtDistance ls place label distance → (IsBranch o → distance < 256)
     → (line : ℕ) (fault : AsmFault) → LabelFault ls place o label line fault → ⊥
 led_right ls place o label distance one lead near line (faults.NoLabel k) h = h.1 lead.0 lead.1
 led_right ls place o label distance one lead near line (faults.Backward k) h =
-    let same = ap (place_of ls) (one lead.0 h.1.0 lead.1 h.1.1) in
+    let same = ap (instruction_index ls) (one lead.0 h.1.0 lead.1 h.1.1) in
     let to = lead.2 in
     omega (arith, h.1.2)
 led_right ls place o label distance one lead near line (faults.Far k) h =
-    let same = ap (place_of ls) (one lead.0 h.2.0 lead.1 h.2.1) in
+    let same = ap (instruction_index ls) (one lead.0 h.2.0 lead.1 h.2.1) in
     let to = lead.2 in
     let short = near h.1 in
     omega (arith, h.2.2)
@@ -106,39 +106,39 @@ pub first_answer : (ls : List (List (List ℕ))) (fault : AsmFault) → IsFirstF
 first_answer ls faults.NoMemory h = absurd (no_memory_fault ls h.time h.has)
 first_answer ls _ h = h
 
--- no fault of the lines comes after all lines were read
+-- no fault of the first pass comes after all lines
 past_lines : (ls : List (List (List ℕ))) (time when n : ℕ) (line : List (List ℕ)) (fault : AsmFault) → slice_get ls n ≡ Some line → LineFault ls when n line fault → 3 * length ls + time ≤ when → ⊥
 past_lines ls time when n line fault here h low = let early = line_early ls when n line fault h in let within = slice_get_within ls n line here in omega arith
 
--- each fault comes when all jumps before this place were read, or later
+-- each fault comes after the jumps before this index
 abbrev pub NoneBeforePlace : List (List (List ℕ)) → ℕ → Type 0
 NoneBeforePlace ls place = NoneBefore ls (3 * length ls + 2 * place)
 
--- a fault of the label of a jump, which is fine
-refuted : (ls : List (List (List ℕ))) (look : List ℕ → Option ℕ) (n m : ℕ) (line other : List (List ℕ)) (d : Draft) (time : ℕ) (fault : AsmFault) → IsTable ls (length ls) look → slice_get ls n ≡ Some line → slice_get ls m ≡ Some other → place_of ls m ≡ place_of ls n → IsDraft (body_of line) d → (b : JumpFault ls time m other fault)
-    → ((l : List ℕ) → slice_get (labels_kept d d.operation) b.j ≡ Some l → FineLabel look (place_of ls n) d.operation l) → ⊥
+-- a jump's label that is within reach has no fault
+refuted : (ls : List (List (List ℕ))) (look : List ℕ → Option ℕ) (n m : ℕ) (line other : List (List ℕ)) (d : Draft) (time : ℕ) (fault : AsmFault) → IsTable ls (length ls) look → slice_get ls n ≡ Some line → slice_get ls m ≡ Some other → instruction_index ls m ≡ instruction_index ls n → IsDraft (body_of line) d → (b : JumpFault ls time m other fault)
+    → ((l : List ℕ) → slice_get (labels_kept d d.operation) b.j ≡ Some l → FineLabel look (instruction_index ls n) d.operation l) → ⊥
 refuted ls look n m line other d time fault table here there place is b fine =
     let named = jump_label ls n m line other d time fault here there place is b in
-    let good = subst (λ (o : Operation). FineLabel look (place_of ls n) o b.label) named.1 (fine b.label named.0) in
-    fine_right ls look (place_of ls n) b.operation b.label table good (m + 1) fault (subst (λ (k : ℕ). LabelFault ls k b.operation b.label (m + 1) fault) place b.wrong)
+    let good = subst (λ (o : Operation). FineLabel look (instruction_index ls n) o b.label) named.1 (fine b.label named.0) in
+    fine_right ls look (instruction_index ls n) b.operation b.label table good (m + 1) fault (subst (λ (k : ℕ). LabelFault ls k b.operation b.label (m + 1) fault) place b.wrong)
 
 -- the jump of a line is right
-pub place_resolved : (ls : List (List (List ℕ))) (look : List ℕ → Option ℕ) (n : ℕ) (line : List (List ℕ)) (i : Insn) → IsTable ls (length ls) look → slice_get ls n ≡ Some line → HasInsn look (place_of ls n) (body_of line) i → NoneBeforePlace ls (place_of ls n) → NoneBeforePlace ls (place_of ls n + 1)
+pub place_resolved : (ls : List (List (List ℕ))) (look : List ℕ → Option ℕ) (n : ℕ) (line : List (List ℕ)) (i : Insn) → IsTable ls (length ls) look → slice_get ls n ≡ Some line → HasInsn look (instruction_index ls n) (body_of line) i → NoneBeforePlace ls (instruction_index ls n) → NoneBeforePlace ls (instruction_index ls n + 1)
 place_resolved ls look n line i table here h none when other f = elim f.3 [
-  | inl a ↦ absurd (past_lines ls (2 * place_of ls n) when f.0 f.1 other f.2 a (none when other f))
-  | inr b ↦ elim (three (place_of ls f.0) (place_of ls n)) [
+  | inl a ↦ absurd (past_lines ls (2 * instruction_index ls n) when f.0 f.1 other f.2 a (none when other f))
+  | inr b ↦ elim (three (instruction_index ls f.0) (instruction_index ls n)) [
     | inl lt ↦ absurd (let low = none when other f in omega (arith, b.after, b.one_of_two))
     | inr r ↦ elim r [
       | inl gt ↦ omega (arith, b.after)
-      | inr same ↦ absurd (refuted ls look n f.0 line f.1 h.d when other table here f.2 same h.draft b (resolved_fine look (place_of ls n) i h.d h.d.operation h.resolved.1 b.j))
+      | inr same ↦ absurd (refuted ls look n f.0 line f.1 h.d when other table here f.2 same h.draft b (resolved_fine look (instruction_index ls n) i h.d h.d.operation h.resolved.1 b.j))
     ]
   ]
 ]
 
 -- the first label of a line that is wrong
-pub place_unresolved : (ls : List (List (List ℕ))) (look : List ℕ → Option ℕ) (n : ℕ) (line : List (List ℕ)) (d : Draft) (fault : AsmFault) → IsTable ls (length ls) look → slice_get ls n ≡ Some line → IsDraft (body_of line) d → d.line ≡ n + 1 → NoneBeforePlace ls (place_of ls n) → Unresolved look (place_of ls n) d fault → IsFirstFault ls fault
+pub place_unresolved : (ls : List (List (List ℕ))) (look : List ℕ → Option ℕ) (n : ℕ) (line : List (List ℕ)) (d : Draft) (fault : AsmFault) → IsTable ls (length ls) look → slice_get ls n ≡ Some line → IsDraft (body_of line) d → d.line ≡ n + 1 → NoneBeforePlace ls (instruction_index ls n) → Unresolved look (instruction_index ls n) d fault → IsFirstFault ls fault
 place_unresolved ls look n line d fault table here is numbered none u = record {
-  time = 3 * length ls + 2 * place_of ls n + u.j;
+  time = 3 * length ls + 2 * instruction_index ls n + u.j;
   has = (
     n,
     line,
@@ -153,14 +153,14 @@ place_unresolved ls look n line d fault table here is numbered none u = record {
       label = u.label;
       named = ap (λ (l : List (List ℕ)). slice_get l u.j) (same_labels d d.operation is.ws is.written.form is.kept) ∙ u.named;
       after = refl;
-      wrong = subst (λ (k : ℕ). LabelFault ls (place_of ls n) d.operation u.label k fault) numbered (wrong_right ls look (place_of ls n) d.operation u.label d.line fault table u.wrong);
+      wrong = subst (λ (k : ℕ). LabelFault ls (instruction_index ls n) d.operation u.label k fault) numbered (wrong_right ls look (instruction_index ls n) d.operation u.label d.line fault table u.wrong);
     }),
   );
   first = first;
 }
   where
-    jump_first : (when m : ℕ) (line : List (List ℕ)) (other : AsmFault) → slice_get ls m ≡ Some line → 3 * length ls + 2 * place_of ls n ≤ when → JumpFault ls when m line other → 3 * length ls + 2 * place_of ls n + u.j ≤ when
-    jump_first when m there other found low b = elim (three (place_of ls m) (place_of ls n)) [
+    jump_first : (when m : ℕ) (line : List (List ℕ)) (other : AsmFault) → slice_get ls m ≡ Some line → 3 * length ls + 2 * instruction_index ls n ≤ when → JumpFault ls when m line other → 3 * length ls + 2 * instruction_index ls n + u.j ≤ when
+    jump_first when m there other found low b = elim (three (instruction_index ls m) (instruction_index ls n)) [
       | inl lt ↦ absurd (omega (arith, b.after, b.one_of_two, low))
       | inr r ↦ elim r [
         | inl gt ↦ omega (arith, b.after, u.one_of_two)
@@ -171,14 +171,14 @@ place_unresolved ls look n line d fault table here is numbered none u = record {
       ]
     ]
 
-    first : (when : ℕ) (other : AsmFault) → FaultAt ls when other → 3 * length ls + 2 * place_of ls n + u.j ≤ when
+    first : (when : ℕ) (other : AsmFault) → FaultAt ls when other → 3 * length ls + 2 * instruction_index ls n + u.j ≤ when
     first when other f = elim f.3 [
-      | inl a ↦ absurd (past_lines ls (2 * place_of ls n) when f.0 f.1 other f.2 a (none when other f))
+      | inl a ↦ absurd (past_lines ls (2 * instruction_index ls n) when f.0 f.1 other f.2 a (none when other f))
       | inr b ↦ jump_first when f.0 f.1 other f.2 (none when other f) b
     ]
 
--- the body of a line that is refused when all lines were read
-pub insn_answer : (ls : List (List (List ℕ))) (look : List ℕ → Option ℕ) (n place at : ℕ) (line : List (List ℕ)) (fault : AsmFault) → IsTable ls (length ls) look → slice_get ls n ≡ Some line → place ≡ place_of ls n → at ≡ n + 1 → NoneBeforePlace ls place → InsnRefused look place at (body_of line) fault → IsAssemblyFault ls fault
+-- the body of a line that is refused in the second pass
+pub insn_answer : (ls : List (List (List ℕ))) (look : List ℕ → Option ℕ) (n place at : ℕ) (line : List (List ℕ)) (fault : AsmFault) → IsTable ls (length ls) look → slice_get ls n ≡ Some line → place ≡ instruction_index ls n → at ≡ n + 1 → NoneBeforePlace ls place → InsnRefused look place at (body_of line) fault → IsAssemblyFault ls fault
 insn_answer ls look n place at line fault table here place_is at_is none h = first_answer ls fault (elim h [
   | inl a ↦ absurd (let low = none (3 * n + 1) fault (n, line, here, inl (body_line fault (subst (λ (k : ℕ). BodyFault (body_of line) k fault) at_is a))) in let within = slice_get_within ls n line here in omega arith)
   | inr u ↦ place_unresolved ls look n line u.0 fault table here u.1 (u.2 ∙ at_is) (subst (NoneBeforePlace ls) place_is none) (subst (λ (k : ℕ). Unresolved look k u.0 fault) place_is u.3)
@@ -190,10 +190,10 @@ insn_answer ls look n place at line fault table here place_is at_is none h = fir
     body_line (faults.Number k) h = (refl, h)
     body_line _ h = absurd h
 
--- a text whose lines and jumps were all read has no fault
-pub none_found : (ls : List (List (List ℕ))) → NoneBeforePlace ls (place_of ls (length ls)) → (time : ℕ) (fault : AsmFault) → FaultAt ls time fault → ⊥
+-- if neither pass finds a fault, the text has none
+pub none_found : (ls : List (List (List ℕ))) → NoneBeforePlace ls (instruction_index ls (length ls)) → (time : ℕ) (fault : AsmFault) → FaultAt ls time fault → ⊥
 none_found ls none time fault f = elim f.3 [
-  | inl a ↦ past_lines ls (2 * place_of ls (length ls)) time f.0 f.1 fault f.2 a (none time fault f)
+  | inl a ↦ past_lines ls (2 * instruction_index ls (length ls)) time f.0 f.1 fault f.2 a (none time fault f)
   | inr b ↦ (let low = none time fault f in let less = place_less ls f.0 (length ls) f.1 f.2 (body_has f.1 b.code b.operation b.ws b.written) (slice_get_within ls f.0 f.1 f.2) in omega (arith, b.after, b.one_of_two))
 ]
 
@@ -233,20 +233,20 @@ made_insn ls look place body i d table is res = record {
   ranges = resolved_ranges look place i d d.operation res.1;
 }
 
--- the instructions of the lines before a place
+-- the instructions of the lines before an index
 abbrev pub AreInsns : List (List (List ℕ)) → ℕ → List Insn → Type 0
 AreInsns ls place p = (length p ≡ place) × ((q : ℕ) (i : Insn) → slice_get p q ≡ Some i → IsInsnAt ls q i)
 
-pub insn_made : (ls : List (List (List ℕ))) (look : List ℕ → Option ℕ) (n : ℕ) (line : List (List ℕ)) (i : Insn) → IsTable ls (length ls) look → slice_get ls n ≡ Some line → HasInsn look (place_of ls n) (body_of line) i → IsInsnAt ls (place_of ls n) i
+pub insn_made : (ls : List (List (List ℕ))) (look : List ℕ → Option ℕ) (n : ℕ) (line : List (List ℕ)) (i : Insn) → IsTable ls (length ls) look → slice_get ls n ≡ Some line → HasInsn look (instruction_index ls n) (body_of line) i → IsInsnAt ls (instruction_index ls n) i
 insn_made ls look n line i table here h = record {
   n = n;
   line = line;
   found = here;
   here = refl;
-  insn = made_insn ls look (place_of ls n) (body_of line) i h.d table h.draft h.resolved;
+  insn = made_insn ls look (instruction_index ls n) (body_of line) i h.d table h.draft h.resolved;
 }
 
--- what is kept has one more instruction
+-- one more instruction is kept
 pub kept_more : {V : Type 0} (items : V → List Insn) (old new : Option V) (ls : List (List (List ℕ))) (place : ℕ) (i : Insn) → IfSome new (λ v. IsSomeAnd old (λ u. items v ≡ items u ++ i ∷ [])) → IfSome old (λ u. AreInsns ls place (items u)) → IsInsnAt ls place i → IfSome new (λ v. AreInsns ls (place + 1) (items v))
 kept_more items old None ls place i pushed before is = tt
 kept_more items None (Some v) ls place i pushed before is = absurd pushed
@@ -255,7 +255,7 @@ kept_more items (Some u) (Some v) ls place i pushed before is = (
   rw pushed (each_pushed (IsInsnAt ls) (items u) i before.1 (rw before.0 is)),
 )
 
-pub assembled : (ls : List (List (List ℕ))) (look : List ℕ → Option ℕ) (p : List Insn) → IsTable ls (length ls) look → place_of ls (length ls) ≤ most_insns → AreInsns ls (place_of ls (length ls)) p → Assembles ls p
+pub assembled : (ls : List (List (List ℕ))) (look : List ℕ → Option ℕ) (p : List Insn) → IsTable ls (length ls) look → instruction_index ls (length ls) ≤ most_insns → AreInsns ls (instruction_index ls (length ls)) p → Assembles ls p
 assembled ls look p table short are = record {
   labels = λ m n label a b. table.unique m n label (label_within ls m label a) (label_within ls n label b) a b;
   each = each;
@@ -263,12 +263,12 @@ assembled ls look p table short are = record {
   short = (let e = are.0 in omega arith);
 }
   where
-    each : (n : ℕ) (line : List (List ℕ)) → slice_get ls n ≡ Some line → has_body line ≡ true → (i : Insn) × (slice_get p (place_of ls n) ≡ Some i) × IsInsn ls (place_of ls n) (body_of line) i
+    each : (n : ℕ) (line : List (List ℕ)) → slice_get ls n ≡ Some line → has_body line ≡ true → (i : Insn) × (slice_get p (instruction_index ls n) ≡ Some i) × IsInsn ls (instruction_index ls n) (body_of line) i
     each n line here body =
         let within = slice_get_within ls n line here in
         let less = place_less ls n (length ls) line here body within in
         let long = are.0 in
-        let i = there_is p (place_of ls n) (omega arith) in
-        let at = are.1 (place_of ls n) i.0 i.1 in
+        let i = there_is p (instruction_index ls n) (omega arith) in
+        let at = are.1 (instruction_index ls n) i.0 i.1 in
         let one = place_injective ls at.n n at.line line at.found here (body_has at.line i.0.code at.insn.operation at.insn.ws at.insn.written) body at.here in
-        (i.0, i.1, moved (λ k l. IsInsn ls (place_of ls n) (body_of l) i.0) ls at.n n at.line line one at.found here at.insn)
+        (i.0, i.1, moved (λ k l. IsInsn ls (instruction_index ls n) (body_of l) i.0) ls at.n n at.line line one at.found here at.insn)

@@ -1,4 +1,4 @@
--- The tokens of an operation are written in its own row, and in no earlier one.
+-- The tokens of an operation match its own row of the table, and no earlier row.
 use Rattle.std.proofs.Common.{◌≡◌, ℕ, List, [], ◌∷◌, refl, Some}
 use Rattle.bpf_check.specs.declared.operation.Width.TheVariants.{Word, Half, Byte}
 use Rattle.bpf_check.specs.declared.operation.Operand.TheVariants.{Constant, Index}

@@ -1,4 +1,4 @@
--- The first pass, a line at a time: what it gathers, and which fault is the first.
+-- The first pass, line by line: the labels it collects, and the first fault.
 use Rattle.std.proofs.Common.{◌≡◌, ℕ, zero, suc, ◌+◌, ◌*◌, ◌<◌, ◌≤◌, ◌⊎◌, inl, inr, List, [], ◌∷◌, length, Bool, true, false, cond, Option, Some, None, refl, ap, sym, ◌∙◌, subst, arith}
 use Rattle.std.specs.Prelude.{slice_get, IfSome, IsSomeAnd, if◌then◌else◌}
 use Rattle.std.specs.Str.{bytes_eq}
@@ -10,7 +10,7 @@ use Rattle.bpf_check.specs.declared.operation.Operation.TheVariants.{Jump, Branc
 use Rattle.bpf_check.specs.Accepted.{most_insns}
 use Rattle.bpf_asm.specs.declared.fault.AsmFault.{AsmFault}
 use Rattle.bpf_asm.specs.declared.fault.AsmFault.TheVariants as faults
-use Rattle.bpf_asm.specs.Assembly.{label_of, body_of, has_body, place_of, LabelAt, IsBody, IsMnemonic, FirstWord, WrongNumber, BodyFault, IsDouble, LineFault, JumpFault, FaultAt, IsFirstFault}
+use Rattle.bpf_asm.specs.Assembly.{label_of, body_of, has_body, instruction_index, LabelAt, IsBody, IsMnemonic, FirstWord, WrongNumber, BodyFault, IsDouble, LineFault, JumpFault, FaultAt, IsFirstFault}
 use Rattle.bpf_asm.specs.Labels.{Places, place_in, begins_with, behind, found_from, found_in, named_by, LabelKept}
 use Rattle.bpf_asm.specs.Drafts.{Draft, Keeps, IsDraft, LabelRefused, Counted, CountRefused, IsTable, NoneBefore}
 use Rattle.bpf_asm.proofs.Bodies.{one_body}
@@ -34,9 +34,9 @@ body_from ls n m line there (faults.DoubleLabel k) here found h = absurd (omega 
 body_from ls n m line there (faults.TooLong k) here found h = absurd (omega (arith, h.1))
 body_from ls n m line there fault here found h = moved (λ k l. BodyFault (body_of l) (k + 1) fault) ls m n there line (omega (arith, h.0)) found here h.1
 
-limit_from : (ls : List (List (List ℕ))) (n m : ℕ) (line there : List (List ℕ)) (other : AsmFault) → slice_get ls n ≡ Some line → slice_get ls m ≡ Some there → LineFault ls (3 * n + 2) m there other → (has_body line ≡ true) × (most_insns ≤ place_of ls n)
+limit_from : (ls : List (List (List ℕ))) (n m : ℕ) (line there : List (List ℕ)) (other : AsmFault) → slice_get ls n ≡ Some line → slice_get ls m ≡ Some there → LineFault ls (3 * n + 2) m there other → (has_body line ≡ true) × (most_insns ≤ instruction_index ls n)
 limit_from ls n m line there (faults.DoubleLabel k) here found h = absurd (omega (arith, h.1))
-limit_from ls n m line there (faults.TooLong k) here found h = moved (λ k l. (has_body l ≡ true) × (most_insns ≤ place_of ls k)) ls m n there line (omega (arith, h.1)) found here (h.2, h.3)
+limit_from ls n m line there (faults.TooLong k) here found h = moved (λ k l. (has_body l ≡ true) × (most_insns ≤ instruction_index ls k)) ls m n there line (omega (arith, h.1)) found here (h.2, h.3)
 limit_from ls n m line there _ here found h = absurd (omega (arith, h.0))
 
 too_late : (ls : List (List (List ℕ))) (n m time : ℕ) (line there : List (List ℕ)) (other : AsmFault) → slice_get ls n ≡ Some line → time < 3 * n + 3 → JumpFault ls time m there other → ⊥
@@ -54,7 +54,7 @@ body_at ls n line other here h = elim h.3 [
   | inr b ↦ absurd (too_late ls n h.0 (3 * n + 1) line h.1 other here (omega arith) b)
 ]
 
-limit_at : (ls : List (List (List ℕ))) (n : ℕ) (line : List (List ℕ)) (other : AsmFault) → slice_get ls n ≡ Some line → FaultAt ls (3 * n + 2) other → (has_body line ≡ true) × (most_insns ≤ place_of ls n)
+limit_at : (ls : List (List (List ℕ))) (n : ℕ) (line : List (List ℕ)) (other : AsmFault) → slice_get ls n ≡ Some line → FaultAt ls (3 * n + 2) other → (has_body line ≡ true) × (most_insns ≤ instruction_index ls n)
 limit_at ls n line other here h = elim h.3 [
   | inl a ↦ limit_from ls n h.0 line h.1 other here h.2 a
   | inr b ↦ absurd (too_late ls n h.0 (3 * n + 2) line h.1 other here (omega arith) b)
@@ -68,7 +68,7 @@ eq_itself w = (bytes_eq-Decides w w).1 refl
 none_not_some : {A : Type 0} (o : Option A) (x : A) → o ≡ None → o ≡ Some x → ⊥
 none_not_some o x e f = absurd (cc)
 
--- the label, where there is one, names no place yet
+-- the label, if there is one, is not defined yet
 abbrev Unnamed : (List ℕ → Option ℕ) → Option (List ℕ) → Type 0
 Unnamed look None = Unit {0}
 Unnamed look (Some label) = look label ≡ None
@@ -96,7 +96,7 @@ label_answer ls n look line (faults.DoubleLabel k) here table none h = record {
 }
 label_answer ls n look line _ here table none h = absurd h
 
--- what the label of a line does to the places of labels
+-- the effect of a line's label on the table of labels
 abbrev Labelled : (List ℕ → Option ℕ) → (List ℕ → Option ℕ) → ℕ → Option (List ℕ) → Type 0
 Labelled old new place None = (other : List ℕ) → new other ≡ old other
 Labelled old new place (Some label) = (old label ≡ None) × ((other : List ℕ) → new other ≡ (if bytes_eq label other then Some place else old other))
@@ -107,10 +107,10 @@ lt_cases a m h = grind arith
 label_same : (ls : List (List (List ℕ))) (n m : ℕ) (line : List (List ℕ)) (label : List ℕ) → slice_get ls n ≡ Some line → m ≡ n → LabelAt ls m label → label_of line ≡ Some label
 label_same ls n m line label here e h = moved (λ k l. label_of l ≡ Some label) ls m n h.0 line e h.1 here h.2
 
-table_with : (ls : List (List (List ℕ))) (n : ℕ) (look new : List ℕ → Option ℕ) (line : List (List ℕ)) (o : Option (List ℕ)) → slice_get ls n ≡ Some line → label_of line ≡ o → IsTable ls n look → Labelled look new (place_of ls n) o → IsTable ls (n + 1) new
+table_with : (ls : List (List (List ℕ))) (n : ℕ) (look new : List ℕ → Option ℕ) (line : List (List ℕ)) (o : Option (List ℕ)) → slice_get ls n ≡ Some line → label_of line ≡ o → IsTable ls n look → Labelled look new (instruction_index ls n) o → IsTable ls (n + 1) new
 table_with ls n look new line None here named table h = record { found = found; missing = missing; unique = unique }
   where
-    found : (label : List ℕ) (place : ℕ) → new label ≡ Some place → (m : ℕ) × (m < n + 1) × LabelAt ls m label × (place_of ls m ≡ place)
+    found : (label : List ℕ) (place : ℕ) → new label ≡ Some place → (m : ℕ) × (m < n + 1) × LabelAt ls m label × (instruction_index ls m ≡ place)
     found label place e = let f = table.found label place (sym (h label) ∙ e) in (f.0, omega (arith, f.1), f.2, f.3)
 
     earlier : (m : ℕ) (label : List ℕ) → m < n + 1 → LabelAt ls m label → m < n
@@ -123,19 +123,19 @@ table_with ls n look new line None here named table h = record { found = found; 
     unique k m label a b f g = table.unique k m label (earlier k label a f) (earlier m label b g) f g
 table_with ls n look new line (Some own) here named table h = record { found = found; missing = missing; unique = unique }
   where
-    looked : (b : Bool) (label : List ℕ) (place : ℕ) → bytes_eq own label ≡ b → cond b (Some (place_of ls n)) (look label) ≡ Some place → (m : ℕ) × (m < n + 1) × LabelAt ls m label × (place_of ls m ≡ place)
+    looked : (b : Bool) (label : List ℕ) (place : ℕ) → bytes_eq own label ≡ b → cond b (Some (instruction_index ls n)) (look label) ≡ Some place → (m : ℕ) × (m < n + 1) × LabelAt ls m label × (instruction_index ls m ≡ place)
     looked true label place is e =
         let same : own ≡ label = (bytes_eq-Decides own label).0 is in
         (n, omega arith, (line, here, named ∙ ap (λ (l : List ℕ). Some l) same), cc)
     looked false label place is e = let f = table.found label place e in (f.0, omega (arith, f.1), f.2, f.3)
 
-    found : (label : List ℕ) (place : ℕ) → new label ≡ Some place → (m : ℕ) × (m < n + 1) × LabelAt ls m label × (place_of ls m ≡ place)
+    found : (label : List ℕ) (place : ℕ) → new label ≡ Some place → (m : ℕ) × (m < n + 1) × LabelAt ls m label × (instruction_index ls m ≡ place)
     found label place e = looked (bytes_eq own label) label place refl (sym (h.1 label) ∙ e)
 
     own_at : (m : ℕ) (label : List ℕ) → m ≡ n → LabelAt ls m label → own ≡ label
     own_at m label e at = let f = label_same ls n m line label here e at in cc
 
-    unnamed : (b : Bool) (label : List ℕ) → bytes_eq own label ≡ b → cond b (Some (place_of ls n)) (look label) ≡ None → (look label ≡ None) × (own ≡ label → ⊥)
+    unnamed : (b : Bool) (label : List ℕ) → bytes_eq own label ≡ b → cond b (Some (instruction_index ls n)) (look label) ≡ None → (look label ≡ None) × (own ≡ label → ⊥)
     unnamed true label is e = absurd (cc)
     unnamed false label is e = (e, λ same. (let t : bytes_eq own label ≡ true = (bytes_eq-Decides own label).1 same in absurd (cc)))
 
@@ -153,7 +153,7 @@ table_with ls n look new line (Some own) here named table h = record { found = f
       | inr e ↦ elim (lt_cases m n b) [ inl less ↦ absurd (not_earlier m k label less e g f) | inr d ↦ e ∙ sym d ]
     ]
 
--- ---- labels that are found again
+-- ---- labels found by scanning the text
 
 begun_with : (o : Option (List ℕ)) (label : List ℕ) → begins_with o label ≡ true → o ≡ Some label
 begun_with None label e = absurd (cc)
@@ -162,12 +162,12 @@ begun_with (Some own) label e = ap (λ (l : List ℕ). Some l) ((bytes_eq-Decide
 begins_own : (o : Option (List ℕ)) (label : List ℕ) → o ≡ Some label → begins_with o label ≡ true
 begins_own o label e = ap (λ (x : Option (List ℕ)). begins_with x label) e ∙ eq_itself label
 
--- the place of a line that begins with a label, behind a first place
+-- the index of a line that begins with a label, counted from a first index
 pub record IsFound (place : ℕ) (ls : List (List (List ℕ))) (n : ℕ) (label : List ℕ) (found : ℕ) : Type 0 where
   pub m : ℕ
   pub before : m < n
   pub at : LabelAt ls m label
-  pub there : place + place_of ls m ≡ found
+  pub there : place + instruction_index ls m ≡ found
 
 found_later : (place : ℕ) (line : List (List ℕ)) (ls : List (List (List ℕ))) (n : ℕ) (label : List ℕ) (found : ℕ) (b : Bool) → has_body line ≡ b → IsFound (behind place b) ls n label found → IsFound place (line ∷ ls) (suc n) label found
 found_later place line ls n label found true e f = record { m = suc f.m; before = omega (arith, f.before); at = f.at; there = (let step = place_first line ls f.m in let t = f.there in let one : cond {A = ℕ} (has_body line) 1 0 ≡ 1 = ap (λ (b : Bool). cond {A = ℕ} b 1 0) e in omega arith) }
@@ -214,7 +214,7 @@ found_behind place line ls n k label e is =
     let same : n ≡ suc k = omega arith in
     ap (λ (m : ℕ). found_from place (line ∷ ls) m label) same ∙ ap (λ (b : Bool). cond b (Some place) (found_from (behind place (has_body line)) ls k label)) is
 
--- the places that are found in the lines again, where no two lines begin with one label
+-- the indices found by scanning the lines, if no label is defined twice
 found_table : (ls : List (List (List ℕ))) (n : ℕ) → ((k m : ℕ) (label : List ℕ) → k < n → m < n → LabelAt ls k label → LabelAt ls m label → k ≡ m) → IsTable ls n (found_in ls n)
 found_table ls n unique = record {
   found = λ label place e. (let f = found_some 0 ls n label place e in (f.m, f.before, f.at, (let t = f.there in omega arith)));
@@ -231,19 +231,19 @@ kept_unnamed ls n None new line here named table e =
     subst (λ (o : Option Places). IsTable ls (n + 1) (named_by o ls (n + 1))) (sym e) (found_table ls (n + 1) all.unique)
 
 kept_named : (ls : List (List (List ℕ))) (n : ℕ) (old new : Option Places) (line : List (List ℕ)) (label : List ℕ) → slice_get ls n ≡ Some line → label_of line ≡ Some label → IsTable ls n (named_by old ls n) → named_by old ls n label ≡ None
-    → IfSome new (λ m. IsSomeAnd old (λ l. (other : List ℕ) → place_in m other ≡ (if bytes_eq label other then Some (place_of ls n) else place_in l other))) → IsTable ls (n + 1) (named_by new ls (n + 1))
+    → IfSome new (λ m. IsSomeAnd old (λ l. (other : List ℕ) → place_in m other ≡ (if bytes_eq label other then Some (instruction_index ls n) else place_in l other))) → IsTable ls (n + 1) (named_by new ls (n + 1))
 kept_named ls n old None line label here named table fresh h =
     let look = named_by old ls n in
-    let all = table_with ls n look (λ other. if bytes_eq label other then Some (place_of ls n) else look other) line (Some label) here named table (fresh, λ other. refl) in
+    let all = table_with ls n look (λ other. if bytes_eq label other then Some (instruction_index ls n) else look other) line (Some label) here named table (fresh, λ other. refl) in
     found_table ls (n + 1) all.unique
 kept_named ls n None (Some m) line label here named table fresh h = absurd h
 kept_named ls n (Some l) (Some m) line label here named table fresh h = table_with ls n (place_in l) (place_in m) line (Some label) here named table (fresh, h)
 
-table_by : (ls : List (List (List ℕ))) (n : ℕ) (old new : Option Places) (line : List (List ℕ)) (o : Option (List ℕ)) → slice_get ls n ≡ Some line → label_of line ≡ o → IsTable ls n (named_by old ls n) → LabelKept (named_by old ls n) old new (place_of ls n) o → IsTable ls (n + 1) (named_by new ls (n + 1))
+table_by : (ls : List (List (List ℕ))) (n : ℕ) (old new : Option Places) (line : List (List ℕ)) (o : Option (List ℕ)) → slice_get ls n ≡ Some line → label_of line ≡ o → IsTable ls n (named_by old ls n) → LabelKept (named_by old ls n) old new (instruction_index ls n) o → IsTable ls (n + 1) (named_by new ls (n + 1))
 table_by ls n old new line None here named table h = kept_unnamed ls n old new line here named table h
 table_by ls n old new line (Some label) here named table h = kept_named ls n old new line label here named table h.0 h.1
 
-pub table_more : (ls : List (List (List ℕ))) (n : ℕ) (old new : Option Places) (line : List (List ℕ)) → slice_get ls n ≡ Some line → IsTable ls n (named_by old ls n) → LabelKept (named_by old ls n) old new (place_of ls n) (label_of line) → IsTable ls (n + 1) (named_by new ls (n + 1))
+pub table_more : (ls : List (List (List ℕ))) (n : ℕ) (old new : Option Places) (line : List (List ℕ)) → slice_get ls n ≡ Some line → IsTable ls n (named_by old ls n) → LabelKept (named_by old ls n) old new (instruction_index ls n) (label_of line) → IsTable ls (n + 1) (named_by new ls (n + 1))
 table_more ls n old new line here table h = table_by ls n old new line (label_of line) here refl table h
 
 pub empty_table : (ls : List (List (List ℕ))) (look : List ℕ → Option ℕ) → ((label : List ℕ) → look label ≡ None) → IsTable ls 0 look
@@ -297,24 +297,24 @@ pub after_body : (ls : List (List (List ℕ))) (n place next : ℕ) (line : List
 after_body ls n place next line here h none =
     raised ls (3 * n + 1) (3 * n + 2) (omega arith) none (λ other f. counted_fine place next (n + 1) (body_of line) other h (body_at ls n line other here f))
 
-limit_kept : (ls : List (List (List ℕ))) (n next : ℕ) (line body : List (List ℕ)) → body_of line ≡ body → Counted (place_of ls n) next body → (has_body line ≡ true) × (most_insns ≤ place_of ls n) → ⊥
+limit_kept : (ls : List (List (List ℕ))) (n next : ℕ) (line body : List (List ℕ)) → body_of line ≡ body → Counted (instruction_index ls n) next body → (has_body line ≡ true) × (most_insns ≤ instruction_index ls n) → ⊥
 limit_kept ls n next line [] e h f = absurd (let g = body_false line e in let k = f.0 in cc)
 limit_kept ls n next line (t ∷ ts) e h f = omega (arith, h.1, f.1)
 
-pub after_limit : (ls : List (List (List ℕ))) (n next : ℕ) (line : List (List ℕ)) → slice_get ls n ≡ Some line → Counted (place_of ls n) next (body_of line) → NoneBefore ls (3 * n + 2) → NoneBefore ls (3 * (n + 1))
+pub after_limit : (ls : List (List (List ℕ))) (n next : ℕ) (line : List (List ℕ)) → slice_get ls n ≡ Some line → Counted (instruction_index ls n) next (body_of line) → NoneBefore ls (3 * n + 2) → NoneBefore ls (3 * (n + 1))
 after_limit ls n next line here h none =
     raised ls (3 * n + 2) (3 * (n + 1)) (omega arith) none (λ other f. limit_kept ls n next line (body_of line) refl h (limit_at ls n line other here f))
 
--- the place behind a line
+-- the index after a line
 pub record IsBehind (ls : List (List (List ℕ))) (n next : ℕ) : Type 0 where
-  pub here : next ≡ place_of ls (n + 1)
+  pub here : next ≡ instruction_index ls (n + 1)
   pub short : next ≤ most_insns
 
-behind_by : (ls : List (List (List ℕ))) (n next : ℕ) (line body : List (List ℕ)) → slice_get ls n ≡ Some line → body_of line ≡ body → place_of ls n ≤ most_insns → Counted (place_of ls n) next body → IsBehind ls n next
+behind_by : (ls : List (List (List ℕ))) (n next : ℕ) (line body : List (List ℕ)) → slice_get ls n ≡ Some line → body_of line ≡ body → instruction_index ls n ≤ most_insns → Counted (instruction_index ls n) next body → IsBehind ls n next
 behind_by ls n next line [] here e short h = let step = place_no ls n line here (body_false line e) in record { here = h ∙ sym step; short = omega arith }
 behind_by ls n next line (t ∷ ts) here e short h = let step = place_yes ls n line here (body_true line t ts e) in record { here = h.0 ∙ sym step; short = omega (arith, h.0, h.1) }
 
-pub place_behind : (ls : List (List (List ℕ))) (n next : ℕ) (line : List (List ℕ)) → slice_get ls n ≡ Some line → place_of ls n ≤ most_insns → Counted (place_of ls n) next (body_of line) → IsBehind ls n next
+pub place_behind : (ls : List (List (List ℕ))) (n next : ℕ) (line : List (List ℕ)) → slice_get ls n ≡ Some line → instruction_index ls n ≤ most_insns → Counted (instruction_index ls n) next (body_of line) → IsBehind ls n next
 place_behind ls n next line here short h = behind_by ls n next line (body_of line) here refl short h
 
 body_first : (ls : List (List (List ℕ))) (n : ℕ) (line : List (List ℕ)) (fault : AsmFault) → NoneBefore ls (3 * n + 1) → FaultAt ls (3 * n + 1) fault → IsFirstFault ls fault
@@ -324,7 +324,7 @@ some_body : (line body : List (List ℕ)) → body_of line ≡ body → 0 < leng
 some_body line [] e h = absurd (omega arith)
 some_body line (t ∷ ts) e h = body_true line t ts e
 
-pub body_answer : (ls : List (List (List ℕ))) (n : ℕ) (line : List (List ℕ)) (fault : AsmFault) → slice_get ls n ≡ Some line → NoneBefore ls (3 * n + 1) → CountRefused (place_of ls n) (n + 1) (body_of line) fault → IsFirstFault ls fault
+pub body_answer : (ls : List (List (List ℕ))) (n : ℕ) (line : List (List ℕ)) (fault : AsmFault) → slice_get ls n ≡ Some line → NoneBefore ls (3 * n + 1) → CountRefused (instruction_index ls n) (n + 1) (body_of line) fault → IsFirstFault ls fault
 body_answer ls n line (faults.TooLong k) here none h = record {
   time = 3 * n + 2;
   has = (n, line, here, inl (h.0, refl, some_body line (body_of line) refl h.2, h.1));

@@ -14,7 +14,7 @@ use Rattle.bpf_check.specs.Accepted.{FieldsFit, IsAccepted}
 use Rattle.bpf_asm.specs.Form.{mnemonic}
 use Rattle.bpf_asm.specs.Spelling.{kinds, spelled_with}
 use Rattle.bpf_asm.specs.Text.{label_text, targets_by, targets, has_number, is_target, program_text}
-use Rattle.bpf_asm.specs.Assembly.{token_lines, label_of, body_of, has_body, place_of, LabelAt, IsAtDistance, Puts, IsInsn, Assembles}
+use Rattle.bpf_asm.specs.Assembly.{token_lines, label_of, body_of, has_body, instruction_index, LabelAt, IsAtDistance, Puts, IsInsn, Assembles}
 use Rattle.bpf_check.specs.Insn.{AreInRange}
 use Rattle.bpf_asm.specs.Cleared.{cleared_as, cleared}
 use Rattle.bpf_asm.proofs.Decimals.{decimal_number}
@@ -145,7 +145,7 @@ pub written_read : (p : List Insn) → IsAccepted p → AreInRange p → Assembl
 written_read p accepted ranges = subst (λ (ls : List (List (List ℕ))). Assembles ls (map cleared p)) (sym read) (record {
   labels = labels;
   each = each;
-  count = length_shown cleared p ∙ sym (ap (place_of ls) (token_length p 0 p) ∙ place_is (length p) (omega arith));
+  count = length_shown cleared p ∙ sym (ap (instruction_index ls) (token_length p 0 p) ∙ place_is (length p) (omega arith));
   short = (let few = length_shown cleared p in let short = accepted.short in omega arith);
 })
   where
@@ -171,7 +171,7 @@ written_read p accepted ranges = subst (λ (ls : List (List (List ℕ))). Assemb
     line_within : (n : ℕ) (line : List (List ℕ)) → slice_get ls n ≡ Some line → n < length p
     line_within n line found = let few = token_length p 0 p in omega (arith, slice_get_within ls n line found)
 
-    place_is : (n : ℕ) → n ≤ length p → place_of ls n ≡ n
+    place_is : (n : ℕ) → n ≤ length p → instruction_index ls n ≡ n
     place_is zero h = refl
     place_is (suc n) h =
         let i = there_is p n (omega arith) in
@@ -181,7 +181,7 @@ written_read p accepted ranges = subst (λ (ls : List (List (List ℕ))). Assemb
         let step = place_yes ls n (mark_tokens (is_target n 0 p) n ++ body_for n i.0 o.0) here body in
         let before = place_is n (omega arith) in
         let next : n + 1 ≡ suc n = omega arith in
-        ap (place_of ls) (sym next) ∙ step ∙ ap (λ (k : ℕ). k + 1) before ∙ next
+        ap (instruction_index ls) (sym next) ∙ step ∙ ap (λ (k : ℕ). k + 1) before ∙ next
 
     label_is : (n : ℕ) (label : List ℕ) → LabelAt ls n label → label ≡ label_text n
     label_is n label at =
@@ -218,7 +218,7 @@ written_read p accepted ranges = subst (λ (ls : List (List (List ℕ))). Assemb
       ranges = ranges_back n i o (small n i found);
     })
 
-    each : (n : ℕ) (line : List (List ℕ)) → slice_get ls n ≡ Some line → has_body line ≡ true → (i : Insn) × (slice_get (map cleared p) (place_of ls n) ≡ Some i) × IsInsn ls (place_of ls n) (body_of line) i
+    each : (n : ℕ) (line : List (List ℕ)) → slice_get ls n ≡ Some line → has_body line ≡ true → (i : Insn) × (slice_get (map cleared p) (instruction_index ls n) ≡ Some i) × IsInsn ls (instruction_index ls n) (body_of line) i
     each n line found body =
         let within = line_within n line found in
         let i = there_is p n within in

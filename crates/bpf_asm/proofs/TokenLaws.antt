@@ -31,7 +31,7 @@ marked : (b : Bool) (c : ℕ) (r : List ℕ) → concat (cond b [] ((c ∷ []) �
 marked true c r = refl
 marked false c r = refl
 
--- one octet more, which is of a word, a comment's beginning, or neither
+-- one more octet: of a word, the start of a comment, or neither
 stepped : (w : List ℕ) (c : ℕ) (cs : List ℕ) (word comment : Bool) → is_word_octet c ≡ word → nat_eq c 59 ≡ comment → not comment ≡ true
     → concat (tokens_after (w ++ c ∷ []) cs) ≡ (w ++ c ∷ []) ++ filter is_text cs → concat (tokens_after [] cs) ≡ filter is_text cs
     → concat (cond word (tokens_after (w ++ c ∷ []) cs) (cond comment (ended w) ((ended w ++ sign_token c) ++ tokens_after [] cs))) ≡ w ++ filter is_text (c ∷ cs)

@@ -1,4 +1,4 @@
--- The first token of a line, and what is left behind it.
+-- Splitting off the first token of a line.
 use Rattle.std.proofs.Common.{◌≡◌, ℕ, suc, ◌+◌, ◌-◌, ◌<◌, ◌≤◌, List, [], ◌∷◌, ◌++◌, Bool, true, false, cond, ◌&&◌, ◌||◌, not, Some, None, length, take, drop, refl, ap, sym, subst, ◌∙◌, arith, append_assoc, nat_eq, nat_lt, take_all, length-drop}
 use Rattle.std.proofs.lemmas.Bool.Decides.{nat_tests}
 use Rattle.std.proofs.lemmas.List.{append-nil, drop_all, take-append-drop}
@@ -7,7 +7,7 @@ use Rattle.bpf_asm.specs.Token.{is_word_octet, is_blank, is_text, ended, sign_to
 use Rattle.bpf_asm.specs.Reading.{ends_word}
 use Rattle.bpf_asm.proofs.Decimals.{both}
 
--- the text is at its end, or goes on with no octet of a word
+-- the text is at its end, or its next octet belongs to no word
 abbrev pub Breaks : List ℕ → Type 0
 Breaks [] = Unit {0}
 Breaks (c ∷ cs) = is_word_octet c ≡ false
@@ -32,7 +32,7 @@ after_break w (c ∷ cs) h =
     let right = ap (λ (b : Bool). cond b (tokens_after (c ∷ []) cs) (cond (nat_eq c 59) [] (sign_token c ++ rest))) h in
     left ∙ parted (nat_eq c 59) (ended w) (sign_token c) rest ∙ ap (λ (x : List (List ℕ)). ended w ++ x) (sym right)
 
--- ---- where the first octet lies that passes
+-- ---- the index of the first octet that passes
 
 placed_by : (t : Bool) (a b n : ℕ) → nat_lt a b ≡ t → cond t (Some a) None ≡ Some n → (a ≡ n) × (a < b)
 placed_by true a b n e h = (cc, grind (arith, nat_tests))
@@ -51,7 +51,7 @@ unplaced p xs h = unplaced_by (nat_lt (position_or_len p xs) (length xs)) (posit
 one_more : (n : ℕ) → 1 + n ≡ suc n
 one_more n = omega arith
 
--- what an index from n on leaves
+-- a slice from n to the end is the list without its first n elements
 tail_is : (xs : List ℕ) (n : ℕ) → take (length xs - n) (drop n xs) ≡ drop n xs
 tail_is xs n = take_all (length xs - n) (drop n xs) (omega (arith, length-drop n xs))
 
@@ -77,7 +77,7 @@ begun : (line : List ℕ) → tokens (drop (position_or_len is_text line) line) 
 begun [] = refl
 begun (c ∷ cs) = begun_step c cs (is_blank c) refl (begun cs)
 
--- begins with an octet that is no blank
+-- begins with an octet that is not a blank
 abbrev pub BeginsText : List ℕ → Type 0
 BeginsText [] = ⊥
 BeginsText (c ∷ cs) = is_blank c ≡ false
@@ -94,7 +94,7 @@ begins (c ∷ cs) h = begins_step c cs (is_blank c) refl (begins cs) h
 pub blank_line : (line : List ℕ) → position is_text line ≡ None → tokens line ≡ []
 blank_line line h = sym (begun line) ∙ ap tokens (drop_all (position_or_len is_text line) line (unplaced is_text line h))
 
--- the text from the first octet on that is no blank
+-- the text from the first octet that is not a blank on
 pub from_text : (line text : List ℕ) (start : ℕ) → position is_text line ≡ Some start → text ≡ take (length line - start) (drop start line) → (tokens text ≡ tokens line) × BeginsText text
 from_text line text start h e =
     let s = placed is_text line start h in
@@ -145,7 +145,7 @@ some_run (c ∷ cs) n e h =
     let k : suc (position_or_len ends_word cs) ≡ n = sym (one_more (position_or_len ends_word cs)) ∙ sym (ap (λ (b : Bool). cond (not (not b)) (1 + position_or_len ends_word cs) 0) h) ∙ e in
     rw (← k) refl
 
--- a word, and what stands behind it
+-- a word and the rest after it
 pub word_cut : (text more : List ℕ) (end : ℕ) → starts_word text ≡ true → position ends_word text ≡ Some end → more ≡ take (length text - end) (drop end text) → tokens text ≡ take end text ∷ tokens more
 word_cut text more end h e f =
     let s = placed ends_word text end e in

@@ -1,14 +1,14 @@
--- Numbers of digits, up to a bound.
+-- Values of digits, saturated at a bound.
 use Rattle.std.proofs.Common.{◌≡◌, ℕ, ◌+◌, ◌-◌, ◌*◌, ◌^◌, ◌<◌, ◌≤◌, ◌⊎◌, inl, inr, min, List, [], ◌∷◌, length, get_or, drop, refl, arith}
 use Rattle.std.proofs.Math.Nat.{mul-le-mul_left}
 use Rattle.std.proofs.lemmas.List.{drop_more}
-use Rattle.bpf_asm.specs.Number.{digit_value, value_after}
+use Rattle.bpf_asm.specs.Number.{digit_value, value_in_base}
 
 grows : (base most a d : ℕ) → 1 ≤ base → most ≤ a → most ≤ a * base + d
 grows base most a d h k = omega (arith, mul-le-mul_left a h)
 
--- a number that is cut at the bound gives the same, cut there
-pub value_cut : (base most a b : ℕ) (cs : List ℕ) → 1 ≤ base → (a ≡ b) ⊎ ((most ≤ a) × (most ≤ b)) → min (value_after base a cs) most ≡ min (value_after base b cs) most
+-- saturating the value of the digits read so far doesn't change the saturated result
+pub value_cut : (base most a b : ℕ) (cs : List ℕ) → 1 ≤ base → (a ≡ b) ⊎ ((most ≤ a) × (most ≤ b)) → min (value_in_base base a cs) most ≡ min (value_in_base base b cs) most
 value_cut base most a b [] h (inl e) = omega arith
 value_cut base most a b [] h (inr k) = omega (arith, k.0, k.1)
 value_cut base most a b (c ∷ cs) h (inl e) = rw e refl
@@ -17,7 +17,7 @@ value_cut base most a b (c ∷ cs) h (inr k) =
 
 pub value_step : (base most m n : ℕ) (word : List ℕ) (i : ℕ) → 1 ≤ base → i < length word
     → (m ≡ n * base + digit_value (get_or word i 0)) ⊎ ((most ≤ m) × (most ≤ n * base + digit_value (get_or word i 0)))
-    → min (value_after base m (drop (i + 1) word)) most ≡ min (value_after base n (drop i word)) most
+    → min (value_in_base base m (drop (i + 1) word)) most ≡ min (value_in_base base n (drop i word)) most
 value_step base most m n word i low inside h = rw (drop_more word i 0) (value_cut base most m (n * base + digit_value (get_or word i 0)) (drop (i + 1) word) low h)
 
 lt_or_le : (m n : ℕ) → (m < n) ⊎ (n ≤ m)

@@ -22,7 +22,7 @@ number_run n text h b = word_run [] (decimal n) text (decimal_words n h) ∙ aft
 pub label_run : (n : ℕ) (text : List ℕ) → n < 2 ^ 64 → Breaks text → tokens_after (76 ∷ []) (decimal n ++ text) ≡ (76 ∷ decimal n) ∷ tokens_after [] text
 label_run n text h b = word_run (76 ∷ []) (decimal n) text (decimal_words n h) ∙ after_break (76 ∷ decimal n) text b
 
--- what stands in the open places of an instruction's text
+-- the words for the placeholders of an instruction's text
 abbrev pub words_for : ℕ → Insn → Operation → List (List ℕ)
 words_for place i Jump = label_text (place + 1 + i.k) ∷ []
 words_for place i (Branch test Constant) = decimal i.k ∷ label_text (place + 1 + i.jt) ∷ label_text (place + 1 + i.jf) ∷ []
@@ -36,7 +36,7 @@ words_for place i ToIndex = []
 words_for place i ToAccumulator = []
 words_for place i operation = decimal i.k ∷ []
 
--- the numbers of an instruction at a place, and the places of its targets, are small
+-- the fields of an instruction and the indices of its targets are small
 pub record AreSmall (place : ℕ) (i : Insn) : Type 0 where
   pub k : i.k < 2 ^ 32
   pub jt : i.jt < 2 ^ 8
@@ -117,7 +117,7 @@ words_open place i ReturnAccumulator h = tt
 words_open place i ToIndex h = tt
 words_open place i ToAccumulator h = tt
 
--- the first token behind a mnemonic is no colon
+-- the first token after a mnemonic is not a colon
 pub unnamed : (place : ℕ) (i : Insn) (o : Operation) → label_of (mnemonic o ∷ spelled_with (kinds o) (words_for place i o)) ≡ None
 unnamed place i (LoadAbsolute Word) = refl
 unnamed place i (LoadAbsolute Half) = refl

@@ -171,7 +171,7 @@ abbrev pub insn_tokens : ℕ → Insn → Option Operation → List (List ℕ)
 insn_tokens place i None = []
 insn_tokens place i (Some o) = mnemonic o ∷ spelled_with (kinds o) (words_for place i o)
 
--- the tokens of the lines of these instructions, of which the first lies at a place
+-- the tokens of the lines of these instructions, the first of which is at an index
 abbrev pub token_list : List Insn → ℕ → List Insn → List (List (List ℕ))
 token_list p place [] = []
 token_list p place (i ∷ is) = (mark_tokens (is_target place 0 p) place ++ insn_tokens place i (operation_of i.code)) ∷ token_list p (place + 1) is

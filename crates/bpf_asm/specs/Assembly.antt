@@ -1,5 +1,5 @@
--- The assembler's language: which text stands for which program, and which faults a text has.
--- A text is seen as its lines of tokens, of which the first is at 0. Faults number lines from 1.
+-- The assembler's language: which text represents which program, and which faults a text has.
+-- A text is a list of lines of tokens, indexed from 0. Faults number lines from 1. A place is a 0-based instruction index.
 use Rattle.std.specs.Prelude.{◌≡◌, ℕ, ◌+◌, ◌*◌, ◌<◌, ◌≤◌, ◌^◌, ◌⊎◌, List, [], ◌∷◌, length, map, take, drop, Option, Some, None, Bool, true, false, ◌&&◌, slice_get, count_by, codes, if◌then◌else◌}
 use Rattle.std.specs.Str.{bytes_eq}
 use Rattle.std.specs.Str.Lines.{lines}
@@ -20,17 +20,17 @@ use Rattle.bpf_asm.specs.Number.{IsNumber}
 abbrev pub token_lines : List ℕ → List (List (List ℕ))
 token_lines text = map tokens (lines text)
 
--- a label and `:`
+-- the tokens are a label and `:`
 abbrev pub begins_label : List ℕ → List ℕ → Bool
 begins_label l m = is_label l && bytes_eq m (codes ":")
 
--- the label that a line begins with
+-- the label at the start of a line, if there is one
 abbrev pub label_of : List (List ℕ) → Option (List ℕ)
 label_of [] = None
 label_of (l ∷ []) = None
 label_of (l ∷ m ∷ ts) = if begins_label l m then Some l else None
 
--- the tokens behind it
+-- the tokens after the label
 abbrev pub body_of : List (List ℕ) → List (List ℕ)
 body_of [] = []
 body_of (l ∷ []) = l ∷ []
@@ -45,25 +45,25 @@ some_token (t ∷ ts) = true
 abbrev pub has_body : List (List ℕ) → Bool
 has_body line = some_token (body_of line)
 
--- how many instructions stand before a line, which is the place that its label names
-abbrev pub place_of : List (List (List ℕ)) → ℕ → ℕ
-place_of ls n = count_by has_body (take n ls)
+-- the number of instructions before line n, which is the index that a label on line n names
+abbrev pub instruction_index : List (List (List ℕ)) → ℕ → ℕ
+instruction_index ls n = count_by has_body (take n ls)
 
--- the line at n begins with this label
+-- line n begins with this label
 abbrev pub LabelAt : List (List (List ℕ)) → ℕ → List ℕ → Type 0
 LabelAt ls n label = (line : List (List ℕ)) × (slice_get ls n ≡ Some line) × (label_of line ≡ Some label)
 
--- the body is an operation of this code, with these words in its open places
+-- the body spells the operation of this code, with the words `ws` for its placeholders
 pub record IsBody (body : List (List ℕ)) (code : ℕ) (operation : Operation) (ws : List (List ℕ)) : Type 0 where
   pub row : operation_of code ≡ Some operation
   pub form : AreOpen (kinds operation) ws
   pub spelled : body ≡ mnemonic operation ∷ spelled_with (kinds operation) ws
 
--- the label names the place that is so far behind the next one
+-- the label names the index that a jump at index `place` with this distance continues at
 abbrev pub IsAtDistance : List (List (List ℕ)) → ℕ → List ℕ → ℕ → Type 0
-IsAtDistance ls place label distance = (n : ℕ) × LabelAt ls n label × (place_of ls n ≡ place + 1 + distance)
+IsAtDistance ls place label distance = (n : ℕ) × LabelAt ls n label × (instruction_index ls n ≡ place + 1 + distance)
 
--- what the words of an operation at a place put into its instruction
+-- how the words of an operation, at index `place`, fill the fields of its instruction
 abbrev pub Puts : List (List (List ℕ)) → ℕ → Insn → Operation → List (List ℕ) → Type 0
 Puts ls place i Jump (l ∷ []) = IsAtDistance ls place l i.k × (i.jt ≡ 0) × (i.jf ≡ 0)
 Puts ls place i (Branch test Constant) (w ∷ l ∷ m ∷ []) = IsNumber w i.k × IsAtDistance ls place l i.jt × IsAtDistance ls place m i.jf
@@ -72,7 +72,7 @@ Puts ls place i operation (w ∷ []) = IsNumber w i.k × (i.jt ≡ 0) × (i.jf �
 Puts ls place i operation [] = (i.k ≡ 0) × (i.jt ≡ 0) × (i.jf ≡ 0)
 Puts ls place i _ _ = ⊥
 
--- the body stands for an instruction at this place
+-- the body is the source of this instruction at index `place`
 pub record IsInsn (ls : List (List (List ℕ))) (place : ℕ) (body : List (List ℕ)) (i : Insn) : Type 0 where
   pub operation : Operation
   pub ws : List (List ℕ)
@@ -80,12 +80,12 @@ pub record IsInsn (ls : List (List (List ℕ))) (place : ℕ) (body : List (List
   pub puts : Puts ls place i operation ws
   pub ranges : (i.jt < 2 ^ 8) × (i.jf < 2 ^ 8)
 
--- the lines are a text of the program: no two begin with one label, and each body is the instruction at its place
+-- the lines are a text of the program: no label is defined twice, and each body is the source of its instruction
 pub record Assembles (ls : List (List (List ℕ))) (p : List Insn) : Type 0 where
   pub labels : (m n : ℕ) (label : List ℕ) → LabelAt ls m label → LabelAt ls n label → m ≡ n
   pub each : (n : ℕ) (line : List (List ℕ)) → slice_get ls n ≡ Some line → has_body line ≡ true →
-      (i : Insn) × (slice_get p (place_of ls n) ≡ Some i) × IsInsn ls (place_of ls n) (body_of line) i
-  pub count : length p ≡ place_of ls (length ls)
+      (i : Insn) × (slice_get p (instruction_index ls n) ≡ Some i) × IsInsn ls (instruction_index ls n) (body_of line) i
+  pub count : length p ≡ instruction_index ls (length ls)
   pub short : length p ≤ most_insns
 
 -- ---- faults
@@ -94,12 +94,12 @@ pub record Assembles (ls : List (List (List ℕ))) (p : List Insn) : Type 0 wher
 abbrev pub IsMnemonic : List ℕ → Type 0
 IsMnemonic word = (code : ℕ) × (operation : Operation) × (operation_of code ≡ Some operation) × (mnemonic operation ≡ word)
 
--- the body has a first word, and a fact of it
+-- the body has a first word, and `fact` holds of it
 abbrev pub FirstWord : (List ℕ → Type 0) → List (List ℕ) → Type 0
 FirstWord fact [] = ⊥
 FirstWord fact (word ∷ ts) = fact word
 
--- the body is an operation, whatever its numbers are
+-- the body has the form of some operation, whatever its numbers are
 abbrev pub HasForm : List (List ℕ) → Type 0
 HasForm body = (code : ℕ) × (operation : Operation) × (ws : List (List ℕ)) × IsBody body code operation ws
 
@@ -110,7 +110,7 @@ labels_in ws (Branch test Constant) = drop 1 ws
 labels_in ws (Branch test Index) = ws
 labels_in ws operation = []
 
--- the number among the words is missing or too large
+-- the number among the words has no digit or is too large
 abbrev pub WrongNumber : List (List ℕ) → Operation → Type 0
 WrongNumber [] operation = ⊥
 WrongNumber (w ∷ ws) Jump = ⊥
@@ -122,21 +122,21 @@ abbrev pub IsBranch : Operation → Type 0
 IsBranch (Branch test side) = Unit {0}
 IsBranch operation = ⊥
 
--- the body is no operation, has none of the forms of its mnemonic, or has a wrong number
+-- the first word is no mnemonic, the operands have no form of the mnemonic, or a number is wrong
 abbrev pub BodyFault : List (List ℕ) → ℕ → AsmFault → Type 0
 BodyFault body line (faults.Mnemonic n) = (n ≡ line) × FirstWord (λ word. IsMnemonic word → ⊥) body
 BodyFault body line (faults.Operand n) = (n ≡ line) × FirstWord IsMnemonic body × (HasForm body → ⊥)
 BodyFault body line (faults.Number n) = (n ≡ line) × ((code : ℕ) × (operation : Operation) × (ws : List (List ℕ)) × IsBody body code operation ws × WrongNumber ws operation)
 BodyFault body line fault = ⊥
 
--- the label of a jump at a place names no place, one that isn't later, or for a conditional jump one that is too far
+-- the label of a jump at index `place` is undefined, not after the jump, or out of reach of a conditional jump
 abbrev pub LabelFault : List (List (List ℕ)) → ℕ → Operation → List ℕ → ℕ → AsmFault → Type 0
 LabelFault ls place operation label line (faults.NoLabel n) = (n ≡ line) × ((m : ℕ) → LabelAt ls m label → ⊥)
-LabelFault ls place operation label line (faults.Backward n) = (n ≡ line) × ((m : ℕ) × LabelAt ls m label × (place_of ls m ≤ place))
-LabelFault ls place operation label line (faults.Far n) = (n ≡ line) × IsBranch operation × ((m : ℕ) × LabelAt ls m label × (place + 256 < place_of ls m))
+LabelFault ls place operation label line (faults.Backward n) = (n ≡ line) × ((m : ℕ) × LabelAt ls m label × (instruction_index ls m ≤ place))
+LabelFault ls place operation label line (faults.Far n) = (n ≡ line) × IsBranch operation × ((m : ℕ) × LabelAt ls m label × (place + 256 < instruction_index ls m))
 LabelFault ls place operation label line fault = ⊥
 
--- an earlier line begins with the label of this one
+-- an earlier line has the same label
 pub record IsDouble (ls : List (List (List ℕ))) (n : ℕ) (line : List (List ℕ)) : Type 0 where
   pub label : List ℕ
   pub named : label_of line ≡ Some label
@@ -144,13 +144,13 @@ pub record IsDouble (ls : List (List (List ℕ))) (n : ℕ) (line : List (List �
   pub before : earlier < n
   pub first : LabelAt ls earlier label
 
--- the fault comes at this time while the lines are read: of a line first the label, then the body, then the limit of a program
+-- a fault found in the pass over the lines, with its time: of each line first the label, then the body, then the limit
 abbrev pub LineFault : List (List (List ℕ)) → ℕ → ℕ → List (List ℕ) → AsmFault → Type 0
 LineFault ls time n line (faults.DoubleLabel k) = (k ≡ n + 1) × (time ≡ 3 * n) × IsDouble ls n line
-LineFault ls time n line (faults.TooLong k) = (k ≡ n + 1) × (time ≡ 3 * n + 2) × (has_body line ≡ true) × (most_insns ≤ place_of ls n)
+LineFault ls time n line (faults.TooLong k) = (k ≡ n + 1) × (time ≡ 3 * n + 2) × (has_body line ≡ true) × (most_insns ≤ instruction_index ls n)
 LineFault ls time n line fault = (time ≡ 3 * n + 1) × BodyFault (body_of line) (n + 1) fault
 
--- the fault comes at this time, after all lines were read: by the places of the jumps, of each the labels from the left
+-- a fault of a jump's label, found after the pass over all lines: by the index of the jump, then by the label from the left
 pub record JumpFault (ls : List (List (List ℕ))) (time n : ℕ) (line : List (List ℕ)) (fault : AsmFault) : Type 0 where
   pub code : ℕ
   pub operation : Operation
@@ -160,25 +160,25 @@ pub record JumpFault (ls : List (List (List ℕ))) (time n : ℕ) (line : List (
   pub one_of_two : j < 2
   pub label : List ℕ
   pub named : slice_get (labels_in ws operation) j ≡ Some label
-  pub after : time ≡ 3 * length ls + 2 * place_of ls n + j
-  pub wrong : LabelFault ls (place_of ls n) operation label (n + 1) fault
+  pub after : time ≡ 3 * length ls + 2 * instruction_index ls n + j
+  pub wrong : LabelFault ls (instruction_index ls n) operation label (n + 1) fault
 
--- the text has the fault at this time
+-- the text has this fault, found at this time
 abbrev pub FaultAt : List (List (List ℕ)) → ℕ → AsmFault → Type 0
 FaultAt ls time fault = (n : ℕ) × (line : List (List ℕ)) × (slice_get ls n ≡ Some line) × (LineFault ls time n line fault ⊎ JumpFault ls time n line fault)
 
--- the text has this fault, and none that comes before it
+-- the text has this fault and no earlier one
 pub record IsFirstFault (ls : List (List (List ℕ))) (fault : AsmFault) : Type 0 where
   pub time : ℕ
   pub has : FaultAt ls time fault
   pub first : (when : ℕ) (other : AsmFault) → FaultAt ls when other → time ≤ when
 
--- what an assembler may answer in place of a program: the first fault, or no memory where the text has no fault
+-- the errors that an assembler may return: the first fault, or `NoMemory` if the text has no fault
 abbrev pub IsAssemblyFault : List (List (List ℕ)) → AsmFault → Type 0
 IsAssemblyFault ls faults.NoMemory = (time : ℕ) (fault : AsmFault) → FaultAt ls time fault → ⊥
 IsAssemblyFault ls fault = IsFirstFault ls fault
 
--- the number of a fault
+-- the number of a fault in printed messages
 abbrev pub fault_number : AsmFault → ℕ
 fault_number (faults.Mnemonic line) = 1
 fault_number (faults.Operand line) = 2
@@ -190,7 +190,7 @@ fault_number (faults.Far line) = 7
 fault_number (faults.TooLong line) = 8
 fault_number faults.NoMemory = 9
 
--- the line of a fault
+-- the line number of a fault, if it has one
 abbrev pub fault_line : AsmFault → Option ℕ
 fault_line (faults.Mnemonic line) = Some line
 fault_line (faults.Operand line) = Some line

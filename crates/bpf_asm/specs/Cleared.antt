@@ -1,4 +1,4 @@
--- Instructions without the fields that their operations don't use.
+-- Instructions with 0 in the fields that their operations don't use.
 use Rattle.std.specs.Prelude.{Bool, true, false, Option, Some, None, if◌then◌else◌}
 use Rattle.bpf_check.specs.declared.insn.Insn.{Insn}
 use Rattle.bpf_check.specs.declared.operation.Operand.TheVariants.{Index}
@@ -6,7 +6,7 @@ use Rattle.bpf_check.specs.declared.operation.Operation.{Operation}
 use Rattle.bpf_check.specs.declared.operation.Operation.TheVariants.{LoadLength, IndexLength, Compute, Negate, Branch, ReturnAccumulator, ToIndex, ToAccumulator}
 use Rattle.bpf_check.specs.Operation.{operation_of}
 
--- the operation uses the constant of its instruction
+-- the operation uses the constant k of its instruction
 abbrev pub uses_constant : Operation → Bool
 uses_constant LoadLength = false
 uses_constant IndexLength = false
@@ -18,7 +18,7 @@ uses_constant ToIndex = false
 uses_constant ToAccumulator = false
 uses_constant operation = true
 
--- the operation uses the two distances of its instruction
+-- the operation uses the distances jt and jf of its instruction
 abbrev pub uses_distances : Operation → Bool
 uses_distances (Branch comparison side) = true
 uses_distances operation = false

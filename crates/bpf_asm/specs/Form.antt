@@ -1,4 +1,4 @@
--- How each operation is written: its mnemonic, and the tokens after it.
+-- The syntax of each operation: its mnemonic, and the tokens after it.
 use Rattle.std.specs.Prelude.{ℕ, List, [], ◌∷◌, codes}
 use Rattle.bpf_check.specs.declared.operation.Width.{Width}
 use Rattle.bpf_check.specs.declared.operation.Width.TheVariants.{Word, Half, Byte}
@@ -12,7 +12,7 @@ use Rattle.bpf_check.specs.declared.operation.Operation.TheVariants.{LoadAbsolut
 use Rattle.bpf_asm.specs.declared.form.Piece.{Piece}
 use Rattle.bpf_asm.specs.declared.form.Piece.TheVariants.{Hash, Open, Close, X, Plus, M, Len, Four, Star, LeftParen, Ampersand, LowFour, RightParen, A, Comma, Number, Label}
 
--- of an operation on the accumulator
+-- the mnemonic of an arithmetic operation
 abbrev pub arithmetic_mnemonic : Arithmetic → List ℕ
 arithmetic_mnemonic Add = codes "add"
 arithmetic_mnemonic Subtract = codes "sub"
@@ -25,20 +25,20 @@ arithmetic_mnemonic ShiftRight = codes "rsh"
 arithmetic_mnemonic Modulo = codes "mod"
 arithmetic_mnemonic ExclusiveOr = codes "xor"
 
--- of a load into the accumulator, by its width
+-- the mnemonic of a packet load into the accumulator, by its width
 abbrev pub load_mnemonic : Width → List ℕ
 load_mnemonic Word = codes "ld"
 load_mnemonic Half = codes "ldh"
 load_mnemonic Byte = codes "ldb"
 
--- of a conditional jump, by its test
+-- the mnemonic of a conditional jump, by its test
 abbrev pub branch_mnemonic : Comparison → List ℕ
 branch_mnemonic Equal = codes "jeq"
 branch_mnemonic AtLeast = codes "jge"
 branch_mnemonic Above = codes "jgt"
 branch_mnemonic SharesBit = codes "jset"
 
--- the first token of an instruction
+-- the mnemonic of an operation, its first token
 abbrev pub mnemonic : Operation → List ℕ
 mnemonic (LoadAbsolute width) = load_mnemonic width
 mnemonic (LoadIndirect width) = load_mnemonic width
@@ -60,11 +60,11 @@ mnemonic ReturnAccumulator = codes "ret"
 mnemonic ToIndex = codes "tax"
 mnemonic ToAccumulator = codes "txa"
 
--- a constant
+-- the tokens of a constant operand
 abbrev pub constant_pieces : List Piece
 constant_pieces = Hash ∷ Number ∷ []
 
--- a place of scratch memory
+-- the tokens of a scratch word operand
 abbrev pub scratch_pieces : List Piece
 scratch_pieces = M ∷ Open ∷ Number ∷ Close ∷ []
 
@@ -92,7 +92,7 @@ pieces ReturnAccumulator = A ∷ []
 pieces ToIndex = []
 pieces ToAccumulator = []
 
--- the octets of a token that is always the same
+-- the octets of a fixed token; placeholders have none
 abbrev pub fixed : Piece → List ℕ
 fixed Hash = codes "#"
 fixed Open = codes "["

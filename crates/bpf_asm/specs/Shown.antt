@@ -1,4 +1,4 @@
--- What the code has read, without where its octets lie. No public contract rests on it.
+-- The code's borrowed results as lists of octets and tokens. No public contract depends on these definitions.
 use Rattle.std.specs.Prelude.{List, [], ◌∷◌, ℕ}
 use Rattle.bpf_asm.specs.declared.spelling.Front as front
 use Rattle.bpf_asm.specs.declared.spelling.Words.{Words}
@@ -7,7 +7,7 @@ use Rattle.bpf_asm.specs.declared.rows.Row as row
 use Rattle.bpf_asm.specs.Token.{tokens}
 use Rattle.bpf_asm.specs.Reading.{Front, Row}
 
--- the word, and the tokens behind it
+-- the word, and the tokens after it
 abbrev pub shown_front : front.Front → Front
 shown_front f = record { word = f.word.now; left = tokens f.left.now }
 
@@ -18,6 +18,6 @@ shown_words (One first) = first.now ∷ []
 shown_words (Two first second) = first.now ∷ second.now ∷ []
 shown_words (Three first second third) = first.now ∷ second.now ∷ third.now ∷ []
 
--- the row and its words
+-- the row, with its words as a list
 abbrev pub shown_row : row.Row → Row
 shown_row r = record { code = r.code; operation = r.operation; words = shown_words r.words }

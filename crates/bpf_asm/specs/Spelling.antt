@@ -1,4 +1,4 @@
--- How the pieces of an operation are spelled by tokens: some places are open, for a number or a label.
+-- How tokens spell the operands of an operation: fixed tokens, and placeholders for numbers and labels.
 use Rattle.std.specs.Prelude.{◌≡◌, ℕ, List, [], ◌∷◌, ◌++◌, map, true}
 use Rattle.bpf_check.specs.declared.operation.Operation.{Operation}
 use Rattle.bpf_asm.specs.declared.form.Piece.{Piece}
@@ -6,23 +6,23 @@ use Rattle.bpf_asm.specs.declared.form.Piece.TheVariants.{Number, Label}
 use Rattle.bpf_asm.specs.Form.{fixed, pieces}
 use Rattle.bpf_asm.specs.Token.{ended, is_number_text, is_label}
 
--- a number, a label, or always the same token
+-- a placeholder for a number, one for a label, or a fixed token
 pub data Kind : Type 0 where
   a_number : Kind
   a_label : Kind
   exactly : (token : List ℕ) → Kind
 
--- what a piece stands for
+-- the kind of a piece
 abbrev pub kind : Piece → Kind
 kind Number = a_number
 kind Label = a_label
 kind p = exactly (fixed p)
 
--- what stands after the mnemonic of an operation
+-- the kinds of the tokens after the mnemonic of an operation
 abbrev pub kinds : Operation → List Kind
 kinds operation = map kind (pieces operation)
 
--- the tokens with these words in the open places, from the left; a missing number is the empty word
+-- the tokens with these words for the placeholders, from left to right; an empty word stands for a missing number
 abbrev pub spelled_with : List Kind → List (List ℕ) → List (List ℕ)
 spelled_with [] ws = []
 spelled_with (a_number ∷ ks) [] = []
@@ -31,7 +31,7 @@ spelled_with (a_label ∷ ks) [] = []
 spelled_with (a_label ∷ ks) (w ∷ ws) = w ∷ spelled_with ks ws
 spelled_with (exactly token ∷ ks) ws = token ∷ spelled_with ks ws
 
--- there is a word for each open place; each number is a numeral, perhaps with no digit, and each label is one
+-- there is one word for each placeholder: a numeral, perhaps without a digit, or a label
 abbrev pub AreOpen : List Kind → List (List ℕ) → Type 0
 AreOpen [] [] = Unit {0}
 AreOpen [] (w ∷ ws) = ⊥

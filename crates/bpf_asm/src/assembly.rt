@@ -1,11 +1,11 @@
-//! Assembler text to instructions, in two passes over its lines. Neither needs memory to find a fault.
+//! The assembler, in two passes over the lines of a text. Finding a fault never depends on an allocation.
 
 ghost use Rattle.std.specs.Prelude.{◌≡◌, ◌+◌, ◌*◌, ◌<◌, ◌≤◌, ℕ, List, [], length, IfOk, IfErr, MatchOption, MatchResult};
 ghost use Rattle.bpf_check.specs.declared.insn.Insn.{Insn};
 ghost use Rattle.bpf_check.specs.Accepted.{most_insns};
 ghost use Rattle.bpf_asm.specs.Token.{tokens};
 ghost use Rattle.bpf_asm.specs.Labels.{named};
-ghost use Rattle.bpf_asm.specs.Assembly.{body_of, place_of, token_lines, Assembles, IsFirstFault, IsAssemblyFault};
+ghost use Rattle.bpf_asm.specs.Assembly.{body_of, instruction_index, token_lines, Assembles, IsFirstFault, IsAssemblyFault};
 ghost use Rattle.bpf_asm.specs.Drafts.{Counted, CountRefused, IsTable, NoneBefore, HasInsn, InsnRefused};
 
 use crate::draft::draft_in;
@@ -19,7 +19,7 @@ use bpf_check::checked::MOST_INSNS;
 use bpf_check::listing::{keep, next_line};
 use std::alloc::Global;
 
-// The place behind a line with this body.
+// The instruction index after a line with this body.
 fn place_behind(place: u32, line: usize, body: &[u8]) -> Result<u32, AsmFault>
     requires { place ≤ most_insns }
     ensures { MatchResult result
@@ -35,11 +35,11 @@ fn place_behind(place: u32, line: usize, body: &[u8]) -> Result<u32, AsmFault>
     Ok(place + 1)
 }
 
-// The first pass: the places of all labels.
+// The first pass: collects the labels.
 fn names_of(alloc: Global, text: &[u8]) -> Result<Names<'_>, AsmFault>
     ensures { let ls = token_lines text.now in MatchResult result
         (λ names. IsTable ls (length ls) (named names)
-        × (place_of ls (length ls) ≤ most_insns) × NoneBefore ls (3 * length ls))
+        × (instruction_index ls (length ls) ≤ most_insns) × NoneBefore ls (3 * length ls))
         (λ fault. IsFirstFault ls fault) }
 {
     let mut names = no_names(alloc, text);
@@ -53,7 +53,7 @@ fn names_of(alloc: Global, text: &[u8]) -> Result<Names<'_>, AsmFault>
     Ok(names)
 }
 
-// The instruction of a line, if it has one.
+// The instruction on a line, or `None` if the line has none.
 fn insn_in(names: &Names<'_>, place: u32, at: usize, line: &[u8]) -> Result<Option<Insn>, AsmFault>
     requires { place ≤ 65536 }
     ensures { MatchResult result
@@ -67,10 +67,10 @@ fn insn_in(names: &Names<'_>, place: u32, at: usize, line: &[u8]) -> Result<Opti
     Ok(Some(resolve(names, place, &draft)?))
 }
 
-// The second pass: the instructions, as long as there is memory for all of them.
+// The second pass: collects the instructions. It reads on after a failed allocation, since a fault of the text takes precedence.
 fn insns_of(alloc: Global, text: &[u8], names: &Names<'_>) -> Result<Vec<Insn>, AsmFault>
     requires table { let ls = token_lines text.now in IsTable ls (length ls) (named names.now) }
-    requires short { let ls = token_lines text.now in place_of ls (length ls) ≤ most_insns }
+    requires short { let ls = token_lines text.now in instruction_index ls (length ls) ≤ most_insns }
     requires none { let ls = token_lines text.now in NoneBefore ls (3 * length ls) }
     ensures { let ls = token_lines text.now in MatchResult result
         (λ v. Assembles ls v.items) (λ fault. IsAssemblyFault ls fault) }
@@ -94,7 +94,7 @@ fn insns_of(alloc: Global, text: &[u8], names: &Names<'_>) -> Result<Vec<Insn>, 
     }
 }
 
-// What a text stands for.
+// Assembles a text.
 fn read(alloc: Global, text: &[u8]) -> Result<Vec<Insn>, AsmFault>
     ensures { let ls = token_lines text.now in MatchResult result
         (λ v. Assembles ls v.items) (λ fault. IsAssemblyFault ls fault) }
@@ -103,12 +103,13 @@ fn read(alloc: Global, text: &[u8]) -> Result<Vec<Insn>, AsmFault>
     insns_of(alloc, text, &names)
 }
 
-/// The instructions of an assembler text, or its first fault.
+/// Assembles a text into instructions.
 ///
-/// Of each line come first the faults of its label, then of its mnemonic, the form behind it and its
-/// number, then the limit of 4,096 instructions. When all lines were read, the labels of jumps come in
-/// their order. Where a label stands behind all instructions, its place is their number. `NoMemory` comes
-/// only where the text has no fault.
+/// Errors: the first fault of the text. Lines come in order, and of a line first its label, then its mnemonic, the form of its
+/// operands and its number, then the limit of 4,096 instructions. Faults of jumps' labels come after those of all lines, in the
+/// order of the jumps. `NoMemory` is returned only if the text has no fault.
+///
+/// A label after the last instruction names the index one past it.
 pub fn assemble(alloc: Global, text: &[u8]) -> Result<Vec<Insn>, AsmFault>
     ensures program { IfOk result (λ v. Assembles (token_lines text.now) v.items) }
     ensures only { (p : List Insn) → Assembles (token_lines text.now) p

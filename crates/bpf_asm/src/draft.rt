@@ -1,4 +1,4 @@
-//! The instruction of one line, its labels not resolved yet.
+//! The instruction on one line, before its labels are resolved.
 
 ghost use Rattle.std.specs.Prelude.{◌≡◌, ◌∷◌, [], MatchOption, MatchResult};
 ghost use Rattle.bpf_asm.specs.Shown.{shown_words};
@@ -14,7 +14,7 @@ use crate::spelling::Words;
 use crate::token::next_token;
 use bpf_check::operation::{Operand, Operation};
 
-/// An instruction whose labels are not resolved yet; what it doesn't have is 0 or empty.
+/// An instruction with unresolved labels. What the operation doesn't have is 0 or empty.
 #[derive(Clone, Copy)]
 pub(crate) struct Draft<'a> {
     pub line: usize,
@@ -25,7 +25,7 @@ pub(crate) struct Draft<'a> {
     pub second: &'a [u8],
 }
 
-// Keeps the words of a row, unless its number is wrong.
+// The draft with the words for an operation's placeholders, or `None` if the number is wrong.
 fn keep<'a>(line: usize, code: u16, operation: Operation, words: Words<'a>) -> Option<Draft<'a>>
     requires { AreOpen (kinds operation) (shown_words words) }
     ensures { MatchOption result (WrongNumber (shown_words words.entry) operation)
@@ -66,7 +66,7 @@ fn keep<'a>(line: usize, code: u16, operation: Operation, words: Words<'a>) -> O
     }
 }
 
-// The draft of a mnemonic, and of what stands behind it.
+// The draft for a mnemonic and the operands after it.
 fn draft_of<'a>(line: usize, word: &'a [u8], operands: &'a [u8]) -> Result<Draft<'a>, AsmFault>
     ensures { MatchResult result
         (λ d. (d.line ≡ line) × IsDraft (word.now ∷ tokens operands.now) (shown_draft d))
@@ -84,7 +84,7 @@ fn draft_of<'a>(line: usize, word: &'a [u8], operands: &'a [u8]) -> Result<Draft
     }
 }
 
-/// The draft of a line's instruction, if it has one; `body` is what stands behind the line's label.
+/// The draft for the instruction on a line, or `None` if there is none. `body` is the line after its label.
 pub(crate) fn draft_in(line: usize, body: &[u8]) -> Result<Option<Draft<'_>>, AsmFault>
     ensures { MatchResult result
         (λ found. MatchOption found (tokens body.now ≡ [])

@@ -1,44 +1,44 @@
-//! Why an assembler text is refused.
+//! Faults of assembler texts.
 
 ghost use Rattle.std.specs.Prelude.{◌≡◌};
 ghost use Rattle.bpf_asm.specs.Assembly.{fault_number, fault_line};
 
 use thiserror::Error;
 
-/// Why an assembler text is refused. A number is a line's, counted from 1.
+/// Why an assembler text is refused. The number in a variant is the line number, counted from 1.
 #[derive(Clone, Copy, Debug, PartialEq, Eq, Error)]
 pub enum AsmFault {
-    /// The first word of an instruction is no mnemonic.
+    /// The first word of an instruction is not a mnemonic.
     #[error("line {0}: the first word is no mnemonic")]
     Mnemonic(usize),
     /// The tokens after the mnemonic have none of its forms.
     #[error("line {0}: not a form of this mnemonic")]
     Operand(usize),
-    /// A number has no digit, or is above 32 bits.
+    /// A number has no digit or does not fit 32 bits.
     #[error("line {0}: a number has no digit or is too large")]
     Number(usize),
-    /// The label stands before an earlier line, too.
+    /// An earlier line has the same label.
     #[error("line {0}: an earlier line has this label")]
     DoubleLabel(usize),
-    /// No line begins with the label that a jump names.
+    /// No line has the label that a jump names.
     #[error("line {0}: no line has the label of the jump")]
     NoLabel(usize),
-    /// A jump names its own place or an earlier one.
+    /// A jump targets itself or an earlier instruction.
     #[error("line {0}: the jump names its own place or an earlier one")]
     Backward(usize),
-    /// A conditional jump goes over more than 255 instructions.
+    /// A conditional jump skips more than 255 instructions.
     #[error("line {0}: the conditional jump goes too far")]
     Far(usize),
-    /// The instruction is above the limit of a program.
+    /// The instruction exceeds the limit of 4,096.
     #[error("line {0}: more than 4,096 instructions")]
     TooLong(usize),
-    /// No memory was left.
+    /// Out of memory.
     #[error("no memory was left")]
     NoMemory,
 }
 
 impl AsmFault {
-    /// The number that the fault has in the program's answers.
+    /// The fault's number in printed messages, 1 to 9.
     pub fn number(&self) -> u8
         ensures { result ≡ fault_number self.now }
     {
@@ -55,7 +55,7 @@ impl AsmFault {
         }
     }
 
-    /// The line of the fault, from 1, where it lies on one.
+    /// The line number, counted from 1, or `None` if the variant carries none.
     pub fn line(&self) -> Option<usize>
         ensures { result ≡ fault_line self.now }
     {

@@ -1,11 +1,12 @@
-//! How each operation is written: a mnemonic, and pieces after it.
+//! The syntax of each operation: a mnemonic and the tokens after it.
 
 ghost use Rattle.std.specs.Prelude.{◌≡◌};
 ghost use Rattle.bpf_asm.specs.Form.{mnemonic, pieces, fixed, load_mnemonic, arithmetic_mnemonic, branch_mnemonic};
 
+use Piece::*;
 use bpf_check::operation::{Arithmetic, Comparison, Operand, Operation, Width};
 
-/// A token after the mnemonic.
+/// A token after the mnemonic: a fixed one, or a placeholder for a number or a label.
 #[derive(Clone, Copy, Debug, PartialEq, Eq)]
 pub(crate) enum Piece {
     Hash,
@@ -92,85 +93,54 @@ pub(crate) fn mnemonic_of(operation: Operation) -> &'static str
     }
 }
 
-/// The tokens after the mnemonic.
+/// The tokens after the mnemonic of an operation. A table with one arm per form.
 pub(crate) fn pieces_of(operation: Operation) -> &'static [Piece]
     ensures { result.now ≡ pieces operation }
 {
     match operation {
-        Operation::LoadAbsolute(_) => &[Piece::Open, Piece::Number, Piece::Close],
-        Operation::LoadIndirect(_) => {
-            &[
-                Piece::Open,
-                Piece::X,
-                Piece::Plus,
-                Piece::Number,
-                Piece::Close,
-            ]
-        }
+        Operation::LoadAbsolute(_) => &[Open, Number, Close],
+        Operation::LoadIndirect(_) => &[Open, X, Plus, Number, Close],
         Operation::LoadConstant
         | Operation::IndexConstant
         | Operation::Compute(_, Operand::Constant)
-        | Operation::ReturnConstant => &[Piece::Hash, Piece::Number],
+        | Operation::ReturnConstant => &[Hash, Number],
         Operation::LoadScratch
         | Operation::IndexScratch
         | Operation::StoreAccumulator
-        | Operation::StoreIndex => &[Piece::M, Piece::Open, Piece::Number, Piece::Close],
-        Operation::LoadLength | Operation::IndexLength => &[Piece::Len],
+        | Operation::StoreIndex => &[M, Open, Number, Close],
+        Operation::LoadLength | Operation::IndexLength => &[Len],
         Operation::IndexHeader => &[
-            Piece::Four,
-            Piece::Star,
-            Piece::LeftParen,
-            Piece::Open,
-            Piece::Number,
-            Piece::Close,
-            Piece::Ampersand,
-            Piece::LowFour,
-            Piece::RightParen,
+            Four, Star, LeftParen, Open, Number, Close, Ampersand, LowFour, RightParen,
         ],
-        Operation::Compute(_, Operand::Index) => &[Piece::X],
+        Operation::Compute(_, Operand::Index) => &[X],
         Operation::Negate | Operation::ToIndex | Operation::ToAccumulator => &[],
-        Operation::Jump => &[Piece::Label],
-        Operation::Branch(_, Operand::Constant) => &[
-            Piece::Hash,
-            Piece::Number,
-            Piece::Comma,
-            Piece::Label,
-            Piece::Comma,
-            Piece::Label,
-        ],
-        Operation::Branch(_, Operand::Index) => {
-            &[
-                Piece::X,
-                Piece::Comma,
-                Piece::Label,
-                Piece::Comma,
-                Piece::Label,
-            ]
-        }
-        Operation::ReturnAccumulator => &[Piece::A],
+        Operation::Jump => &[Label],
+        Operation::Branch(_, Operand::Constant) => &[Hash, Number, Comma, Label, Comma, Label],
+        Operation::Branch(_, Operand::Index) => &[X, Comma, Label, Comma, Label],
+        Operation::ReturnAccumulator => &[A],
     }
 }
 
-/// The octets of a token that is always the same.
+/// The text of a fixed token; it is empty for placeholders.
 pub(crate) fn fixed_of(piece: Piece) -> &'static str
     ensures { result.now ≡ fixed piece }
 {
     match piece {
-        Piece::Hash => "#",
-        Piece::Open => "[",
-        Piece::Close => "]",
-        Piece::X => "x",
-        Piece::Plus => "+",
-        Piece::M => "M",
-        Piece::Len => "len",
-        Piece::Four => "4",
-        Piece::Star => "*",
-        Piece::LeftParen => "(",
-        Piece::Ampersand => "&",
-        Piece::LowFour => "0xf",
-        Piece::RightParen => ")",
-        Piece::A => "a",
-        Piece::Comma => ",",
-        Piece::Number | Piece::Label => "",
+        Hash => "#",
+        Open => "[",
+        Close => "]",
+        X => "x",
+        Plus => "+",
+        M => "M",
+        Len => "len",
+        Four => "4",
+        Star => "*",
+        LeftParen => "(",
+        Ampersand => "&",
+        LowFour => "0xf",
+        RightParen => ")",
+        A => "a",
+        Comma => ",",
+        Number | Label => "",
     }
 }

@@ -1,10 +1,10 @@
-//! The places of labels: looked up, and named.
+//! The instruction indices that labels name: lookup and insertion.
 
 ghost use Rattle.std.specs.Prelude.{◌≡◌, ◌+◌, ◌<◌, ◌≤◌, ◌-◌, ◌^◌, ℕ, List, Some, None, IfSome, IsSomeAnd, MatchResult, OnOk, if◌then◌else◌};
 ghost use Rattle.std.specs.Str.{bytes_eq};
 ghost use Rattle.bpf_check.specs.Accepted.{most_insns};
 ghost use Rattle.bpf_asm.specs.Token.{tokens};
-ghost use Rattle.bpf_asm.specs.Assembly.{token_lines, label_of, has_body, place_of};
+ghost use Rattle.bpf_asm.specs.Assembly.{token_lines, label_of, has_body, instruction_index};
 ghost use Rattle.bpf_asm.specs.Labels.{place_in, begins_with, behind, found_in, named, LabelKept};
 ghost use Rattle.bpf_asm.specs.Drafts.{LabelRefused};
 
@@ -15,7 +15,7 @@ use bpf_check::listing::next_line;
 use std::alloc::{AllocError, Global};
 use std::collections::BTreeMap;
 
-/// No line was read of a text.
+/// The state before the first line of a text.
 pub(crate) fn no_names(alloc: Global, text: &[u8]) -> Names<'_>
     ensures text { result.text.now ≡ text.now }
     ensures lines { result.lines ≡ 0 }
@@ -28,7 +28,7 @@ pub(crate) fn no_names(alloc: Global, text: &[u8]) -> Names<'_>
     }
 }
 
-// Whether a line begins with a label.
+// Whether a line begins with this label.
 fn begins_with(line: &[u8], label: &[u8]) -> bool
     ensures { result ≡ begins_with (label_of (tokens line.now)) label.now }
 {
@@ -38,7 +38,7 @@ fn begins_with(line: &[u8], label: &[u8]) -> bool
     }
 }
 
-// The place behind a line that lies at a place.
+// The instruction index after a line, where `place` is the index before it.
 fn place_after(place: u32, line: &[u8]) -> u32
     requires { place ≤ 65536 }
     ensures { result ≡ behind place (has_body (tokens line.now)) }
@@ -46,9 +46,9 @@ fn place_after(place: u32, line: &[u8]) -> u32
     if has_body_in(line) { place + 1 } else { place }
 }
 
-// The place of the first of so many lines of a text that begins with a label.
+// The index that a label names on the first `lines` lines of a text, found by scanning them.
 fn place_in_text(text: &[u8], lines: usize, label: &[u8]) -> Option<u32>
-    requires { place_of (token_lines text.now) lines ≤ 65536 }
+    requires { instruction_index (token_lines text.now) lines ≤ 65536 }
     ensures { result ≡ found_in (token_lines text.now) lines label.now }
 {
     let mut rest = text;
@@ -66,8 +66,8 @@ fn place_in_text(text: &[u8], lines: usize, label: &[u8]) -> Option<u32>
     None
 }
 
-/// The place that a label names.
-pub(crate) fn place_of(names: &Names<'_>, label: &[u8]) -> Option<u32>
+/// The instruction index that a label names, among the lines read so far.
+pub(crate) fn label_index(names: &Names<'_>, label: &[u8]) -> Option<u32>
     ensures { result ≡ named names.now label.now }
 {
     match &names.kept {
@@ -76,7 +76,7 @@ pub(crate) fn place_of(names: &Names<'_>, label: &[u8]) -> Option<u32>
     }
 }
 
-// Lets a label name a place.
+// Inserts a label with its instruction index.
 fn name_place<'a>(labels: &mut Labels<'a>, label: &'a [u8], place: u32) -> Result<(), AllocError>
     ensures { OnOk result ((other : List ℕ) → place_in labels.new other
         ≡ (if bytes_eq label.now other then Some place else place_in labels.old other)) }
@@ -85,7 +85,7 @@ fn name_place<'a>(labels: &mut Labels<'a>, label: &'a [u8], place: u32) -> Resul
     Ok(())
 }
 
-// The same, as long as there is memory for all labels.
+// Inserts a label with its index. Returns `None` if an allocation fails now or failed before.
 fn keep_label<'a>(kept: Option<Labels<'a>>, label: &'a [u8], place: u32) -> Option<Labels<'a>>
     ensures { IfSome result (λ new. IsSomeAnd kept.entry (λ old. (other : List ℕ) → place_in new other
         ≡ (if bytes_eq label.now other then Some place else place_in old other))) }
@@ -95,14 +95,14 @@ fn keep_label<'a>(kept: Option<Labels<'a>>, label: &'a [u8], place: u32) -> Opti
     Some(labels)
 }
 
-/// The labels with that of the next line, which names a place.
+/// Reads the label of the next line, if it has one; `place` is the index that it names. Errors: `DoubleLabel`.
 pub(crate) fn name_line<'a>(
     names: Names<'a>,
     place: u32,
     line: &'a [u8],
 ) -> Result<Names<'a>, AsmFault>
     requires room { names.lines < 2 ^ 64 - 1 }
-    requires short { place_of (token_lines names.text.now) names.lines ≤ most_insns }
+    requires short { instruction_index (token_lines names.text.now) names.lines ≤ most_insns }
     ensures { MatchResult result
         (λ new. (new.text.now ≡ names.entry.text.now) × (new.lines ≡ names.entry.lines + 1)
         × LabelKept (named names.entry) names.entry.kept new.kept place (label_of (tokens line.now)))
@@ -116,7 +116,7 @@ pub(crate) fn name_line<'a>(
             kept: names.kept,
         });
     };
-    if place_of(&names, label).is_some() {
+    if label_index(&names, label).is_some() {
         return Err(AsmFault::DoubleLabel(lines));
     }
     Ok(Names {

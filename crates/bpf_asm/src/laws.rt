@@ -1,4 +1,4 @@
-//! Laws of the assembler's language.
+//! Lemmas about the assembler's language.
 
 ghost use Rattle.std.specs.Prelude.{◌≡◌, ℕ, List, ◌∷◌, ◌++◌, map, true};
 ghost use Rattle.std.specs.List.{concat, filter, list_all};
@@ -10,9 +10,8 @@ ghost use Rattle.bpf_asm.specs.Assembly.{token_lines, Assembles};
 ghost use Rattle.bpf_asm.specs.Token.{tokens, is_text, begins_no_comment};
 ghost use Rattle.bpf_asm.specs.Cleared.{cleared};
 
-/// The text that [`crate::to_text`] writes of a program is a text of the program for
-/// [`crate::assemble`], with 0 in the fields that its instructions don't use; so of the program
-/// itself where these are 0.
+/// For [`crate::assemble`], the text that [`crate::to_text`] writes is a text of the program with 0 in the fields that its
+/// instructions don't use; so it is a text of the program itself if these fields are 0.
 pub fn what_is_written_is_read()
     ensures cleared { (p : List Insn) → IsAccepted p → AreInRange p
         → Assembles (token_lines (program_text p)) (map cleared p) }
@@ -20,13 +19,13 @@ pub fn what_is_written_is_read()
         → Assembles (token_lines (program_text p)) p }
 {}
 
-/// The tokens of a line without a comment are its octets in order, blanks left out.
+/// The tokens of a line without a comment, concatenated, are the line without its blanks.
 pub fn tokens_keep_the_octets()
     ensures { (line : List ℕ) → list_all begins_no_comment line ≡ true
         → concat (tokens line) ≡ filter is_text line }
 {}
 
-/// What `;` begins adds no token.
+/// A comment, from `;` on, has no tokens.
 pub fn a_comment_has_no_token()
     ensures { (front rest : List ℕ) → tokens (front ++ 59 ∷ rest) ≡ tokens front }
 {}

@@ -1,7 +1,11 @@
-//! Assembler text of classic BPF programs, to instructions and back: `assemble` and `to_text`.
+//! An assembler and a disassembler for classic BPF: `assemble` reads instructions from text, and `to_text` writes an accepted
+//! program as text.
 //!
-//! Each line has one instruction in lower case, a label with `:` in front of it, or the label alone;
-//! what follows `;` is a comment. Numbers are decimal, or hexadecimal behind `0x`.
+//! A line holds one instruction in lower case, a label followed by `:`, or both; `;` starts a comment. Numbers are decimal, or
+//! hexadecimal after `0x`. Contracts see texts as lists of octets and programs as lists of instructions; `specs/Assembly.antt`
+//! defines which text is one of which program. What `to_text` writes assembles to the same instructions (`laws`).
+//!
+//! Tested by: crates/test_codecs, crates/test_refusals, the script cases in cases/check, must-fail edits (more-edits/).
 #![tactic(auto)]
 
 mod assembly;

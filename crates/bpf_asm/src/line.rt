@@ -1,4 +1,4 @@
-//! A line's label, and what stands behind it.
+//! The label of a line, and the rest of the line.
 
 ghost use Rattle.std.specs.Prelude.{◌≡◌};
 ghost use Rattle.std.specs.Option.{option_map};
@@ -7,7 +7,7 @@ ghost use Rattle.bpf_asm.specs.Assembly.{label_of, body_of, has_body};
 
 use crate::token::{is_label_of, next_token};
 
-/// The label that a line begins with.
+/// The label at the start of a line, if there is one.
 pub(crate) fn label_in(line: &[u8]) -> Option<&[u8]>
     ensures { option_map (λ x. x.now) result ≡ label_of (tokens line.now) }
 {
@@ -20,7 +20,7 @@ pub(crate) fn label_in(line: &[u8]) -> Option<&[u8]>
     }
 }
 
-/// What stands behind the label.
+/// The line after its label.
 pub(crate) fn body_in(line: &[u8]) -> &[u8]
     ensures { tokens result.now ≡ body_of (tokens line.now) }
 {

@@ -1,9 +1,9 @@
-//! The number that a numeral stands for.
+//! The values of numerals.
 
 ghost use Rattle.std.specs.Prelude.{◌≡◌, ◌^◌, ◌-◌, ◌<◌, ◌≤◌, ◌⊎◌, ℕ, min, length, MatchOption};
-ghost use Rattle.bpf_asm.specs.Number.{digit_value, value_after, Spells, IsNumber};
+ghost use Rattle.bpf_asm.specs.Number.{digit_value, value_in_base, Spells, IsNumber};
 
-// What a digit stands for.
+// The value of a digit.
 fn digit_of(c: u8) -> u64
     ensures { result ≡ digit_value c }
 {
@@ -17,10 +17,10 @@ fn digit_of(c: u8) -> u64
     u64::from(value)
 }
 
-// The number that digits spell, or the largest where it is larger.
+// The value of the digits, saturated at `u64::MAX`.
 fn value_of(base: u64, digits: &[u8]) -> u64
     requires { 0 < base }
-    ensures { result ≡ min (value_after base 0 digits.now) (2 ^ 64 - 1) }
+    ensures { result ≡ min (value_in_base base 0 digits.now) (2 ^ 64 - 1) }
 {
     let mut n: u64 = 0;
     for c in digits {
@@ -29,7 +29,7 @@ fn value_of(base: u64, digits: &[u8]) -> u64
     n
 }
 
-// The number of 32 bits that one or more digits spell.
+// The value of the digits, or `None` if there is no digit or the value does not fit 32 bits.
 fn small_of(base: u64, digits: &[u8]) -> Option<u32>
     requires { 0 < base }
     ensures { MatchOption result ((n : ℕ) → n < 2 ^ 32 → Spells base digits.now n → ⊥)
@@ -41,7 +41,7 @@ fn small_of(base: u64, digits: &[u8]) -> Option<u32>
     u32::try_from(value_of(base, digits)).ok()
 }
 
-/// The number that a numeral stands for, where it has a digit and fits 32 bits.
+/// The value of a numeral, or `None` if it has no digit or does not fit 32 bits.
 #[tactic(auto, unfolding(crate::specs::Number::IsNumber))]
 pub(crate) fn number_of(word: &[u8]) -> Option<u32>
     ensures { MatchOption result ((n : ℕ) → IsNumber word.now n → ⊥) (λ n. IsNumber word.now n) }

@@ -1,4 +1,4 @@
-//! The second pass: labels become distances.
+//! Resolves labels to jump distances, in the second pass.
 
 ghost use Rattle.std.specs.Prelude.{◌≡◌, ◌+◌, ◌≤◌, Some, MatchResult};
 ghost use Rattle.bpf_check.specs.declared.operation.Operation.{Operation};
@@ -8,19 +8,19 @@ ghost use Rattle.bpf_asm.specs.Drafts.{WrongLabel, IsResolved, Unresolved, shown
 
 use crate::draft::Draft;
 use crate::fault::AsmFault;
-use crate::labels::place_of;
+use crate::labels::label_index;
 use crate::names::Names;
 use bpf_check::Insn;
 use bpf_check::operation::Operation;
 
-// How far the label is behind the place after this one.
+// The distance of a jump at index `place` to a label. Errors: `NoLabel`, `Backward`.
 fn distance_to(names: &Names<'_>, place: u32, label: &[u8], line: usize) -> Result<u32, AsmFault>
     requires { place ≤ 65536 }
     ensures { (operation : Operation) → MatchResult result
         (λ distance. named names.now label.now ≡ Some (place + 1 + distance))
         (λ fault. WrongLabel (named names.now) place operation label.now line fault) }
 {
-    let Some(target) = place_of(names, label) else {
+    let Some(target) = label_index(names, label) else {
         return Err(AsmFault::NoLabel(line));
     };
     if target <= place {
@@ -29,7 +29,7 @@ fn distance_to(names: &Names<'_>, place: u32, label: &[u8], line: usize) -> Resu
     Ok(target - (place + 1))
 }
 
-// The same for a conditional jump, whose distances have 8 bits.
+// The distance of a conditional jump, which has to fit 8 bits. Errors: those of `distance_to`, and `Far`.
 fn short_distance_to(
     names: &Names<'_>,
     place: u32,
@@ -83,7 +83,7 @@ fn resolve_branch(names: &Names<'_>, place: u32, draft: &Draft<'_>) -> Result<In
     })
 }
 
-/// The instruction of a draft that lies at a place.
+/// The instruction of a draft at index `place`. Errors: the fault of the first wrong label.
 pub(crate) fn resolve(names: &Names<'_>, place: u32, draft: &Draft<'_>) -> Result<Insn, AsmFault>
     requires { place ≤ 65536 }
     ensures { MatchResult result

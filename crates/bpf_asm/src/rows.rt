@@ -1,4 +1,4 @@
-//! The table of codes, searched by the tokens of a line.
+//! The table of instruction codes, searched by the tokens of a line.
 
 ghost use Rattle.std.specs.Prelude.{◌≡◌};
 ghost use Rattle.std.specs.Option.{option_map};
@@ -11,7 +11,7 @@ use crate::form::{mnemonic_of, pieces_of};
 use crate::spelling::{Words, words_in};
 use bpf_check::operation::{Arithmetic, Comparison, Operand, Operation, Width};
 
-/// The row that a line is written in, and the words in its open places.
+/// A row of the table that matches a line, with the words for its placeholders.
 #[derive(Clone, Copy)]
 pub(crate) struct Row<'a> {
     pub code: u16,
@@ -127,7 +127,7 @@ fn rows() -> &'static [(u16, Operation)]
     ]
 }
 
-// The words in the open places of an operation, where the line is written in it.
+// The words for an operation's placeholders, or `None` if the line doesn't match the operation.
 fn words_of_row<'a>(operation: Operation, word: &[u8], operands: &'a [u8]) -> Option<Words<'a>>
     ensures { option_map shown_words result ≡ row_words operation word.now (tokens operands.now) }
 {
@@ -137,7 +137,7 @@ fn words_of_row<'a>(operation: Operation, word: &[u8], operands: &'a [u8]) -> Op
     words_in(pieces_of(operation), operands)
 }
 
-// The first of the rows that the tokens are written in.
+// The first of the rows that matches a line, if there is one.
 fn find_in<'a>(rows: &[(u16, Operation)], word: &[u8], operands: &'a [u8]) -> Option<Row<'a>>
     ensures { option_map shown_row result ≡ find_row rows.now word.now (tokens operands.now) }
 {
@@ -153,7 +153,7 @@ fn find_in<'a>(rows: &[(u16, Operation)], word: &[u8], operands: &'a [u8]) -> Op
     None
 }
 
-/// The first row of the table that the tokens are written in.
+/// The first row of the table that matches a line, if there is one.
 pub(crate) fn row_of<'a>(word: &[u8], operands: &'a [u8]) -> Option<Row<'a>>
     ensures { option_map shown_row result ≡ find_row table word.now (tokens operands.now) }
 {

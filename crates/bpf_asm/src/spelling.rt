@@ -1,4 +1,4 @@
-//! How the tokens of a line fit an operation's pieces.
+//! Matches the tokens of a line with the pieces of an operation.
 
 ghost use Rattle.std.specs.Prelude.{◌≡◌, ◌<◌, ◌≤◌, ◌∷◌, length, map};
 ghost use Rattle.std.specs.Option.{option_map};
@@ -10,14 +10,14 @@ ghost use Rattle.bpf_asm.specs.Reading.{number_front, label_front, left_of, fill
 use crate::form::{Piece, fixed_of};
 use crate::token::{is_label_of, is_numeral_of, next_token, starts_word_of};
 
-/// The word of an open place, and what is left behind it.
+/// The word for a placeholder, and the rest of the line.
 #[derive(Clone, Copy)]
 pub(crate) struct Front<'a> {
     pub word: &'a [u8],
     pub left: &'a [u8],
 }
 
-/// The words in the open places of a line, in order. No operation has more than three.
+/// The words for the placeholders of a line, from left to right. No operation has more than three.
 #[derive(Clone, Copy)]
 pub(crate) enum Words<'a> {
     Empty,
@@ -26,7 +26,7 @@ pub(crate) enum Words<'a> {
     Three(&'a [u8], &'a [u8], &'a [u8]),
 }
 
-// The number at the front, the empty word where there is none.
+// The number at the front, the empty word if it is missing, or `None` if another word is there.
 fn number_at(text: &[u8]) -> Option<Front<'_>>
     ensures { option_map shown_front result ≡ number_front (tokens text.now) }
 {
@@ -51,7 +51,7 @@ fn number_at(text: &[u8]) -> Option<Front<'_>>
     })
 }
 
-// The label at the front.
+// The label at the front, if there is one.
 fn label_at(text: &[u8]) -> Option<Front<'_>>
     ensures { option_map shown_front result ≡ label_front (tokens text.now) }
 {
@@ -62,7 +62,7 @@ fn label_at(text: &[u8]) -> Option<Front<'_>>
     Some(Front { word: token, left })
 }
 
-// What stands behind this token.
+// The rest of the line after the expected token, or `None` if the first token is another one.
 fn after_token<'a>(expected: &str, text: &'a [u8]) -> Option<&'a [u8]>
     ensures { option_map (λ x. tokens x.now) result ≡ left_of expected.now (tokens text.now) }
 {
@@ -73,7 +73,7 @@ fn after_token<'a>(expected: &str, text: &'a [u8]) -> Option<&'a [u8]>
     Some(left)
 }
 
-// The words behind this one.
+// The words with this one in front. `words` has at most two.
 fn put_first<'a>(word: &'a [u8], words: Words<'a>) -> Words<'a>
     requires { length (shown_words words) < 3 }
     ensures { shown_words result ≡ word.now ∷ shown_words words.entry }
@@ -86,7 +86,7 @@ fn put_first<'a>(word: &'a [u8], words: Words<'a>) -> Words<'a>
     }
 }
 
-/// The words in the open places of the pieces, where the tokens of the text fit them.
+/// The words for the placeholders of the pieces, or `None` if the text doesn't match them.
 pub(crate) fn words_in<'a>(pieces: &[Piece], text: &'a [u8]) -> Option<Words<'a>>
     requires { open_places (map kind pieces.now) ≤ 3 }
     ensures { option_map shown_words result ≡ fill (map kind pieces.now) (tokens text.now) }

@@ -1,4 +1,4 @@
-//! The text of a program.
+//! Writes programs as assembler text.
 
 ghost use Rattle.std.specs.Prelude.{◌≡◌, ◌+◌, ◌++◌, ◌<◌, ◌≤◌, IfOk, OnOk, string_bytes, length, decimal, codes, List, ◌∷◌, ℕ, false, ◌||◌, ◌==◌, slice_index_or, map};
 ghost use Rattle.bpf_check.specs.Operation.{operation_of};
@@ -15,7 +15,7 @@ use bpf_check::{Checked, Insn};
 pub use std::alloc::AllocError as NoMemory;
 use std::alloc::{AllocError, Global};
 
-// Writes a number in decimal.
+// Appends a number in decimal.
 fn push_number(out: &mut String, n: u64) -> Result<(), AllocError>
     ensures { OnOk result (string_bytes out.new ≡ string_bytes out.old ++ decimal n) }
 {
@@ -24,7 +24,7 @@ fn push_number(out: &mut String, n: u64) -> Result<(), AllocError>
     Ok(())
 }
 
-// Writes the label of a place.
+// Appends the label of the instruction at index `place`.
 fn push_label(out: &mut String, place: u64) -> Result<(), AllocError>
     ensures { OnOk result (string_bytes out.new ≡ string_bytes out.old ++ label_text place) }
 {
@@ -33,7 +33,7 @@ fn push_label(out: &mut String, place: u64) -> Result<(), AllocError>
     Ok(())
 }
 
-// Writes one piece, and gives the labels that are left.
+// Appends one piece, and returns the labels that are left.
 fn push_piece<'a>(
     out: &mut String,
     k: u32,
@@ -130,7 +130,7 @@ fn push_insn(out: &mut String, place: u64, insn: &Insn) -> Result<(), AllocError
     }
 }
 
-// Marks a place that a jump names, where it lies inside.
+// Marks an index as a jump target, if it lies inside the program.
 fn mark(marks: &mut [bool], target: usize)
     ensures { (place : ℕ) → place < length marks.old
         → slice_index_or marks.new place false ≡ (slice_index_or marks.old place false || (target == place)) }
@@ -140,7 +140,7 @@ fn mark(marks: &mut [bool], target: usize)
     }
 }
 
-// Marks the places that an instruction at a place may jump to.
+// Marks the indices that the instruction at index `at` may jump to.
 #[tactic(auto, unfolding(crate::specs::Text::targets))]
 fn mark_targets(marks: &mut [bool], at: usize, insn: &Insn)
     requires { at ≤ 65536 }
@@ -158,7 +158,7 @@ fn mark_targets(marks: &mut [bool], at: usize, insn: &Insn)
     }
 }
 
-// Whether some instruction jumps to each place.
+// For each instruction, whether it is a jump target.
 fn marks_of(alloc: Global, insns: &[Insn]) -> Result<Vec<bool>, AllocError>
     requires { length insns.now ≤ 65536 }
     ensures { IfOk result (λ marks. AreMarks insns.now marks.items) }
@@ -170,7 +170,7 @@ fn marks_of(alloc: Global, insns: &[Insn]) -> Result<Vec<bool>, AllocError>
     Ok(marks)
 }
 
-// Writes a line: the label where some instruction jumps to the place, then the instruction.
+// Appends a line: the label if the instruction is a jump target, then the instruction.
 fn push_line(out: &mut String, is_marked: bool, place: u64, insn: &Insn) -> Result<(), AllocError>
     requires { place ≤ 65536 }
     ensures { OnOk result (string_bytes out.new
@@ -185,7 +185,7 @@ fn push_line(out: &mut String, is_marked: bool, place: u64, insn: &Insn) -> Resu
     Ok(())
 }
 
-// Writes a line for each instruction.
+// The lines of all instructions.
 fn text_of(alloc: Global, insns: &[Insn]) -> Result<String, AllocError>
     requires { length insns.now ≤ 65536 }
     ensures { IfOk result (λ text. string_bytes text ≡ program_text insns.now) }
@@ -198,11 +198,12 @@ fn text_of(alloc: Global, insns: &[Insn]) -> Result<String, AllocError>
     Ok(out)
 }
 
-/// The text of a program: a line for each instruction, numbers in decimal.
+/// The text of a program, with one line per instruction and numbers in decimal.
 ///
-/// A place that some jump names begins with its label, `L` and the place, counted from 0. For
-/// [`crate::assemble`] it is a text of the same instructions, with 0 in the fields that they don't
-/// use; so of the program itself where these are 0.
+/// A jump target begins with its label: `L` and its 0-based index. [`crate::assemble`] reads the text back as the same
+/// instructions, with 0 in the fields that they don't use; so as the program itself if these fields are 0.
+///
+/// Errors: out of memory.
 pub fn to_text(alloc: Global, program: &Checked) -> Result<String, NoMemory>
     ensures text { IfOk result (λ text. string_bytes text ≡ program_text program.now) }
     ensures cleared { IfOk result (λ text. Assembles (token_lines (string_bytes text)) (map cleared program.now)) }

@@ -12,21 +12,21 @@ fn is_word_octet_of(c: u8) -> bool
     c.is_ascii_alphanumeric() || c == b'_'
 }
 
-// Where the first octet lies that is no blank.
+// The index of the first octet that is not a blank.
 fn text_in(line: &[u8]) -> Option<usize>
     ensures { result ≡ position is_text line.now }
 {
     line.iter().position(|c| !(*c == b' ' || *c == b'\t'))
 }
 
-// Where the first octet lies that is in no word.
+// The index of the first octet that belongs to no word.
 fn word_end_in(text: &[u8]) -> Option<usize>
     ensures { result ≡ position ends_word text.now }
 {
     text.iter().position(|c| !is_word_octet_of(*c))
 }
 
-// The word at the front of a text, and what stands behind it.
+// The word at the front of a text, and the rest of the text.
 fn split_word(text: &[u8]) -> (&[u8], &[u8])
     requires { starts_word text.now ≡ true }
     ensures { tokens text.now ≡ result.0.now ∷ tokens result.1.now }
@@ -37,7 +37,7 @@ fn split_word(text: &[u8]) -> (&[u8], &[u8])
     (&text[..end], &text[end..])
 }
 
-/// The first token of a line, if it has one, and what stands behind it.
+/// The first token of a line and the rest of the line, or `None` if the line has no token left.
 pub(crate) fn next_token(line: &[u8]) -> Option<(&[u8], &[u8])>
     ensures { MatchOption result (tokens line.now ≡ [])
         (λ split. tokens line.now ≡ split.0.now ∷ tokens split.1.now) }
@@ -70,7 +70,7 @@ fn all_hexdigits(text: &[u8]) -> bool
     text.iter().all(|c| c.is_ascii_hexdigit())
 }
 
-/// Whether a token is digits, or `0x` and hexadecimal digits, perhaps none.
+/// Whether a token consists of decimal digits, or of `0x` and hexadecimal digits; there may be no digit.
 #[tactic(auto, unfolding(crate::specs::Token::is_number_text))]
 pub(crate) fn is_numeral_of(token: &[u8]) -> bool
     ensures { result ≡ is_number_text token.now }

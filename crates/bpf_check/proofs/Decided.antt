@@ -1,4 +1,4 @@
--- Each program is accepted or has a first fault, so the function that finds the fault finds the first one.
+-- Each program is accepted or has a first fault, so the function that computes the fault returns the first one.
 use Rattle.std.proofs.Common.{◌≡◌, ℕ, zero, suc, ◌+◌, ◌-◌, ◌<◌, ◌≤◌, ◌⊎◌, inl, inr, List, length, get_or, Option, Some, None, sym, ◌∙◌, ap, refl, subst, arith}
 use Rattle.std.specs.Prelude.{◌↔◌, IsSomeAnd, slice_get}
 use Rattle.std.proofs.lemmas.Bool.{cases_lt}
@@ -12,11 +12,11 @@ use Rattle.bpf_check.specs.declared.operation.Operation.{Operation}
 use Rattle.bpf_check.specs.declared.operation.Operation.TheVariants.{LoadScratch, IndexScratch, StoreAccumulator, StoreIndex, Compute, Jump, Branch, ReturnConstant, ReturnAccumulator}
 use Rattle.bpf_check.specs.Operation.{operation_of}
 use Rattle.bpf_check.specs.Accepted.{most_insns, FieldsFit, IsFine, IsReturn, IsAccepted, UsesScratch, DividesByConstant, JumpsOut, IsFaultAt, IsFirstFault}
-use Rattle.bpf_check.specs.Refusal.{refusal}
+use Rattle.bpf_check.specs.Refusal.{program_fault}
 use Rattle.bpf_check.proofs.Faults.{first_at, first_at_end, first_empty, first_too_long}
 use Rattle.bpf_check.proofs.RefusalLemmas.{accepted-none, first-some}
 
--- the instruction at a place is fine, or it has a fault
+-- the instruction at an index is fine, or it has a fault
 abbrev Judged : ℕ → ℕ → Insn → Type 0
 Judged count place i = IsFine count place i ⊎ ((fault : CheckFault) × IsFaultAt count place i fault)
 
@@ -62,7 +62,7 @@ judged_by count place i (Some o) e = fine_by count place i (Some o) e tt
 judged : (count place : ℕ) (i : Insn) → Judged count place i
 judged count place i = judged_by count place i (operation_of i.code) refl
 
--- the instructions before a place are fine
+-- the instructions before an index are fine
 abbrev FineBefore : List Insn → ℕ → Type 0
 FineBefore p n = (k : ℕ) (j : Insn) → k < n → slice_get p k ≡ Some j → IsFine (length p) k j
 
@@ -138,20 +138,20 @@ none_not_some o fault e f = absurd (cc)
 one_fault : (o : Option CheckFault) (a b : CheckFault) → o ≡ Some a → o ≡ Some b → a ≡ b
 one_fault o a b e f = cc
 
-some_first : (p : List Insn) (fault : CheckFault) → refusal p ≡ Some fault → IsFirstFault p fault
+some_first : (p : List Insn) (fault : CheckFault) → program_fault p ≡ Some fault → IsFirstFault p fault
 some_first p fault e = elim (decided p) [
-  | inl accepted ↦ absurd (none_not_some (refusal p) fault (accepted-none p accepted) e)
-  | inr refused ↦ subst (IsFirstFault p) (one_fault (refusal p) refused.0 fault (first-some p refused.0 refused.1) e) refused.1
+  | inl accepted ↦ absurd (none_not_some (program_fault p) fault (accepted-none p accepted) e)
+  | inr refused ↦ subst (IsFirstFault p) (one_fault (program_fault p) refused.0 fault (first-some p refused.0 refused.1) e) refused.1
 ]
 
-none_accepted : (p : List Insn) → refusal p ≡ None → IsAccepted p
+none_accepted : (p : List Insn) → program_fault p ≡ None → IsAccepted p
 none_accepted p e = elim (decided p) [
   | inl accepted ↦ accepted
-  | inr refused ↦ absurd (none_not_some (refusal p) refused.0 e (first-some p refused.0 refused.1))
+  | inr refused ↦ absurd (none_not_some (program_fault p) refused.0 e (first-some p refused.0 refused.1))
 ]
 
-pub refuses_first : (p : List Insn) (fault : CheckFault) → (refusal p ≡ Some fault) ↔ IsFirstFault p fault
+pub refuses_first : (p : List Insn) (fault : CheckFault) → (program_fault p ≡ Some fault) ↔ IsFirstFault p fault
 refuses_first p fault = (some_first p fault, first-some p fault)
 
-pub refuses_unaccepted : (p : List Insn) → (refusal p ≡ None) ↔ IsAccepted p
+pub refuses_unaccepted : (p : List Insn) → (program_fault p ≡ None) ↔ IsAccepted p
 refuses_unaccepted p = (none_accepted p, accepted-none p)

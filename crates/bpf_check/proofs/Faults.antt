@@ -61,7 +61,7 @@ divisor_no_jump n q i (Some (Compute Divide Constant)) divides out = out
 divisor_no_jump n q i (Some (Compute Modulo Constant)) divides out = out
 divisor_no_jump n q i (Some _) divides out = divides
 
--- two faults of one instruction have one rank
+-- two faults of one instruction have the same rank
 same_rank : (n q : ℕ) (i : Insn) (f g : CheckFault) → IsFaultAt n q i f → IsFaultAt n q i g → rank n f ≤ rank n g
 same_rank n q i (UnknownCode a) (UnknownCode b) w v = omega arith
 same_rank n q i (UnknownCode a) (ZeroDivisor b) w v = omega arith
@@ -86,7 +86,7 @@ same_rank n q i f Empty w v = absurd v
 same_rank n q i f TooLong w v = absurd v
 same_rank n q i f NoReturn w v = absurd v
 
--- the ranks of a place lie together
+-- the ranks of one instruction are between those of the instructions before and after it
 rank_range : (n q : ℕ) (i : Insn) (f : CheckFault) → IsFaultAt n q i f → (4 * q + 2 ≤ rank n f) × (rank n f ≤ 4 * q + 5)
 rank_range n q i (UnknownCode a) w = (omega arith, omega arith)
 rank_range n q i (ZeroDivisor a) w = (omega arith, omega arith)
@@ -94,7 +94,7 @@ rank_range n q i (BadScratch a) w = (omega arith, omega arith)
 rank_range n q i (BadJump a) w = (omega arith, omega arith)
 rank_range n q i _ w = absurd w
 
--- the other fault is at a place too, or ends the program
+-- the other fault is that of an instruction too, or that of the program's end
 other_rank : (p : List Insn) (q : ℕ) (i : Insn) (f g : CheckFault) → slice_get p q ≡ Some i → IsFaultAt (length p) q i f → ((k : ℕ) (j : Insn) → k < q → slice_get p k ≡ Some j → IsFine (length p) k j) → (r : ℕ) (j : Insn) → slice_get p r ≡ Some j → IsFaultAt (length p) r j g → rank (length p) f ≤ rank (length p) g
 other_rank p q i f g here wrong before r j there other =
     let wide = rank_range (length p) q i f wrong in
@@ -135,7 +135,7 @@ first_at p q i f short here wrong before = record { has = has_at p q i f here wr
     none_earlier (BadScratch a) h = other_rank p q i f (BadScratch a) here wrong before h.0 h.1.0 h.1.1 h.1.2
     none_earlier (BadJump a) h = other_rank p q i f (BadJump a) here wrong before h.0 h.1.0 h.1.1 h.1.2
 
--- the last fault comes after all others
+-- the fault of the program's end comes after all others
 pub first_at_end : (p : List Insn) → 0 < length p → length p ≤ most_insns → ((k : ℕ) (j : Insn) → slice_get p k ≡ Some j → IsFine (length p) k j) → HasFault p NoReturn → IsFirstFault p NoReturn
 first_at_end p some short fine has = record { has = has; first = none_earlier }
   where

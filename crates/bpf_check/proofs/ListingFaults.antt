@@ -1,4 +1,4 @@
--- Which fault is the first, and that a listing has none.
+-- The first fault of a text; a listing has no fault.
 use Rattle.std.proofs.Common.{◌≡◌, ℕ, zero, suc, ◌+◌, ◌-◌, ◌<◌, ◌≤◌, ◌⊎◌, inl, inr, List, [], ◌∷◌, ◌++◌, length, map, drop, get_or, Option, Some, None, Result, Ok, Err, MatchResult, refl, ap, sym, ◌∙◌, subst, arith}
 use Rattle.std.specs.Prelude.{slice_get, IfSome, IsSomeAnd}
 use Rattle.std.proofs.lemmas.List.{length_push}
@@ -213,14 +213,14 @@ only_answer items (Err f) ls h p is = only_memory ls p f is h
 
 -- ---- a text, line by line
 
--- the lines from n on begin with this one
+-- the lines from index n on begin with this one
 pub next_is : {X : Type 0} (ls : List X) (n : ℕ) (l : X) (more : List X) → drop n ls ≡ l ∷ more → (slice_get ls n ≡ Some l) × (drop (suc n) ls ≡ more) × (n < length ls)
 next_is [] zero l more e = absurd (cc)
 next_is [] (suc n) l more e = absurd (cc)
 next_is (x ∷ ls) zero l more e = (cc, cc, omega arith)
 next_is (x ∷ ls) (suc n) l more e = let h = next_is ls n l more e in (h.0, h.1, omega (arith, h.2))
 
--- no line is left from n on
+-- no line is left from index n on
 pub none_left : {X : Type 0} (ls : List X) (n : ℕ) → drop n ls ≡ [] → length ls ≤ n
 none_left [] n e = omega arith
 none_left (x ∷ ls) zero e = absurd (cc)
@@ -232,7 +232,7 @@ from_drop [] (suc n) k at e = refl
 from_drop (x ∷ ls) (suc n) k zero e = absurd (omega arith)
 from_drop (x ∷ ls) (suc n) k (suc at) e = from_drop ls n k at (omega arith)
 
--- what is left behind the line
+-- the rest after the line
 pub left_more : (ls rest after : List (List ℕ)) (n m : ℕ) (l : List ℕ) → drop n ls ≡ rest → rest ≡ l ∷ after → m ≡ suc n → drop m ls ≡ after
 left_more ls rest after n m l left e next = ap (λ (k : ℕ). drop k ls) next ∙ (next_is ls n l after (left ∙ e)).1
 
@@ -245,7 +245,7 @@ inside ls rest after n l left e = (next_is ls n l after (left ∙ e)).2
 lt_cases : (a m : ℕ) → a < m + 1 → (a < m) ⊎ (m ≡ a)
 lt_cases a m h = grind arith
 
--- one more line has no word
+-- one more line is blank
 pub blank_more : (ls : List (List ℕ)) (m : ℕ) (t : List ℕ) → ((n : ℕ) (l : List ℕ) → n < m → slice_get ls n ≡ Some l → words l ≡ []) → slice_get ls m ≡ Some t → words t ≡ []
     → (n : ℕ) (l : List ℕ) → n < m + 1 → slice_get ls n ≡ Some l → words l ≡ []
 blank_more ls m t before found blank n l below has =
@@ -263,7 +263,7 @@ blank_all ls m before left n l has =
 not_less : (m n : ℕ) → (m < n → ⊥) → n ≤ m
 not_less m n h = elim (lt_or_le m n) [ inl l ↦ absurd (h l) | inr l ↦ l ]
 
--- where the lines behind the instructions have a word, the text has this fault first
+-- if a line after the instructions has a word, this is the first fault of the text
 pub extra_answer : (ls rest : List (List ℕ)) (count more line : ℕ) → NoneBefore ls (count + 2) → SaysAt ls 0 (count ∷ []) → count < length ls → drop (count + 1) ls ≡ rest → IsFirstText rest more → line ≡ count + 2 + more → IsListingFault ls (Extra line)
 extra_answer ls rest count more line none counted inside left text e = record { has = has; first = first }
   where
@@ -288,7 +288,7 @@ extra_answer ls rest count more line none counted inside left text e = record { 
         not_less n line (early n h.3 low h.4 h.5)
     first NoMemory h = absurd h
 
--- where no line behind the instructions has a word, the text has no fault
+-- if no line after the instructions has a word, the text has no fault
 pub memory_answer : (ls rest : List (List ℕ)) (count : ℕ) → NoneBefore ls (count + 2) → SaysAt ls 0 (count ∷ []) → count ≤ most_insns → count < length ls → drop (count + 1) ls ≡ rest → NoText rest → IsListingFault ls NoMemory
 memory_answer ls rest count none counted short inside left blank BadCount h = h count counted
 memory_answer ls rest count none counted short inside left blank TooLong h = let c = one_count ls count h.0 counted h.1 in omega (arith, h.2)
@@ -310,7 +310,7 @@ finished ls rest count p counted short long each left blank = record {
   rest = λ at l after found. blank (at - (count + 1)) l (ap (λ (xs : List (List ℕ)). slice_get xs (at - (count + 1))) (sym left) ∙ from_drop ls (count + 1) (at - (count + 1)) at (omega arith) ∙ found);
 }
 
--- what is kept has one more instruction
+-- one more instruction is kept
 pub kept_more : {V : Type 0} (items : V → List Insn) (old new : Option V) (ls : List (List ℕ)) (place : ℕ) (i : Insn) → IfSome new (λ v. IsSomeAnd old (λ u. items v ≡ items u ++ i ∷ []))
     → IfSome old (λ u. (length (items u) ≡ place) × ((at : ℕ) (j : Insn) → slice_get (items u) at ≡ Some j → SaysAt ls (at + 1) (fields j) × InRange j)) → SaysAt ls (place + 1) (fields i) → InRange i
     → IfSome new (λ v. (length (items v) ≡ place + 1) × ((at : ℕ) (j : Insn) → slice_get (items v) at ≡ Some j → SaysAt ls (at + 1) (fields j) × InRange j))

@@ -1,12 +1,13 @@
--- Numbers of digits, up to a bound; lines of numbers.
+-- Values of decimal digits, saturated at a bound; lines of numbers.
 use Rattle.std.proofs.Common.{◌≡◌, ℕ, suc, ◌+◌, ◌-◌, ◌*◌, ◌^◌, ◌<◌, ◌≤◌, ◌⊎◌, inl, inr, min, List, [], ◌∷◌, ◌++◌, true, ◌&&◌, length, map, get_or, drop, refl, ap, sym, ◌∙◌, arith, length-append}
 use Rattle.std.proofs.lemmas.List.{drop_more, drop_all}
 use Rattle.std.specs.List.{list_all}
 use Rattle.std.specs.Char.{is_ascii_digit}
-use Rattle.bpf_check.specs.Listing.{words, value_after, value, Says, NotFour, IsTooLarge, FourTooLarge}
+use Rattle.bpf_check.specs.Listing.{words, value, Says, NotFour, IsTooLarge, FourTooLarge}
+use Rattle.wire_octets.specs.Decimal.{value_after}
 use Rattle.bpf_check.specs.LineReading.{capped, Begins, NotOne, AreFour}
 
--- a number that is cut at the bound gives the same, cut there
+-- saturating the value of the digits read so far doesn't change the saturated result
 pub value_cut : (most a b : ℕ) (cs : List ℕ) → (a ≡ b) ⊎ ((most ≤ a) × (most ≤ b)) → min (value_after a cs) most ≡ min (value_after b cs) most
 value_cut most a b [] (inl e) = omega arith
 value_cut most a b [] (inr h) = omega (arith, h.0, h.1)
@@ -37,7 +38,7 @@ cut_sum n d a b c small ea eb ec = elim (lt_or_le (n * 10 + d) (2 ^ 64 - 1)) [ i
 
 -- ---- lines of numbers
 
--- the words of a line of numbers are as many as the numbers
+-- a line of numbers has one word per number
 same_length : (ws : List (List ℕ)) → length (map value ws) ≡ length ws
 same_length [] = refl
 same_length (w ∷ ws) = ap suc (same_length ws)
@@ -45,7 +46,7 @@ same_length (w ∷ ws) = ap suc (same_length ws)
 as_many : (ws : List (List ℕ)) (ns : List ℕ) → map value ws ≡ ns → length ws ≡ length ns
 as_many ws ns e = sym (same_length ws) ∙ ap length e
 
--- a word comes behind all numbers
+-- there is a word after all numbers
 pub too_many : (line : List ℕ) (front ws : List (List ℕ)) (ns : List ℕ) → words line ≡ front ++ ws → (ws ≡ [] → ⊥) → length front ≡ length ns → Says line ns → ⊥
 too_many line front [] ns e h few says = h refl
 too_many line front (w ∷ ws) ns e h few says =

@@ -1,4 +1,4 @@
--- The first line of a text and the first word of a line, and what is left behind them.
+-- Splitting off the first line of a text and the first word of a line.
 use Rattle.std.proofs.Common.{◌≡◌, ℕ, suc, ◌+◌, ◌-◌, ◌<◌, ◌≤◌, List, [], ◌∷◌, Bool, true, false, not, cond, nat_lt, Some, None, length, take, drop, refl, ap, sym, subst, ◌∙◌, arith, take_all, length-drop}
 use Rattle.std.proofs.lemmas.Bool.Decides.{nat_tests}
 use Rattle.std.proofs.lemmas.List.{drop_all}
@@ -46,7 +46,7 @@ line_alone : (x : List ℕ) → 0 < length x → lines_of_parts (x ∷ []) ≡ x
 line_alone [] h = absurd (omega arith)
 line_alone (c ∷ cs) h = grind arith
 
--- what an index from n on leaves
+-- a slice from n to the end is the list without its first n elements
 tail_is : (xs : List ℕ) (n : ℕ) → take (length xs - n) (drop n xs) ≡ drop n xs
 tail_is xs n = take_all (length xs - n) (drop n xs) (omega (arith, length-drop n xs))
 
@@ -117,7 +117,7 @@ word_within rest end b g = ap (filter is_some_word) (cut is_blank rest end g) �
 word_alone : (rest : List ℕ) → Begins rest → position is_blank rest ≡ None → words rest ≡ rest ∷ []
 word_alone rest b g = ap (filter is_some_word) (whole is_blank rest (unplaced is_blank rest g)) ∙ kept_word rest [] (some_length rest b)
 
--- what is left from the first octet of a word on
+-- the rest of a line from the first octet of a word on
 from_text : (line rest : List ℕ) (start : ℕ) → position is_text line ≡ Some start → rest ≡ take (length line - start) (drop start line) → (words rest ≡ words line) × Begins rest
 from_text line rest start h e =
     let s = placed is_text line start h in

@@ -1,4 +1,4 @@
--- The first fault of a program: the function gives what the relation says.
+-- The function and the relation agree on the first fault of a program.
 use Rattle.std.proofs.Common.{◌≡◌, ℕ, zero, suc, ◌+◌, ◌*◌, ◌-◌, ◌<◌, ◌≤◌, ◌⊎◌, inl, inr, Bool, true, false, cond, ◌||◌, nat_le, nat_lt, nat_eq, List, [], ◌∷◌, length, refl, ap, sym, ◌∙◌, subst, arith, Option, Some, None}
 use Rattle.std.proofs.lemmas.Option.{slice_get_within}
 use Rattle.std.proofs.lemmas.Bool.{cases_lt}
@@ -12,7 +12,7 @@ use Rattle.bpf_check.specs.declared.operation.Operation.{Operation}
 use Rattle.bpf_check.specs.declared.operation.Operation.TheVariants.{LoadScratch, IndexScratch, StoreAccumulator, StoreIndex, Compute, Jump, Branch, ReturnConstant, ReturnAccumulator}
 use Rattle.bpf_check.specs.Operation.{operation_of}
 use Rattle.bpf_check.specs.Accepted.{most_insns, FieldsFit, IsReturn, At, IsAccepted, DividesByConstant, UsesScratch, JumpsOut, IsFaultAt, HasFault, rank, IsFirstFault}
-use Rattle.bpf_check.specs.Refusal.{fault_if, fault_by, fault_at, first_of, fault_from, is_return, fault_of_last, refusal}
+use Rattle.bpf_check.specs.Refusal.{fault_if, fault_by, fault_at, first_of, fault_from, is_return, fault_of_last, program_fault}
 
 -- tests
 le-true : (a b : ℕ) → a ≤ b → nat_le a b ≡ true
@@ -63,7 +63,7 @@ if-faulty : (P : CheckFault → Type 0) (test : Bool) (fault : CheckFault) → (
 if-faulty P true fault h = h refl
 if-faulty P false fault h = tt
 
--- the program has this fault, and no later than at a place
+-- the program has this fault, at an index or earlier
 abbrev IsFaulty : List Insn → ℕ → CheckFault → Type 0
 IsFaulty p place fault = HasFault p fault × (rank (length p) fault < 4 * place + 6)
 
@@ -75,7 +75,7 @@ scratch-faulty : (p : List Insn) (place : ℕ) (i : Insn) → slice_get p place 
 scratch-faulty p place i got h =
     if-faulty (IsFaulty p place) (nat_le 16 i.k) (BadScratch place) (λ t. ((place, (i, got, (refl, h, le-holds 16 i.k t))), omega arith))
 
--- what the function gives is a fault of the program
+-- the result of the function is a fault of the program
 faulty : (p : List Insn) (place : ℕ) (i : Insn) → slice_get p place ≡ Some i → (op : Option Operation) → operation_of i.code ≡ op
     → IfSome (fault_by (length p) place i op) (IsFaulty p place)
 faulty p place i got None e = ((place, (i, got, (refl, e))), omega arith)
@@ -101,7 +101,7 @@ faulty p place i got (Some (Branch test side)) e =
     (λ t. ((place, (i, got, (refl, subst P (sym e) (either-holds (length p) (place + 1 + i.jt) (length p) (place + 1 + i.jf) t)))), omega arith))
 faulty p place i got (Some _) e = tt
 
--- a fault of an instruction is what the function gives
+-- the function returns the fault of an instruction
 zero-by : (count place : ℕ) (i : Insn) (op : Option Operation) → IsSomeAnd op DividesByConstant → i.k ≡ 0 → fault_by count place i op ≡ Some (ZeroDivisor place)
 zero-by count place i None h e = absurd h
 zero-by count place i (Some (Compute Divide Constant)) h e = ap (λ k. fault_if (nat_eq k 0) (ZeroDivisor place)) e
@@ -141,14 +141,14 @@ is-fault count place i NoReturn h = absurd h
 some-same : {A : Type 0} (x y : A) → Some x ≡ Some y → x ≡ y
 some-same x y e = cc
 
--- no fault at any place
+-- if no instruction has a fault, the function returns none
 none-from : (count start : ℕ) (xs : List Insn) → ((k : ℕ) (i : Insn) → slice_get xs k ≡ Some i → fault_at count (start + k) i ≡ None) → fault_from count start xs ≡ None
 none-from count start [] h = refl
 none-from count start (x ∷ xs) h =
     ap (λ o. first_of o (fault_from count (suc start) xs)) (ap (λ q. fault_at count q x) (omega arith) ∙ h 0 x refl)
     ∙ none-from count (suc start) xs (λ k i got. ap (λ q. fault_at count q i) (omega arith) ∙ h (suc k) i got)
 
--- a fault at a place, and none before
+-- if an instruction has a fault and no earlier one has, the function returns it
 some-from : (count start : ℕ) (xs : List Insn) (k : ℕ) (i : Insn) (fault : CheckFault) → slice_get xs k ≡ Some i
     → ((j : ℕ) (y : Insn) → j < k → slice_get xs j ≡ Some y → fault_at count (start + j) y ≡ None)
     → fault_at count (start + k) i ≡ Some fault → fault_from count start xs ≡ Some fault
@@ -174,13 +174,13 @@ returns-not (Some ReturnConstant) h = absurd (h tt)
 returns-not (Some ReturnAccumulator) h = absurd (h tt)
 returns-not (Some _) h = refl
 
--- a program of a length that is fine has the faults of its places and of its end
-sized : (p : List Insn) → 0 < length p → length p ≤ most_insns → refusal p ≡ first_of (fault_from (length p) 0 p) (fault_of_last (slice_get p (length p - 1)))
+-- a program of permitted length has the faults of its instructions and of its end
+sized : (p : List Insn) → 0 < length p → length p ≤ most_insns → program_fault p ≡ first_of (fault_from (length p) 0 p) (fault_of_last (slice_get p (length p - 1)))
 sized p some short =
     ap (λ t. cond t (Some Empty) (cond (nat_lt most_insns (length p)) (Some TooLong) (first_of (fault_from (length p) 0 p) (fault_of_last (slice_get p (length p - 1)))))) (nonzero (length p) some)
     ∙ ap (λ t. cond t (Some TooLong) (first_of (fault_from (length p) 0 p) (fault_of_last (slice_get p (length p - 1))))) (lt-false most_insns (length p) short)
 
-pub accepted-none : (p : List Insn) → IsAccepted p → refusal p ≡ None
+pub accepted-none : (p : List Insn) → IsAccepted p → program_fault p ≡ None
 accepted-none p h =
     let last = h.ends in
     sized p h.some h.short
@@ -196,7 +196,7 @@ none-if (Some fault) P h stop = absurd (stop fault h)
 late-contradicts : (a b k place : ℕ) → a ≤ b → b < 4 * k + 6 → 4 * place + 2 ≤ a → k < place → ⊥
 late-contradicts a b k place h less late before = omega arith
 
--- where the first fault is no earlier than a place, an instruction before it has none
+-- if the first fault is not before an index, no instruction before the index has a fault
 early-none : (p : List Insn) (fault : CheckFault) (k place : ℕ) (i : Insn) → ((other : CheckFault) → HasFault p other → rank (length p) fault ≤ rank (length p) other)
     → 4 * place + 2 ≤ rank (length p) fault → k < place → slice_get p k ≡ Some i → fault_at (length p) k i ≡ None
 early-none p fault k place i first late less got =
@@ -213,8 +213,8 @@ not-long p fault h less = elim (cases_lt most_insns (length p)) [
   | inr short ↦ short
 ]
 
--- the same where the fault is of an instruction
-first-placed : (p : List Insn) (fault : CheckFault) (at : ℕ) → IsFirstFault p fault → At p at (λ i. IsFaultAt (length p) at i fault) → 4 * at + 2 ≤ rank (length p) fault → refusal p ≡ Some fault
+-- the same if the fault is that of an instruction
+first-placed : (p : List Insn) (fault : CheckFault) (at : ℕ) → IsFirstFault p fault → At p at (λ i. IsFaultAt (length p) at i fault) → 4 * at + 2 ≤ rank (length p) fault → program_fault p ≡ Some fault
 first-placed p fault at h here late =
     sized p (not-empty p fault h (omega (arith, late))) (not-long p fault h (omega (arith, late)))
     ∙ ap (λ o. first_of o (fault_of_last (slice_get p (length p - 1))))
@@ -222,8 +222,8 @@ first-placed p fault at h here late =
     (λ j y less got. ap (λ q. fault_at (length p) q y) (omega arith) ∙ early-none p fault j at y h.first late less got)
     (ap (λ q. fault_at (length p) q here.0) (omega arith) ∙ is-fault (length p) at here.0 fault here.2))
 
--- the first fault of a program is what the function gives
-pub first-some : (p : List Insn) (fault : CheckFault) → IsFirstFault p fault → refusal p ≡ Some fault
+-- the function returns the first fault of a program
+pub first-some : (p : List Insn) (fault : CheckFault) → IsFirstFault p fault → program_fault p ≡ Some fault
 first-some p Empty h = ap (λ t. cond t (Some Empty) (cond (nat_lt most_insns (length p)) (Some TooLong) (first_of (fault_from (length p) 0 p) (fault_of_last (slice_get p (length p - 1)))))) (zero-true (length p) h.has)
 first-some p TooLong h =
     ap (λ t. cond t (Some Empty) (cond (nat_lt most_insns (length p)) (Some TooLong) (first_of (fault_from (length p) 0 p) (fault_of_last (slice_get p (length p - 1)))))) (nonzero (length p) (omega (arith, h.has)))

@@ -1,4 +1,4 @@
--- Programs that compare equal are the same list.
+-- Programs that compare equal are equal lists.
 use Rattle.std.proofs.Common.{◌≡◌, ℕ, List, [], ◌∷◌, Bool, true, false, ◌&&◌, refl, sym, subst, arith, rules}
 use Rattle.std.specs.Prelude.{IsTrue, ◌↔◌, ◌==◌}
 use Rattle.std.proofs.lemmas.Bool.Decides.{nat_tests}
@@ -13,11 +13,11 @@ both : (a b : Bool) → (a && b) ≡ true → (a ≡ true) × (b ≡ true)
 both true b e = (refl, e)
 both false b e = absurd (cc)
 
--- equal numbers are the same
+-- numbers that compare equal are equal
 same_number : (x y : ℕ) → (x == y) ≡ true → x ≡ y
 same_number x y e = grind (arith, nat_tests)
 
--- instructions that compare equal are the same
+-- instructions that compare equal are equal
 same_fields : (x y : Insn) → same_insn x y ≡ true → x ≡ y
 same_fields x y e =
     let p = both (x.code == y.code) _ e in
@@ -29,7 +29,7 @@ same_fields x y e =
     let k = same_number x.k y.k r.1 in
     λ i. record { code = code i; jt = jt i; jf = jf i; k = k i }
 
--- lists that compare equal are the same
+-- lists that compare equal are equal
 same_list : (xs ys : List Insn) → pointwise same_insn xs ys ≡ true → xs ≡ ys
 same_list [] [] e = refl
 same_list [] (y ∷ ys) e = absurd (cc)
@@ -46,12 +46,12 @@ list_itself xs ys e =
     let laws : IsEquivalence (pointwise same_insn) = search (comparing, rules) depth 9 in
     subst (λ (zs : List Insn). pointwise same_insn xs zs ≡ true) e (laws.refl xs)
 
--- tests of which each holds where the other does
+-- two tests, each of which holds if the other does
 same_test : (a b : Bool) → (a ≡ true → b ≡ true) → (b ≡ true → a ≡ true) → a ≡ b
 same_test true b f g = sym (f refl)
 same_test false true f g = g refl
 same_test false false f g = refl
 
--- the law: what holds exactly of equal programs is the comparison instruction by instruction
+-- the law: a test that holds exactly of equal programs is the comparison instruction by instruction
 pub same_program : (xs ys : List Insn) (b : Bool) → IsTrue b ↔ (xs ≡ ys) → b ≡ pointwise same_insn xs ys
 same_program xs ys b is = same_test b (pointwise same_insn xs ys) (λ yes. list_itself xs ys (is.0 yes)) (λ yes. is.1 (same_list xs ys yes))

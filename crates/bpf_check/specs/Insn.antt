@@ -1,13 +1,13 @@
--- Instructions: the ranges of their numbers, and equality by their fields.
+-- Instructions: the ranges of their fields, and equality.
 use Rattle.std.specs.Prelude.{◌≡◌, ℕ, ◌<◌, ◌^◌, List, Some, slice_get, Bool, ◌==◌}
 use Rattle.std.specs.Ordering.{on, eq_of_both}
 use Rattle.bpf_check.specs.declared.insn.Insn.{Insn}
 
--- each number is within its field
+-- each field is within its range
 abbrev pub InRange : Insn → Type 0
 InRange i = (i.code < 2 ^ 16) × (i.jt < 2 ^ 8) × (i.jf < 2 ^ 8) × (i.k < 2 ^ 32)
 
--- each number of each instruction is within its field
+-- each field of each instruction is within its range
 abbrev pub AreInRange : List Insn → Type 0
 AreInRange p = (place : ℕ) (i : Insn) → slice_get p place ≡ Some i → InRange i
 

@@ -1,4 +1,4 @@
--- The codes of the instructions, a row for each (the numbers of the BSD header bpf.h).
+-- Instruction codes, numbered as in the BSD header bpf.h, with one row per code.
 use Rattle.std.specs.Prelude.{ℕ, List, [], ◌∷◌, Option, Some, None, ◌==◌, if◌then◌else◌}
 use Rattle.bpf_check.specs.declared.operation.Width.TheVariants.{Word, Half, Byte}
 use Rattle.bpf_check.specs.declared.operation.Operand.TheVariants.{Constant, Index}
@@ -33,11 +33,11 @@ table =
     ∷ (0x94, Compute Modulo Constant) ∷ (0x9c, Compute Modulo Index)
     ∷ (0xa4, Compute ExclusiveOr Constant) ∷ (0xac, Compute ExclusiveOr Index) ∷ []
 
--- the operation in the first row that has the code
+-- the operation of the first row with this code, or None
 abbrev pub in_rows : List (ℕ × Operation) → ℕ → Option Operation
 in_rows [] code = None
 in_rows (row ∷ rows) code = if row.0 == code then Some row.1 else in_rows rows code
 
--- the operation of a code, if it has a row
+-- the operation of a code, or None if the code is unknown
 unfoldable pub operation_of : ℕ → Option Operation
 operation_of code = in_rows table code

@@ -1,41 +1,41 @@
-//! The checker, and the programs that it accepts.
+//! The checker, and the type of accepted programs.
 
 ghost use Rattle.std.specs.Prelude.{◌≡◌, ◌==◌, ◌<◌, ◌≤◌, ◌↔◌, length, IsOk, IfOk, IfErr, IfSome, IfNone, IsTrue, IsSomeAnd, MatchResult, Some, None, false};
 ghost use Rattle.bpf_check.specs.Accepted.{most_insns, IsFine, IsAccepted, IsFaultAt, IsFirstFault, IsReturn, fault_number, fault_place};
 ghost use Rattle.bpf_check.specs.Insn.{InRange, AreInRange};
 ghost use Rattle.bpf_check.specs.Operation.{operation_of};
-ghost use Rattle.bpf_check.specs.Refusal.{refusal};
+ghost use Rattle.bpf_check.specs.Refusal.{program_fault};
 
 use crate::insn::Insn;
 use crate::operation::{Arithmetic, Operand, Operation, decode};
 use std::marker::Model;
 use thiserror::Error;
 
-/// The most instructions of a program.
+/// Maximum number of instructions in a program.
 pub const MOST_INSNS: usize = 4_096;
 
-/// The words of scratch memory.
+/// Number of words of scratch memory.
 pub const SCRATCH_WORDS: u32 = 16;
 
-/// Why a program is refused. A number is the place of an instruction, counted from 0.
+/// Why a program is refused. The number in a variant is the 0-based index of the instruction.
 #[derive(Clone, Copy, Debug, PartialEq, Eq, Error)]
 pub enum CheckFault {
-    /// There is no instruction.
+    /// The program has no instructions.
     #[error("the program is empty")]
     Empty,
-    /// There are more than 4,096 instructions.
+    /// The program has more than 4,096 instructions.
     #[error("the program has more than 4,096 instructions")]
     TooLong,
-    /// No operation has this code.
+    /// The code is not that of any operation.
     #[error("place {0}: the code is unknown")]
     UnknownCode(usize),
     /// A division by the constant 0, for the quotient or the remainder.
     #[error("place {0}: division by 0")]
     ZeroDivisor(usize),
-    /// A scratch word of 16 or more.
+    /// The index of a scratch word is 16 or more.
     #[error("place {0}: there is no such scratch word")]
     BadScratch(usize),
-    /// A jump with a target that is outside the program.
+    /// A jump has a target outside the program.
     #[error("place {0}: a target of the jump is outside the program")]
     BadJump(usize),
     /// The last instruction is not a return.
@@ -44,7 +44,7 @@ pub enum CheckFault {
 }
 
 impl CheckFault {
-    /// The number that the fault has in the program's answers.
+    /// The fault's number in printed messages, 1 to 7.
     pub fn number(&self) -> u8
         ensures { result ≡ fault_number self.now }
     {
@@ -59,7 +59,7 @@ impl CheckFault {
         }
     }
 
-    /// The place of the fault, from 0, where it lies at one.
+    /// The 0-based index of the faulty instruction, or `None` if the variant carries none.
     pub fn place(&self) -> Option<usize>
         ensures { result ≡ fault_place self.now }
     {
@@ -73,7 +73,7 @@ impl CheckFault {
     }
 }
 
-/// A program that the checker accepted. Contracts see the list of its instructions.
+/// An accepted program. Contracts see the list of its instructions.
 #[derive(Debug, Drop)]
 pub struct Checked {
     insns: Vec<Insn>,
@@ -119,19 +119,18 @@ impl Eq for Checked {
     ghost laws = { Prim.search (comparing, rules) depth 9 };
 }
 
-/// Accepts a program, or says its first fault and hands it back.
+/// Checks a program. Errors: the first fault, together with the instructions.
 ///
-/// Accepted are 1 to 4,096 instructions of known codes, none of which divides by the constant 0 or
-/// names a scratch word above 15, whose jumps stay inside, and of which the last is a return.
-/// The faults come in the order `Empty`, `TooLong`, then by place and at one place in the order of
-/// the variants, then `NoReturn`.
+/// A program is accepted if it has 1 to 4,096 instructions with known codes, none of them divides by the constant 0 or uses a
+/// scratch word above 15, every jump target is inside the program, and the last instruction is a return.
+/// The order of faults is `Empty`, `TooLong`, then by index (at one index in the order of the variants), then `NoReturn`.
 pub fn check(insns: Vec<Insn>) -> Result<Checked, (CheckFault, Vec<Insn>)>
     ensures accepts { IsOk result ↔ IsAccepted insns.items }
     ensures same { IfOk result (λ checked. checked ≡ insns.items) }
     ensures first { IfErr result (λ refused. IsFirstFault insns.items refused.0) }
     ensures back { IfErr result (λ refused. refused.1 ≡ insns) }
-    // The same, by the function that finds the fault of a list of instructions.
-    ensures refusal { MatchResult result (λ _. refusal insns.items ≡ None) (λ refused. refusal insns.items ≡ Some refused.0) }
+    // The same result, stated by the function that computes the first fault of a list of instructions.
+    ensures program_fault { MatchResult result (λ _. program_fault insns.items ≡ None) (λ refused. program_fault insns.items ≡ Some refused.0) }
 {
     match first_fault(&insns) {
         None => Ok(Checked { insns }),
@@ -150,7 +149,7 @@ impl Checked {
         &self.insns
     }
 
-    /// How many instructions there are, 1 to 4,096.
+    /// The number of instructions, 1 to 4,096.
     pub fn len(&self) -> usize
         ensures value { result ≡ length self.now }
         ensures within { (0 < result) × (result ≤ most_insns) }
@@ -158,7 +157,7 @@ impl Checked {
         self.insns.len()
     }
 
-    /// Whether there is no instruction, which is never so.
+    /// Always `false`: an accepted program has at least one instruction.
     pub fn is_empty(&self) -> bool
         ensures { result ≡ false }
     {
@@ -166,7 +165,7 @@ impl Checked {
     }
 }
 
-// Whether two programs have the same instructions. No difference ends the loop early, so that several are compared at once.
+// Whether two programs have the same instructions. The loop has no early exit, so that the compiler can vectorize it.
 fn is_same_program(one: &[Insn], other: &[Insn]) -> bool
     ensures { IsTrue result ↔ (one.now ≡ other.now) }
 {
@@ -180,7 +179,7 @@ fn is_same_program(one: &[Insn], other: &[Insn]) -> bool
     differences == 0
 }
 
-// The first fault of a program, if it has one.
+// The first fault of a program, or `None` if it has no fault.
 fn first_fault(insns: &[Insn]) -> Option<CheckFault>
     ensures none { IfNone result (IsAccepted insns.now) }
     ensures range { IfNone result (AreInRange insns.now) }
@@ -204,7 +203,7 @@ fn first_fault(insns: &[Insn]) -> Option<CheckFault>
     }
 }
 
-// Whether a code ends a run.
+// Whether a code is that of a return.
 fn is_return(code: u16) -> bool
     ensures yes { IsTrue result → IsSomeAnd (operation_of code) IsReturn }
     ensures no { IsSomeAnd (operation_of code) IsReturn → IsTrue result }
@@ -215,7 +214,7 @@ fn is_return(code: u16) -> bool
     )
 }
 
-// The fault of one instruction, if it has one.
+// The fault of the instruction at index `place` of a program of `count` instructions, or `None`.
 fn fault_in(insn: &Insn, place: usize, count: usize) -> Option<CheckFault>
     requires inside { place < count }
     requires short { count ≤ most_insns }

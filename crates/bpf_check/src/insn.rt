@@ -1,23 +1,23 @@
-//! One instruction.
+//! A single instruction.
 
 ghost use Rattle.std.specs.Prelude.{◌≡◌, ◌+◌, ◌*◌};
 ghost use Rattle.bpf_check.specs.Insn.{InRange};
 
-/// An instruction of classic BPF, as the four numbers that it is written with.
+/// A classic BPF instruction: the four fields of its encoding.
 #[derive(Clone, Copy, Debug, PartialEq, Eq)]
 pub struct Insn {
-    /// Which operation it is.
+    /// The operation code.
     pub code: u16,
-    /// How many instructions a conditional jump skips where its test holds.
+    /// How many instructions a conditional jump skips if its test holds.
     pub jt: u8,
-    /// How many it skips where the test does not hold.
+    /// How many instructions a conditional jump skips if its test fails.
     pub jf: u8,
-    /// The constant, the place in the packet or in scratch memory, or the distance of a plain jump.
+    /// The constant, the packet offset, the index of a scratch word, or the distance of an unconditional jump.
     pub k: u32,
 }
 
 impl Insn {
-    // The numbers of an instruction are within their fields.
+    // Each field is within its range. The function does nothing; callers need its contract in proofs.
     pub(crate) fn is_in_range(&self)
         ensures { InRange self.now }
     {
@@ -27,7 +27,7 @@ impl Insn {
         let _k = self.k;
     }
 
-    // The four numbers in the order in which they lie in memory, as one: so that programs are compared a word at a time.
+    // The fields packed into one 64-bit word, in the order of the struct, so that programs are compared a word at a time.
     #[inline(always)]
     pub(crate) fn word(&self) -> u64
         ensures value { result ≡ self.now.code + self.now.jt * 65536 + self.now.jf * 16777216 + self.now.k * 4294967296 }

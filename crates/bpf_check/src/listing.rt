@@ -1,6 +1,5 @@
-//! Listings of programs, as `tcpdump -ddd` prints them: a count, then a line for each instruction
-//! with its code, its two distances and its constant. All numbers are decimal; spaces and tabs part
-//! them, and may begin and end a line.
+//! Reads program listings as `tcpdump -ddd` prints them: a line with the number of instructions, then a line for each instruction
+//! with its fields `code jt jf k`. Numbers are decimal, separated by spaces and tabs, which may also begin and end a line.
 
 ghost use Rattle.std.specs.Prelude.{◌≡◌, ℕ, ◌+◌, ◌<◌, ◌≤◌, List, [], ◌∷◌, ◌++◌, length, true, false, IfOk, IfErr, IfSome, IsSomeAnd, MatchResult, MatchOption, IsTrue, ◌↔◌};
 ghost use Rattle.std.specs.List.{position};
@@ -16,34 +15,34 @@ use crate::insn::Insn;
 use std::alloc::Global;
 use thiserror::Error;
 
-/// Why a listing is refused. A number is a line's, counted from 1.
+/// Why a listing is refused. The number in a variant is the line number, counted from 1.
 #[derive(Clone, Copy, Debug, PartialEq, Eq, Error)]
 pub enum ListingFault {
-    /// The first line is no number, or there is none.
+    /// The first line is missing, or is not exactly one number.
     #[error("the first line is no number")]
     BadCount,
-    /// The line of an instruction isn't four numbers.
+    /// The line of an instruction is not exactly four numbers.
     #[error("line {0}: not four numbers")]
     BadLine(usize),
-    /// A number is above its field.
+    /// A number is out of range for its field.
     #[error("line {0}: a number is above its field")]
     OutOfRange(usize),
-    /// The count is above the limit of a program.
+    /// The count on the first line exceeds 4,096.
     #[error("more than 4,096 instructions")]
     TooLong,
-    /// There are fewer lines than the count says.
+    /// There are fewer lines of instructions than the first line says.
     #[error("there are fewer instructions than the first line says")]
     Missing,
-    /// A line after the last instruction isn't blank.
+    /// A line after the last instruction is not blank.
     #[error("line {0}: behind the last instruction")]
     Extra(usize),
-    /// No memory was left.
+    /// Out of memory.
     #[error("no memory was left")]
     NoMemory,
 }
 
 impl ListingFault {
-    /// The number that the fault has in the program's answers.
+    /// The fault's number in printed messages, 1 to 7.
     pub fn number(&self) -> u8
         ensures { result ≡ fault_number self.now }
     {
@@ -58,7 +57,7 @@ impl ListingFault {
         }
     }
 
-    /// The line of the fault, from 1, where it lies on one.
+    /// The line number, counted from 1, or `None` if the variant carries none.
     pub fn line(&self) -> Option<usize>
         ensures { result ≡ fault_line self.now }
     {
@@ -71,14 +70,14 @@ impl ListingFault {
     }
 }
 
-// Where the first line feed lies.
+// The index of the first line feed.
 fn line_feed_in(text: &[u8]) -> Option<usize>
     ensures { result ≡ position is_line_feed text.now }
 {
     text.iter().position(|c| *c == b'\n')
 }
 
-// A line without the carriage return at its end.
+// The line without a carriage return at its end.
 fn stripped(line: &[u8]) -> &[u8]
     ensures { result.now ≡ strip_carriage_return line.now }
 {
@@ -88,8 +87,8 @@ fn stripped(line: &[u8]) -> &[u8]
     }
 }
 
-/// The first line of a text, if it has one, and the text behind it: a line ends with LF, which the
-/// last one may lack, and a CR before LF is dropped.
+/// Splits a text after its first line: the line and the rest of the text, or `None` if the text is empty. A line ends with LF,
+/// which is optional at the end of the text; a CR directly before the LF is dropped.
 pub fn next_line(text: &[u8]) -> Option<(&[u8], &[u8])>
     ensures lines { MatchOption result (lines text.now ≡ [])
         (λ split. lines text.now ≡ split.0.now ∷ lines split.1.now) }
@@ -104,21 +103,21 @@ pub fn next_line(text: &[u8]) -> Option<(&[u8], &[u8])>
     Some((stripped(&text[..end]), &text[end + 1..]))
 }
 
-// Where the first octet of a word lies.
+// The index of the first octet that is not a blank.
 fn text_in(line: &[u8]) -> Option<usize>
     ensures { result ≡ position is_text line.now }
 {
     line.iter().position(|c| !(*c == b' ' || *c == b'\t'))
 }
 
-// Where the first blank lies.
+// The index of the first blank.
 fn blank_in(line: &[u8]) -> Option<usize>
     ensures { result ≡ position is_blank line.now }
 {
     line.iter().position(|c| *c == b' ' || *c == b'\t')
 }
 
-// The first word of a line, if it has one, and what stands behind it.
+// The first word of a line and the rest of the line, or `None` if the line is blank.
 fn next_word(line: &[u8]) -> Option<(&[u8], &[u8])>
     ensures { MatchOption result (words line.now ≡ [])
         (λ split. words line.now ≡ split.0.now ∷ words split.1.now) }
@@ -133,7 +132,7 @@ fn next_word(line: &[u8]) -> Option<(&[u8], &[u8])>
     Some((&word[..end], &word[end + 1..]))
 }
 
-// The number of a word, or the largest where it is larger.
+// The value of a word of decimal digits, saturated at `u64::MAX`, or `None` if an octet is not a digit.
 fn number_of(word: &[u8]) -> Option<u64>
     ensures { MatchOption result (are_digits word.now ≡ false)
         (λ n. (are_digits word.now ≡ true) × (n ≡ capped word.now)) }
@@ -148,7 +147,7 @@ fn number_of(word: &[u8]) -> Option<u64>
     Some(n)
 }
 
-// The number that a line begins with, and what stands behind it.
+// The number at the start of a line and the rest of the line, or `None` if the line does not start with a number.
 fn next_number(line: &[u8]) -> Option<(u64, &[u8])>
     ensures { MatchOption result (NoNumber (words line.now))
         (λ split. Begins (words line.now) split.0 (words split.1.now)) }
@@ -158,14 +157,14 @@ fn next_number(line: &[u8]) -> Option<(u64, &[u8])>
     Some((n, rest))
 }
 
-// Whether a line has no word.
+// Whether a line is blank.
 fn is_empty_line(line: &[u8]) -> bool
     ensures { IsTrue result ↔ (words line.now ≡ []) }
 {
     next_word(line).is_none()
 }
 
-// The number of a line with just one.
+// The number on a line, or `None` if the line is not exactly one number.
 fn only_number(line: &[u8]) -> Option<u64>
     ensures { MatchOption result (NotOne line.now) (λ n. IsOne line.now n) }
 {
@@ -173,7 +172,7 @@ fn only_number(line: &[u8]) -> Option<u64>
     if is_empty_line(rest) { Some(n) } else { None }
 }
 
-// The numbers of a line with just four.
+// The numbers on a line, or `None` if the line is not exactly four numbers.
 fn four_numbers(line: &[u8]) -> Option<(u64, u64, u64, u64)>
     ensures { MatchOption result (NotFour line.now) (λ n. AreFour line.now n.0 n.1 n.2 n.3) }
 {
@@ -188,7 +187,7 @@ fn four_numbers(line: &[u8]) -> Option<(u64, u64, u64, u64)>
     }
 }
 
-// How many instructions the first line says.
+// The count on the first line.
 fn count_of(line: &[u8]) -> Result<usize, ListingFault>
     ensures { MatchResult result (λ n. Says line.now (n ∷ []) × (n ≤ most_insns)) (λ fault. CountFault line.now fault) }
 {
@@ -201,7 +200,7 @@ fn count_of(line: &[u8]) -> Result<usize, ListingFault>
     Ok(count as usize)
 }
 
-// The instruction with these numbers, where each is within its field.
+// The instruction with these fields, or `None` if one is out of range.
 fn insn_with(code: u64, jt: u64, jf: u64, k: u64) -> Option<Insn>
     ensures { MatchOption result (IsTooLarge code jt jf k)
         (λ i. InRange i × (i.code ≡ code) × (i.jt ≡ jt) × (i.jf ≡ jf) × (i.k ≡ k)) }
@@ -214,7 +213,7 @@ fn insn_with(code: u64, jt: u64, jf: u64, k: u64) -> Option<Insn>
     })
 }
 
-// The instruction that the line of this number spells.
+// The instruction on a line; `at` is the line number, counted from 1.
 fn insn_of(line: &[u8], at: usize) -> Result<Insn, ListingFault>
     ensures { MatchResult result (λ i. Says line.now (fields i) × InRange i) (λ fault. LineFault line.now at fault) }
 {
@@ -227,7 +226,8 @@ fn insn_of(line: &[u8], at: usize) -> Result<Insn, ListingFault>
     }
 }
 
-/// Puts an instruction behind the others, as long as there is memory for all of them.
+/// Appends an instruction. Returns `None` if an allocation fails now or failed before; reading goes on without the
+/// instructions, since a fault of the text takes precedence over `NoMemory`.
 pub fn keep(kept: Option<Vec<Insn>>, insn: Insn) -> Option<Vec<Insn>>
     ensures { IfSome result (λ new. IsSomeAnd kept (λ old. new.items ≡ old.items ++ insn ∷ [])) }
 {
@@ -236,7 +236,7 @@ pub fn keep(kept: Option<Vec<Insn>>, insn: Insn) -> Option<Vec<Insn>>
     Some(insns)
 }
 
-// How many lines stand before the first one with a word.
+// How many lines precede the first one that is not blank, or `None` if all are blank.
 fn first_text_in(text: &[u8]) -> Option<usize>
     ensures place { MatchOption result (NoText (lines text.now)) (λ at. IsFirstText (lines text.now) at) }
     ensures within { IfSome result (λ at. at < length text.now) }
@@ -253,7 +253,7 @@ fn first_text_in(text: &[u8]) -> Option<usize>
     None
 }
 
-// What a text stands for.
+// The instructions of a listing.
 fn read(alloc: Global, text: &[u8]) -> Result<Vec<Insn>, ListingFault>
     ensures { MatchResult result (λ v. IsListing (lines text.now) v.items) (λ fault. IsListingFault (lines text.now) fault) }
 {
@@ -279,10 +279,10 @@ fn read(alloc: Global, text: &[u8]) -> Result<Vec<Insn>, ListingFault>
     }
 }
 
-/// The instructions of a listing, or its first fault.
+/// Reads the instructions of a listing.
 ///
-/// A fault of the count comes first, then those of the lines from the top; `Missing` comes where a
-/// line isn't there. `NoMemory` comes only where the text has no fault.
+/// Errors: the first fault of the text. `BadCount` and `TooLong` come first, then the faults of the lines in order; `Missing`
+/// counts at the first absent line. `NoMemory` is returned only if the text has no fault.
 pub fn read_listing(alloc: Global, text: &[u8]) -> Result<Vec<Insn>, ListingFault>
     ensures listing { IfOk result (λ v. IsListing (lines text.now) v.items) }
     ensures only { (p : List Insn) → IsListing (lines text.now) p

@@ -1,9 +1,9 @@
-//! What an instruction's code stands for, by the numbers of the BSD header `bpf.h`.
+//! Operations, and decoding of instruction codes. The codes are numbered as in the BSD header `bpf.h`.
 
 ghost use Rattle.std.specs.Prelude.{◌≡◌};
 ghost use Rattle.bpf_check.specs.Operation.{operation_of};
 
-/// How many octets a load takes.
+/// How many octets a load reads from the packet.
 #[derive(Clone, Copy, Debug, PartialEq, Eq)]
 pub enum Width {
     /// Four octets.
@@ -14,16 +14,16 @@ pub enum Width {
     Byte,
 }
 
-/// Where the right side of an operation comes from.
+/// The right-hand operand of an operation.
 #[derive(Clone, Copy, Debug, PartialEq, Eq)]
 pub enum Operand {
-    /// The instruction's field `k`.
+    /// The field `k` of the instruction.
     Constant,
     /// The index register.
     Index,
 }
 
-/// An operation on the accumulator.
+/// An arithmetic or bitwise operation.
 #[derive(Clone, Copy, Debug, PartialEq, Eq)]
 pub enum Arithmetic {
     Add,
@@ -45,54 +45,54 @@ pub enum Comparison {
     Equal,
     AtLeast,
     Above,
-    /// The two words have a bit in common.
+    /// The words have a 1 bit in common.
     SharesBit,
 }
 
 /// What an instruction does. A is the accumulator, X the index register, M the scratch memory.
 #[derive(Clone, Copy, Debug, PartialEq, Eq)]
 pub enum Operation {
-    /// A is loaded from the packet at k.
+    /// A = the packet's octets at offset k, in network order.
     LoadAbsolute(Width),
-    /// A is loaded from the packet at X + k.
+    /// A = the packet's octets at offset X + k, in network order.
     LoadIndirect(Width),
-    /// A is k.
+    /// A = k.
     LoadConstant,
-    /// A is M[k].
+    /// A = M[k].
     LoadScratch,
-    /// A is the packet's length.
+    /// A = the packet's length in octets.
     LoadLength,
-    /// X is k.
+    /// X = k.
     IndexConstant,
-    /// X is M[k].
+    /// X = M[k].
     IndexScratch,
-    /// X is the packet's length.
+    /// X = the packet's length in octets.
     IndexLength,
-    /// X is four times the low four bits of the packet's octet at k.
+    /// X = four times the low four bits of the packet's octet at offset k.
     IndexHeader,
-    /// M[k] is A.
+    /// M[k] = A.
     StoreAccumulator,
-    /// M[k] is X.
+    /// M[k] = X.
     StoreIndex,
-    /// A is the result of the arithmetic on A and the operand.
+    /// A = the result of the operation on A and the operand.
     Compute(Arithmetic, Operand),
-    /// A is 0 - A.
+    /// A = 0 - A.
     Negate,
     /// Skips k instructions.
     Jump,
-    /// Skips jt instructions where the comparison of A and the operand holds, otherwise jf.
+    /// Skips jt instructions if the comparison of A and the operand holds, otherwise jf.
     Branch(Comparison, Operand),
-    /// Ends with k.
+    /// Ends the run with the value k.
     ReturnConstant,
-    /// Ends with A.
+    /// Ends the run with the value A.
     ReturnAccumulator,
-    /// X is A.
+    /// X = A.
     ToIndex,
-    /// A is X.
+    /// A = X.
     ToAccumulator,
 }
 
-/// The operation of a code, if it has one.
+/// Decodes an instruction code, or returns `None` if the code is unknown. A table with one row per code.
 #[inline(always)]
 #[tactic(auto, unfolding(crate::specs::Operation::operation_of))]
 pub fn decode(code: u16) -> Option<Operation>

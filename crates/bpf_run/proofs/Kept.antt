@@ -15,7 +15,7 @@ use Rattle.bpf_run.specs.Machine.{row_if}
 use Rattle.bpf_run.specs.Chain.{Point, effect_if, leads, Follows, IsChain, Gives}
 use Rattle.bpf_run.specs.Earlier.{earlier_table, earlier_operation_of, FieldsFitted, WasAccepted, led_to, led, WasChain, Gave}
 
--- rows that are put behind don't change what was found
+-- appended rows don't change what is found
 kept_if : {A : Type 0} (b : Bool) (x y : A) (o q : Option A) → (o ≡ Some y → q ≡ Some y) → cond b (Some x) o ≡ Some y → cond b (Some x) q ≡ Some y
 kept_if true x y o q more e = e
 kept_if false x y o q more e = more e
@@ -28,7 +28,7 @@ is_same : (code : ℕ) (o : Operation) → earlier_operation_of code ≡ Some o 
 unfolding earlier_operation_of operation_of
 is_same code o e = kept_rows earlier_table (drop 45 table) code o e
 
--- no remainder among the codes that there were
+-- the earlier codes have no remainder
 abbrev divides_anew : Operation → Bool
 divides_anew (Compute Modulo Constant) = true
 divides_anew o = false
@@ -61,7 +61,7 @@ still_fits count place i Jump old fits = fits
 still_fits count place i (Branch test side) old fits = fits
 still_fits count place i o old fits = tt
 
--- a fact of the operation that a code had is one of the operation that it has
+-- a fact about the earlier operation of a code holds of its operation now
 moved : (code : ℕ) (was now : Operation → Type 0) (o : Option Operation) → earlier_operation_of code ≡ o → ((p : Operation) → earlier_operation_of code ≡ Some p → was p → now p) → IsSomeAnd o was → IsSomeAnd (operation_of code) now
 moved code was now None e more fact = absurd fact
 moved code was now (Some p) e more fact = let P : Option Operation → Type 0 = λ q. IsSomeAnd q now in subst P (sym (is_same code p e)) (more p e fact)

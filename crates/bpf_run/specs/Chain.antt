@@ -1,5 +1,5 @@
--- Whole runs of a program: chains of places and machines, each of which follows from the one before.
--- A program gives a value after so many steps where a chain of so many points leads to the end with it.
+-- Whole runs of a program, as chains of states in which each follows from the one before.
+-- A program gives a value after n steps if there is a chain of n states, the last of which ends the run with the value.
 use Rattle.std.specs.Prelude.{◌≡◌, ℕ, ◌+◌, ◌-◌, ◌<◌, ◌≤◌, List, length, Option, Some, None, slice_get}
 use Rattle.bpf_check.specs.declared.insn.Insn.{Insn}
 use Rattle.bpf_run.specs.declared.machine.Machine.{Machine}
@@ -8,34 +8,34 @@ use Rattle.bpf_run.specs.declared.machine.Step.TheVariants.{Next, Skip, End}
 use Rattle.bpf_run.specs.Start.{start}
 use Rattle.bpf_run.specs.Machine.{effect}
 
--- a place of the program, and the machine there
+-- a state of a run: an instruction index, and the machine before that instruction
 pub record Point : Type 0 where
   pub place : ℕ
   pub machine : Machine
 
--- what the instruction that stands there leads to
+-- the effect of the instruction, if there is one
 abbrev pub effect_if : Option Insn → List ℕ → Machine → Option Step
 effect_if None packet m = None
 effect_if (Some i) packet m = effect i packet m
 
--- what a point of a run leads to
+-- the effect of the instruction at a state of a run
 abbrev pub leads : List Insn → List ℕ → Point → Option Step
 leads p packet from = effect_if (slice_get p from.place) packet from.machine
 
--- the second point follows from the first, which leads so
+-- the second state follows from the first by this effect
 abbrev pub Follows : Option Step → Point → Point → Type 0
 Follows (Some (Next after)) from to = to ≡ record { place = from.place + 1; machine = after }
 Follows (Some (Skip distance)) from to = to ≡ record { place = from.place + 1 + distance; machine = from.machine }
 Follows (Some (End value)) from to = ⊥
 Follows None from to = ⊥
 
--- a list of points from the start, each of which follows from the one before and is inside the program
+-- the chain begins with the start state, each state follows from the one before, and all are inside the program
 pub record IsChain (p : List Insn) (packet : List ℕ) (chain : List Point) : Type 0 where
   pub starts : slice_get chain 0 ≡ Some (record { place = 0; machine = start })
   pub follows : (k : ℕ) (from to : Point) → slice_get chain k ≡ Some from → slice_get chain (k + 1) ≡ Some to → Follows (leads p packet from) from to
   pub inside : (k : ℕ) (at : Point) → slice_get chain k ≡ Some at → at.place < length p
 
--- a chain of so many points, the last of which leads to the end with this value
+-- there is a chain of `steps` states, the last of which ends the run with the value
 pub record Gives (p : List Insn) (packet : List ℕ) (value steps : ℕ) : Type 0 where
   pub chain : List Point
   pub is_chain : IsChain p packet chain
@@ -44,7 +44,7 @@ pub record Gives (p : List Insn) (packet : List ℕ) (value steps : ℕ) : Type 
   pub at_end : slice_get chain (steps - 1) ≡ Some last
   pub ends : leads p packet last ≡ Some (End value)
 
--- the program gives one verdict on the packet, after one number of steps, no more than it has instructions
+-- the run has exactly one value and one number of steps, which is at most the number of instructions
 pub record EndsOnce (p : List Insn) (packet : List ℕ) : Type 0 where
   pub value : ℕ
   pub steps : ℕ

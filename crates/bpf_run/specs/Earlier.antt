@@ -1,5 +1,5 @@
--- What was accepted while a program had at most 512 instructions and there was neither `mod` nor `xor`, and how it ran.
--- One law speaks of it: such a program is still accepted, and runs as it did.
+-- The earlier language, in which a program had at most 512 instructions and there was neither `mod` nor `xor`.
+-- A lemma in src/laws.rt states that its programs are still accepted and run in the same way.
 use Rattle.std.specs.Prelude.{◌≡◌, ℕ, ◌+◌, ◌-◌, ◌<◌, ◌≤◌, List, [], ◌∷◌, length, Option, Some, None, slice_get, IsSomeAnd}
 use Rattle.bpf_check.specs.declared.insn.Insn.{Insn}
 use Rattle.bpf_check.specs.declared.operation.Width.TheVariants.{Word, Half, Byte}
@@ -17,7 +17,7 @@ use Rattle.bpf_run.specs.Start.{start}
 use Rattle.bpf_run.specs.Machine.{row_if}
 use Rattle.bpf_run.specs.Chain.{Point, Follows}
 
--- the codes that there were
+-- the codes of the earlier language
 abbrev pub earlier_table : List (ℕ × Operation)
 earlier_table =
     (0x20, LoadAbsolute Word) ∷ (0x28, LoadAbsolute Half) ∷ (0x30, LoadAbsolute Byte)
@@ -41,11 +41,11 @@ earlier_table =
     ∷ (0x06, ReturnConstant) ∷ (0x16, ReturnAccumulator)
     ∷ (0x07, ToIndex) ∷ (0x87, ToAccumulator) ∷ []
 
--- the operation that a code had
+-- the operation of a code in the earlier language
 unfoldable pub earlier_operation_of : ℕ → Option Operation
 earlier_operation_of code = in_rows earlier_table code
 
--- what an operation asked of its instruction's fields
+-- what an operation required of its instruction's fields
 abbrev pub FieldsFitted : ℕ → ℕ → Insn → Operation → Type 0
 FieldsFitted count place i LoadScratch = i.k < 16
 FieldsFitted count place i IndexScratch = i.k < 16
@@ -63,22 +63,22 @@ pub record WasAccepted (p : List Insn) : Type 0 where
   pub each : (place : ℕ) (i : Insn) → slice_get p place ≡ Some i → IsSomeAnd (earlier_operation_of i.code) (FieldsFitted (length p) place i)
   pub ends : At p (length p - 1) (λ i. IsSomeAnd (earlier_operation_of i.code) IsReturn)
 
--- what the instruction led to that stood there; the operations that there were do what they did
+-- the effect of the instruction, if there is one; the operations have the effects that they have now
 abbrev pub led_to : Option Insn → List ℕ → Machine → Option Step
 led_to None packet m = None
 led_to (Some i) packet m = row_if (earlier_operation_of i.code) i packet m
 
--- what a point of a run led to
+-- the effect of the instruction at a state of a run
 abbrev pub led : List Insn → List ℕ → Point → Option Step
 led p packet from = led_to (slice_get p from.place) packet from.machine
 
--- the list of points was a chain
+-- the list of states was a chain
 pub record WasChain (p : List Insn) (packet : List ℕ) (chain : List Point) : Type 0 where
   pub starts : slice_get chain 0 ≡ Some (record { place = 0; machine = start })
   pub follows : (k : ℕ) (from to : Point) → slice_get chain k ≡ Some from → slice_get chain (k + 1) ≡ Some to → Follows (led p packet from) from to
   pub inside : (k : ℕ) (at : Point) → slice_get chain k ≡ Some at → at.place < length p
 
--- the program gave this value after so many steps
+-- the program gave this value after this number of steps
 pub record Gave (p : List Insn) (packet : List ℕ) (value steps : ℕ) : Type 0 where
   pub chain : List Point
   pub was_chain : WasChain p packet chain

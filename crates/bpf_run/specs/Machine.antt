@@ -1,4 +1,4 @@
--- One instruction: what it leads to, from a state of the machine and a packet.
+-- The effect of one instruction, given the state of the machine and the packet.
 -- All words have 32 bits, and comparisons are unsigned.
 use Rattle.std.specs.Prelude.{ℕ, ◌+◌, ◌-◌, ◌*◌, ◌/◌, ◌%◌, ◌^◌, Bool, not, List, length, Option, Some, None, ◌==◌, nat_lt, nat_le, if◌then◌else◌, slice_get, slice_index, slice_set, bit_and, bit_or, bit_xor}
 use Rattle.bpf_check.specs.declared.insn.Insn.{Insn}
@@ -17,7 +17,7 @@ use Rattle.bpf_run.specs.declared.machine.Machine.{Machine}
 use Rattle.bpf_run.specs.declared.machine.Step.{Step}
 use Rattle.bpf_run.specs.declared.machine.Step.TheVariants.{Next, Skip, End}
 
--- the number in the octets from a place, in network order, if all of them are inside
+-- the value of the octets from offset `at` on, in network order, or None if one of them is outside the packet
 abbrev pub loaded : Width → List ℕ → ℕ → Option ℕ
 loaded Byte packet at = slice_get packet at
 loaded Half packet at =
@@ -27,7 +27,7 @@ loaded Word packet at =
     then Some ((slice_index packet at * 256 + slice_index packet (at + 1)) * 65536 + (slice_index packet (at + 2) * 256 + slice_index packet (at + 3)))
     else None
 
--- two words computed, modulo 2^32; a shift by more than 31 leaves 0
+-- the result of an operation on two words, modulo 2^32; a shift by more than 31 gives 0
 abbrev pub computed : Arithmetic → ℕ → ℕ → ℕ
 computed Add a b = (a + b) % 2 ^ 32
 computed Subtract a b = (a + (2 ^ 32 - b)) % 2 ^ 32
@@ -47,17 +47,17 @@ compare AtLeast a b = nat_le b a
 compare Above a b = nat_lt b a
 compare SharesBit a b = not (bit_and a b == 0)
 
--- the word that an operand stands for
+-- the value of an operand
 abbrev pub right_side : Operand → Insn → Machine → ℕ
 right_side Constant i m = i.k
 right_side Index i m = m.x
 
--- a load of A goes on with the new word, and ends with 0 where an octet is outside
+-- a load into A continues with the value, or ends the run with 0 if there is none
 abbrev pub put_a : Machine → Option ℕ → Step
 put_a m (Some v) = Next (record m { a = v })
 put_a m None = End 0
 
--- a load of X, in the same way
+-- a load into X, likewise
 abbrev pub put_x : Machine → Option ℕ → Step
 put_x m (Some v) = Next (record m { x = v })
 put_x m None = End 0
@@ -67,11 +67,11 @@ abbrev pub header_length : Option ℕ → Option ℕ
 header_length (Some v) = Some (4 * bit_and v 15)
 header_length None = None
 
--- a scratch word has to be below 16, or there is no result
+-- the result if the index of the scratch word is below 16, otherwise None
 abbrev pub in_scratch : ℕ → Step → Option Step
 in_scratch k result = if nat_lt k 16 then Some result else None
 
--- what an operation leads to, a row for each; X + k is a whole number that does not wrap
+-- the effect of each operation, one row per operation; X + k does not wrap
 abbrev pub row : Operation → Insn → List ℕ → Machine → Option Step
 row (LoadAbsolute width) i packet m = Some (put_a m (loaded width packet i.k))
 row (LoadIndirect width) i packet m = Some (put_a m (loaded width packet (m.x + i.k)))
@@ -97,11 +97,11 @@ row ReturnAccumulator i packet m = Some (End m.a)
 row ToIndex i packet m = Some (Next (record m { x = m.a }))
 row ToAccumulator i packet m = Some (Next (record m { a = m.x }))
 
--- what an operation leads to, if there is one
+-- the effect of an operation, if there is one
 abbrev pub row_if : Option Operation → Insn → List ℕ → Machine → Option Step
 row_if None i packet m = None
 row_if (Some operation) i packet m = row operation i packet m
 
--- what an instruction leads to: nothing where its code has no row, its constant divisor is 0 or its scratch place is outside
+-- the effect of an instruction, or None if its code is unknown, its constant divisor is 0 or its scratch word doesn't exist
 abbrev pub effect : Insn → List ℕ → Machine → Option Step
 effect i packet m = row_if (operation_of i.code) i packet m

@@ -1,4 +1,4 @@
--- How the interpreter's outcome, and the machine that it leaves, stand for what an instruction leads to. No public contract rests on it.
+-- How the interpreter's outcome and its updated machine represent the effect of an instruction. No public contract depends on it.
 use Rattle.std.specs.Prelude.{◌≡◌, Option, Some}
 use Rattle.bpf_run.specs.declared.machine.Machine.{Machine}
 use Rattle.bpf_run.specs.declared.machine.Step.{Step}
@@ -6,7 +6,7 @@ use Rattle.bpf_run.specs.declared.machine.Step.TheVariants as step
 use Rattle.bpf_run.specs.declared.machine.Outcome.{Outcome}
 use Rattle.bpf_run.specs.declared.machine.Outcome.TheVariants.{Next, Skip, End}
 
--- what the instruction led to is this outcome, with the machine before and after
+-- the effect is this outcome, with `old` and `new` as the machine before and after the instruction
 abbrev pub Leads : Option Step → Outcome → Machine → Machine → Type 0
 Leads led Next old new = led ≡ Some (step.Next new)
 Leads led (Skip distance) old new = (led ≡ Some (step.Skip distance)) × (new ≡ old)

@@ -1,4 +1,4 @@
--- The state of the machine before the first instruction.
+-- The machine before the first instruction.
 use Rattle.std.specs.Prelude.{replicate}
 use Rattle.bpf_run.specs.declared.machine.Machine.{Machine}
 

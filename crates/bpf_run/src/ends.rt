@@ -1,11 +1,11 @@
-//! Who a datagram is from and to, and which socket it came in by.
+//! Endpoints of a datagram, and the query sockets.
 
-/// One end of a datagram's way: an IPv4 address and a UDP port.
+/// An endpoint: an IPv4 address and a UDP port.
 #[derive(Clone, Copy, Debug, PartialEq, Eq)]
 pub struct End {
     /// The address, in network order.
     pub addr: [u8; 4],
-    /// The port.
+    /// The UDP port.
     pub port: u16,
 }
 

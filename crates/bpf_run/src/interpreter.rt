@@ -1,4 +1,4 @@
-//! The interpreter.
+//! The interpreter of accepted programs.
 
 ghost use Rattle.std.specs.Prelude.{◌≡◌, ℕ, ◌≤◌, length};
 ghost use Rattle.bpf_run.specs.Chain.{Gives};
@@ -8,20 +8,19 @@ use crate::machine::{Machine, Outcome, execute};
 use crate::packet::Packet;
 use bpf_check::Checked;
 
-/// A filter's answer, and how many instructions it took.
+/// The result of running a filter.
 #[derive(Clone, Copy, Debug, PartialEq, Eq)]
 pub struct Verdict {
-    /// What the filter ended with.
+    /// The value that the filter returned.
     pub value: u32,
-    /// How many instructions it took, with the one that ended it.
+    /// The number of executed instructions, including the one that ended the run.
     pub steps: u16,
 }
 
-/// Runs an accepted program on a packet. It takes at most one step for each of its instructions.
+/// Runs an accepted program on a packet. It executes at most as many instructions as the program has.
 ///
-/// A load of which an octet is outside the packet, and a division or remainder by an index
-/// register of 0, end the run with the value 0.
-// Were it inlined, it would share the registers with its caller, and each instruction would cost more.
+/// A load with an octet outside the packet, and a division or remainder by an index register of 0, end the run with the value 0.
+// Not inlined: registers shared with the caller would make each instruction slower.
 #[inline(never)]
 pub fn judge(program: &Checked, packet: &Packet<'_>) -> Verdict
     ensures gives { Gives program.now packet.now result.value result.steps }
@@ -33,8 +32,7 @@ pub fn judge(program: &Checked, packet: &Packet<'_>) -> Verdict
     let insns = program.insns();
     let mut machine = Machine::new();
     let mut place = 0;
-    // The instructions before this place that jumps went over. The others were executed, so that
-    // only jumps have to count.
+    // How many of the instructions before this one were jumped over. All others were executed, so that only jumps have to count.
     let mut skipped = 0;
     'run: loop {
         match execute(&insns[place], &mut machine, packet) {

@@ -1,4 +1,4 @@
-//! The machine, and what one instruction does to it.
+//! The state of the machine, and the execution of one instruction.
 
 ghost use Rattle.std.specs.Prelude.{◌≡◌, ◌<◌, ◌≤◌, ◌+◌, ◌^◌, ◌↔◌, length, Some, IsSome, IfSome, IfNone, slice_get, if◌then◌else◌};
 ghost use Rattle.bpf_run.specs.Machine.{loaded, computed, compare, row, effect};
@@ -9,7 +9,7 @@ use crate::packet::Packet;
 use bpf_check::insn::Insn;
 use bpf_check::operation::{Arithmetic, Comparison, Operand, Operation, Width, decode};
 
-/// The words that a program works on.
+/// The registers and the scratch memory.
 #[derive(Clone, Copy, Debug, PartialEq, Eq)]
 pub struct Machine {
     /// The accumulator.
@@ -20,15 +20,15 @@ pub struct Machine {
     pub scratch: [u32; 16],
 }
 
-/// What an instruction leads to. The definitions speak of it; the interpreter changes a machine in
-/// place and answers an `Outcome`.
+/// The effect of an instruction, as the definitions state it. The interpreter updates a machine in place and returns an
+/// [`Outcome`] instead.
 #[derive(Clone, Copy, Debug, PartialEq, Eq)]
 pub enum Step {
-    /// The next instruction, with this machine.
+    /// Continues with the next instruction and this machine.
     Next(Machine),
-    /// The instruction that is so many further, with the same machine.
+    /// Skips this many instructions; the machine stays as it is.
     Skip(u32),
-    /// The end, with this value.
+    /// Ends the run with this value.
     End(u32),
 }
 
@@ -45,19 +45,18 @@ impl Machine {
     }
 }
 
-/// Where an instruction leads, when the machine has been changed.
+/// How a run continues after an instruction that has updated the machine.
 #[derive(Clone, Copy, Debug, PartialEq, Eq)]
 pub enum Outcome {
-    /// The next instruction.
+    /// Continues with the next instruction.
     Next,
-    /// The instruction that is so many further.
+    /// Skips this many instructions.
     Skip(usize),
-    /// The end, with this value.
+    /// Ends the run with this value.
     End(u32),
 }
 
-/// Does one instruction. Its code has an operation, it does not divide by the constant 0, and its
-/// scratch word exists.
+/// Executes one instruction. Its code has to be known, its constant divisor must not be 0, and its scratch word has to exist.
 #[inline(always)]
 pub(crate) fn execute(insn: &Insn, machine: &mut Machine, packet: &Packet<'_>) -> Outcome
     requires { IsSome (effect insn.now packet.now machine.old) }
@@ -69,7 +68,7 @@ pub(crate) fn execute(insn: &Insn, machine: &mut Machine, packet: &Packet<'_>) -
     }
 }
 
-// Does an operation: a row for each.
+// Executes one operation. A table with one arm per operation.
 #[inline(always)]
 fn perform(operation: Operation, insn: &Insn, machine: &mut Machine, packet: &Packet<'_>) -> Outcome
     requires { IsSome (row operation insn.now packet.now machine.old) }
@@ -128,7 +127,7 @@ fn perform(operation: Operation, insn: &Insn, machine: &mut Machine, packet: &Pa
     Outcome::Next
 }
 
-// The two ways of a conditional jump.
+// The distance of a conditional jump, by whether its test holds.
 #[inline(always)]
 fn branch(insn: &Insn, holds: bool) -> Outcome
     ensures { result ≡ Outcome.Skip (if holds then insn.now.jt else insn.now.jf) }
@@ -140,7 +139,7 @@ fn branch(insn: &Insn, holds: bool) -> Outcome
     })
 }
 
-// The octets from a place as a number, if they are inside.
+// The value of the octets at a packet offset, in network order, or `None` if one of them is outside the packet.
 #[inline(always)]
 fn load(packet: &Packet<'_>, place: u64, width: Width) -> Option<u32>
     requires { place < 2 ^ 33 }
@@ -153,7 +152,7 @@ fn load(packet: &Packet<'_>, place: u64, width: Width) -> Option<u32>
     }
 }
 
-// The two words computed.
+// The result of an operation on two words. A divisor must not be 0.
 #[inline(always)]
 fn compute(arithmetic: Arithmetic, a: u32, b: u32) -> u32
     requires divide { arithmetic ≡ Arithmetic.Divide → 0 < b }
@@ -174,7 +173,7 @@ fn compute(arithmetic: Arithmetic, a: u32, b: u32) -> u32
     }
 }
 
-// Whether the comparison of the two words holds.
+// Whether a comparison of two words holds.
 #[inline(always)]
 fn holds(comparison: Comparison, a: u32, b: u32) -> bool
     ensures { result ≡ compare comparison a b }
@@ -187,7 +186,7 @@ fn holds(comparison: Comparison, a: u32, b: u32) -> bool
     }
 }
 
-// The same of A and X. Were it inlined, LLVM would compare the two before each instruction, whatever that is.
+// The same for A and X. Not inlined: otherwise LLVM compares the two registers before every instruction.
 #[inline(never)]
 fn holds_of_registers(comparison: Comparison, a: u32, x: u32) -> bool
     ensures { result ≡ compare comparison a x }

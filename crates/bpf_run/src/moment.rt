@@ -1,14 +1,13 @@
-//! A moment, in milliseconds.
+//! Points in time.
 
 ghost use Rattle.std.specs.Prelude.{◌≡◌, ◌/◌, ◌≤◌, ◌↔◌, max, IsSome, IfSome};
 
 use std::marker::Model;
 
-/// The last moment: the seconds of a moment fit 32 bits.
+/// The last moment, in milliseconds: its seconds just fit 32 bits.
 pub const LAST_MOMENT: u64 = 4_294_967_295_999;
 
-/// Milliseconds since a start that the caller chose, at most 4,294,967,295,999. Contracts see the
-/// number.
+/// A point in time, in milliseconds since a start that the caller chooses, at most 4,294,967,295,999. Contracts see the number.
 #[derive(Clone, Copy, Debug, PartialEq, Eq, PartialOrd, Ord)]
 pub struct Moment {
     millis: u64,
@@ -27,7 +26,7 @@ impl Model for Moment {
 }
 
 impl Moment {
-    /// The moment of so many milliseconds, unless it is past the last one.
+    /// The moment at `millis` milliseconds, or `None` if that is after the last one.
     pub fn new(millis: u64) -> Option<Moment>
         ensures exists { IsSome result ↔ (millis ≤ 4294967295999) }
         ensures value { IfSome result (λ moment. moment ≡ millis) }
@@ -39,7 +38,7 @@ impl Moment {
         }
     }
 
-    /// The moment in milliseconds.
+    /// The milliseconds since the start.
     pub fn millis(self) -> u64
         ensures value { result ≡ self }
         ensures within { result ≤ 4294967295999 }
@@ -47,7 +46,7 @@ impl Moment {
         self.millis
     }
 
-    /// The whole seconds.
+    /// The whole seconds since the start.
     pub fn seconds(self) -> u32
         ensures { result ≡ self / 1000 }
     {

@@ -1,4 +1,4 @@
-//! A datagram as a filter sees it.
+//! The packet that a filter sees of a datagram.
 
 ghost use Rattle.std.specs.Prelude.{◌≡◌, ◌<◌, ◌≤◌, ◌+◌, ◌↔◌, ◌^◌, length, Some, IsSome, IfSome, slice_get};
 ghost use Rattle.bpf_run.specs.Machine.{loaded};
@@ -8,19 +8,19 @@ use crate::ends::End;
 use bpf_check::operation::Width;
 use std::marker::Model;
 
-/// The most octets of a payload: what a UDP datagram over IPv4 can carry.
+/// Maximum payload in octets: what a UDP datagram over IPv4 can carry.
 pub const MOST_PAYLOAD: usize = 65_507;
 
-/// The octets of the header before a payload.
+/// Number of octets of the header before the payload.
 pub const HEADER: usize = 28;
 
-/// A filter packet: 28 header octets that are made up from the ends and the length, and the payload,
-/// which is borrowed. Contracts see the list of its octets.
+/// A packet for filters: 28 header octets, made from the endpoints and the length, followed by the borrowed payload.
+/// Contracts see the list of its octets.
 #[derive(Debug, Drop)]
 pub struct Packet<'a> {
     header: [u8; HEADER],
     payload: &'a [u8],
-    // How many places of the payload begin two octets of it, and four.
+    // The number of payload offsets at which two octets can be read, and four.
     halves: u64,
     words: u64,
 }
@@ -37,7 +37,7 @@ impl<'a> Model for Packet<'a> {
 }
 
 impl<'a> Packet<'a> {
-    /// The filter packet of a payload, unless that has more than 65,507 octets.
+    /// The packet of a datagram, or `None` if its payload has more than 65,507 octets.
     #[inline(always)]
     pub fn new(from: End, to: End, payload: &'a [u8]) -> Option<Packet<'a>>
         ensures exists { IsSome result ↔ (length payload.now ≤ most_payload) }
@@ -54,7 +54,7 @@ impl<'a> Packet<'a> {
         })
     }
 
-    /// How many octets there are, the header's among them.
+    /// The number of octets, including the header.
     #[inline(always)]
     pub(crate) fn len(&self) -> u32
         ensures { result ≡ length self.now }
@@ -62,7 +62,7 @@ impl<'a> Packet<'a> {
         (HEADER + self.payload.len()) as u32
     }
 
-    /// The octet at a place, if it is inside.
+    /// The octet at an offset, or `None` if it is outside the packet.
     #[inline(always)]
     pub(crate) fn octet(&self, place: u64) -> Option<u8>
         ensures { result ≡ slice_get self.now place }
@@ -77,7 +77,7 @@ impl<'a> Packet<'a> {
         None
     }
 
-    /// The two octets from a place as a number, if both are inside.
+    /// The value of two octets in network order, or `None` if one of them is outside the packet.
     #[inline(always)]
     pub(crate) fn half(&self, place: u64) -> Option<u32>
         requires { place < 2 ^ 34 }
@@ -93,7 +93,7 @@ impl<'a> Packet<'a> {
         self.split_half(place)
     }
 
-    /// The four octets from a place as a number, if all of them are inside.
+    /// The value of four octets in network order, or `None` if one of them is outside the packet.
     #[inline(always)]
     pub(crate) fn word(&self, place: u64) -> Option<u32>
         requires { place < 2 ^ 34 }
@@ -109,7 +109,7 @@ impl<'a> Packet<'a> {
         self.split_word(place)
     }
 
-    // Two octets that may lie on both sides of the header's end, or outside.
+    // The slow path of `half`: the octets may straddle the end of the header, or be outside the packet.
     #[inline(always)]
     fn split_half(&self, place: u64) -> Option<u32>
         requires { place < 2 ^ 35 }
@@ -121,7 +121,7 @@ impl<'a> Packet<'a> {
         Some(high as u32 * 256 + low as u32)
     }
 
-    // Four octets that may lie on both sides of the header's end, or outside.
+    // The slow path of `word`: the octets may straddle the end of the header, or be outside the packet.
     #[inline(always)]
     fn split_word(&self, place: u64) -> Option<u32>
         requires { place < 2 ^ 34 }
@@ -133,7 +133,7 @@ impl<'a> Packet<'a> {
     }
 }
 
-// A place as one of the payload. Where it is in the header, this is past each payload.
+// The payload offset of a packet offset. For an offset in the header it is larger than any payload.
 #[inline(always)]
 fn in_payload(place: u64) -> u64
     ensures header { place < header_octets → 2 ^ 40 < result }
@@ -142,7 +142,7 @@ fn in_payload(place: u64) -> u64
     place.wrapping_sub(HEADER as u64)
 }
 
-// The two octets from a place as a number.
+// The value of two octets in network order.
 #[inline(always)]
 fn half_at(octets: &[u8], at: usize) -> u32
     requires { at + 1 < length octets.now }
@@ -151,7 +151,7 @@ fn half_at(octets: &[u8], at: usize) -> u32
     octets[at] as u32 * 256 + octets[at + 1] as u32
 }
 
-// The four octets from a place as a number.
+// The value of four octets in network order.
 #[inline(always)]
 fn word_at(octets: &[u8], at: usize) -> u32
     requires { at + 3 < length octets.now }
@@ -160,7 +160,7 @@ fn word_at(octets: &[u8], at: usize) -> u32
     u32::from_be_bytes([octets[at], octets[at + 1], octets[at + 2], octets[at + 3]])
 }
 
-// The octets before a payload of so many octets.
+// The header of a payload of `payload` octets.
 #[inline(always)]
 fn header(from: End, to: End, payload: u16) -> [u8; HEADER]
     requires { payload ≤ most_payload }

@@ -1,4 +1,4 @@
-//! The command `check`: prints what program a file holds, or the line of its fault.
+//! The command `check`: prints the filter program in a file, or the line of its fault.
 
 use crate::NO_OUTPUT;
 use filter_text::{accepted_text, read_program, script_text};
@@ -7,12 +7,13 @@ use std::fs::File;
 use std::io::Read;
 use std::process::ExitCode;
 
-/// The most octets of a file with a program.
+/// Maximum size of a program file in octets.
 const MOST_OCTETS: u64 = 16 * 1024 * 1024;
 
-/// Prints what program a file holds on standard output, and as a script has it on standard error; or the line of its fault.
+/// Prints the program in a file on standard output, and in the form of a script on standard error. If the file is not a valid
+/// program, prints the line of the fault on standard output and fails.
 pub fn run_check(rt: &HostRuntime, file: &str) -> ExitCode {
-    let Some(octets) = octets_of(rt, file) else {
+    let Some(octets) = read_file(rt, file) else {
         return refuse(rt, "file fault");
     };
     let program = match read_program(rt.alloc(), octets.as_slice()) {
@@ -34,7 +35,7 @@ pub fn run_check(rt: &HostRuntime, file: &str) -> ExitCode {
     }
 }
 
-/// Prints a fault's line.
+/// Prints the line of a fault; the exit status is failure.
 fn refuse<T: Display + Drop>(rt: &HostRuntime, fault: T) -> ExitCode {
     if println!(rt; "{fault}").is_err() {
         let _ = eprintln!(rt; "{NO_OUTPUT}");
@@ -42,8 +43,8 @@ fn refuse<T: Display + Drop>(rt: &HostRuntime, fault: T) -> ExitCode {
     ExitCode::FAILURE
 }
 
-/// The octets of a file, where it can be read and holds at most 16 MiB.
-fn octets_of(rt: &HostRuntime, file: &str) -> Option<Vec<u8>> {
+/// The contents of a file; `None` if it cannot be read or is larger than 16 MiB.
+fn read_file(rt: &HostRuntime, file: &str) -> Option<Vec<u8>> {
     let file = File::open(rt, file).ok()?;
     let mut octets = Vec::new(rt.alloc());
     let mut front = file.take(MOST_OCTETS + 1);

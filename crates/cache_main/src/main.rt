@@ -1,9 +1,15 @@
-//! The program `cache_main`: its commands, and the lines and exit statuses by which they end.
+//! The program `cache_main`, with three commands: `feed` runs a script from standard input, `check` reads a filter program from a
+//! file, `serve` runs the proxy from a configuration file.
+//!
+//! This crate parses the arguments, calls the crates below it, and turns their results into lines and exit statuses. It has no
+//! functional contract of its own; `run_serve` only requires a ledger for seven threads, those that submit events to the node.
+//! Tested by: its run by `rt ci` (args, stdin, stdout), cases/, tests/.
 #![tactic(auto)]
 
 mod check_command;
 mod serve_command;
 
+use cache_serve::SEATS;
 use check_command::run_check;
 use feed_script::feed;
 use serve_command::{run_serve, settings_of};
@@ -13,16 +19,16 @@ use std::process::ExitCode;
 use std::sync::ledger::Blank;
 use std::{env, io};
 
-/// What is told where standard output can't be written.
+/// The message when standard output cannot be written.
 pub const NO_OUTPUT: &str = "standard output can't be written";
 
-/// What the program can be asked to do.
+/// A command of the program.
 enum Command<'a> {
-    /// Answer the script on standard input.
+    /// Run the script on standard input.
     Feed,
-    /// Say what program a file holds.
+    /// Print the filter program in this file.
     Check(&'a str),
-    /// Run a proxy by a configuration file.
+    /// Run the proxy with this configuration file.
     Serve(&'a str),
 }
 
@@ -37,7 +43,7 @@ fn main(rt: HostRuntime) -> ExitCode {
             let Some(settings) = settings_of(&rt, file) else {
                 return ExitCode::FAILURE;
             };
-            if run_serve::<Brand, _>(rt, Blank::new(7), settings) {
+            if run_serve::<Brand, _>(rt, Blank::new(SEATS), settings) {
                 ExitCode::SUCCESS
             } else {
                 ExitCode::FAILURE
@@ -52,7 +58,7 @@ fn tell_usage(rt: &HostRuntime) -> ExitCode {
     ExitCode::from(2)
 }
 
-/// Where the arguments can't be read, since one is no UTF-8: a file of such a name can't be opened here.
+/// Handles arguments that are not UTF-8. A file with such a name cannot be opened, so `check` reports a file fault.
 fn refuse_words(rt: &HostRuntime) -> ExitCode {
     let mut word = [0; 5];
     if !matches!(rt.arg(1, &mut word), Ok(5)) || word != *b"check" {
@@ -64,12 +70,12 @@ fn refuse_words(rt: &HostRuntime) -> ExitCode {
     ExitCode::FAILURE
 }
 
-/// The program's arguments, its own name first.
+/// The arguments of the program, starting with its name.
 fn words_of(rt: &HostRuntime) -> io::Result<Vec<String>> {
     Ok(env::args(rt)?.collect(rt.alloc())?)
 }
 
-/// The command that the arguments name, if they name one.
+/// Parses the arguments; `None` if they are no command.
 fn command_of(words: &[String]) -> Option<Command<'_>> {
     match words {
         [_, word] if word.as_str() == "feed" => Some(Command::Feed),
@@ -79,7 +85,7 @@ fn command_of(words: &[String]) -> Option<Command<'_>> {
     }
 }
 
-/// Runs the script engine from standard input to standard output. A fault is one line on standard error.
+/// Runs the script on standard input and writes its output to standard output. A fault is one line on standard error.
 fn run_feed(rt: &HostRuntime) -> ExitCode {
     let mut input = rt.reader();
     let mut output = io::writer(rt);

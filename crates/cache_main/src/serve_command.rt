@@ -1,7 +1,7 @@
-//! The command `serve`: a proxy, until it has given its last answer.
+//! The command `serve`: runs the proxy until it has given its last answer.
 ghost use Rattle.std.specs.Prelude.{◌≡◌};
 
-use cache_serve::{Limits, Port, ServeFault, start};
+use cache_serve::{Port, ProxyLimits, SEATS, ServeFault, start};
 use serve_config::Settings;
 use std::alloc::AllocGlobal;
 use std::fs;
@@ -14,7 +14,7 @@ use std::sync::ledger::{Blank, Ledger};
 use std::thread::Threads;
 use std::time::Clock;
 
-/// The settings in a configuration file. None after the line of a fault on standard error.
+/// Reads the settings from a configuration file. On a fault prints its line on standard error and returns `None`.
 pub fn settings_of<R: Files + AllocGlobal + Eprint>(rt: &R, file: &str) -> Option<Settings> {
     let Ok(text) = fs::read(rt, file) else {
         let _ = eprintln!(rt; "file fault");
@@ -29,8 +29,8 @@ pub fn settings_of<R: Files + AllocGlobal + Eprint>(rt: &R, file: &str) -> Optio
     }
 }
 
-/// Runs a proxy until it has given its last answer. Prints `ready` once all its sockets are bound, and the line of a fault on
-/// standard error. The answer is whether all went well.
+/// Runs the proxy until it has given its last answer. Prints `ready` on standard output once all sockets are bound, and the line
+/// of a fault on standard error. Returns whether there was no fault.
 pub fn run_serve<L, R>(rt: R, blank: Blank, settings: Settings) -> bool
 where
     L: Ledger + Send + Sync + 'static,
@@ -49,9 +49,9 @@ where
     R::Listener: Send + 'static,
     requires name { blank.name ≡ L.name }
     requires parts { blank.parts ≡ L.parts }
-    requires seven { blank.parts ≡ 7 }
+    requires seats { blank.parts ≡ SEATS }
 {
-    match start::<L, R>(rt, blank, settings, Limits::usual()) {
+    match start::<L, R>(rt, blank, settings, ProxyLimits::usual()) {
         Ok(site) => {
             let _ = println!(rt; "ready");
             match site.finish(rt) {
@@ -63,7 +63,7 @@ where
     }
 }
 
-/// Why no proxy runs by a configuration.
+/// Prints why the proxy did not start. Returns `false`.
 fn tell_start<R: Eprint>(rt: &R, fault: ServeFault) -> bool {
     let _ = match fault {
         ServeFault::Node(fault) => eprintln!(rt; "config fault 3\n{fault}"),
@@ -79,7 +79,7 @@ fn tell_start<R: Eprint>(rt: &R, fault: ServeFault) -> bool {
     false
 }
 
-/// How a proxy ended that ran.
+/// Prints why a running proxy stopped. Returns `false`.
 fn tell_end<R: Eprint>(rt: &R, fault: ServeFault) -> bool {
     let number = match fault {
         ServeFault::Settle => 2,
@@ -90,7 +90,7 @@ fn tell_end<R: Eprint>(rt: &R, fault: ServeFault) -> bool {
     false
 }
 
-/// The key of a port in the configuration.
+/// The configuration key of a port.
 fn key_of(port: Port) -> &'static str {
     match port {
         Port::Icp => "icp_port",

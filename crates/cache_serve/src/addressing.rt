@@ -1,8 +1,8 @@
-//! Where a fetch goes, and what it asks for there.
+//! Destinations of fetches: origin servers and neighbours.
 use filter_slots::End;
 use std::alloc::Global;
 
-/// Where a fetch goes: the server's name or address in digits, its port, the value of Host, and the target of the request.
+/// The destination of a fetch: the server's host name or IPv4 address, its port, the value of Host, and the request target.
 #[derive(Drop)]
 pub struct Destination {
     pub name: String,
@@ -11,14 +11,14 @@ pub struct Destination {
     pub target: String,
 }
 
-/// A neighbour as fetches see it: where it is asked, and the port that it serves HTTP at.
+/// A neighbour as fetches see it: its address and query port, and the port of its HTTP server.
 #[derive(Clone, Copy)]
 pub struct Peer {
     pub end: End,
     pub http_port: u16,
 }
 
-/// The parts of a URL that begins `http://`: its host with the port where there is one, and its path with the query.
+/// The parts of an `http://` URL: the host with the port if it gives one, and the path with the query.
 #[derive(Clone, Copy)]
 struct Parts<'a> {
     authority: &'a str,
@@ -39,7 +39,7 @@ fn parts_of(key: &[u8]) -> Option<Parts<'_>> {
     }
 }
 
-/// The host and port of an authority; 80 where it has none.
+/// The host and port of an authority. The port is 80 if none is given; returns `None` if it is not a number of 16 bits.
 fn host_and_port(authority: &str) -> Option<(&str, u16)> {
     match authority.rfind(':') {
         Some(place) if !authority.ends_with(']') => {
@@ -50,7 +50,7 @@ fn host_and_port(authority: &str) -> Option<(&str, u16)> {
     }
 }
 
-/// The origin of a URL. None where it names no port, or there is no memory.
+/// The origin server of a URL. Returns `None` if the URL is not an `http://` one, if its port is invalid, or if out of memory.
 pub fn origin_of(alloc: Global, key: &[u8]) -> Option<Destination> {
     let parts = parts_of(key)?;
     let (name, port) = host_and_port(parts.authority)?;
@@ -62,7 +62,8 @@ pub fn origin_of(alloc: Global, key: &[u8]) -> Option<Destination> {
     })
 }
 
-/// A neighbour that is asked for a URL. None where there is no memory.
+/// A neighbour as the destination of a fetch; the request target is the whole URL. Returns `None` if `key` is not an `http://`
+/// URL, or if out of memory.
 pub fn peer_of(alloc: Global, key: &[u8], peer: Peer) -> Option<Destination> {
     let parts = parts_of(key)?;
     let [a, b, c, d] = peer.end.addr;

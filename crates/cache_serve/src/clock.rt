@@ -1,9 +1,9 @@
-//! The clock of the system, as the node's events have it.
+//! The system clock, in the unit of the node's events.
 use filter_slots::Moment;
 use std::time::{Clock, SystemTime};
 
-/// The milliseconds since 1970. Where the clock can't be read, or is out of the range of a moment, the moment is 0, which moves no
-/// node's clock.
+/// Milliseconds since 1970-01-01 UTC. Returns 0 if the clock cannot be read or its value is out of range; an event at 0 leaves
+/// the node's clock as it is.
 pub fn now<R: Clock>(rt: &R) -> Moment {
     match read(rt) {
         Some(now) => now,

@@ -1,7 +1,7 @@
-//! Why a proxy does not start, or how it ends badly.
+//! Errors of starting and of running a proxy.
 use node_core::NodeFault;
 
-/// A port of the configuration.
+/// A port that the configuration sets.
 #[derive(Clone, Copy, Debug, PartialEq, Eq)]
 pub enum Port {
     /// `icp_port`.
@@ -14,18 +14,18 @@ pub enum Port {
     Administration,
 }
 
-/// Why a proxy does not start, or how it ends badly.
+/// Why a proxy did not start, or why it ended.
 #[derive(Clone, Copy, Debug, PartialEq, Eq)]
 pub enum ServeFault {
-    /// No node is made of the configuration.
+    /// The node refuses the configuration.
     Node(NodeFault),
-    /// The volume of the book is out of its range.
+    /// The size of a volume of the event log is out of range.
     Volume,
-    /// A socket can't be bound.
+    /// A socket cannot be bound, or its server failed.
     Bind(Port),
-    /// There was no memory in a thread.
+    /// Out of memory in some thread.
     NoMemory,
-    /// The receipts of the seats don't agree with the book.
+    /// The receipts of the seats do not agree with the event log.
     Settle,
     /// A query socket failed.
     QuerySocket,

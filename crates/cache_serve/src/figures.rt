@@ -1,4 +1,4 @@
-//! What is counted and known, as JSON. Each text ends with LF, and is None where there is no memory.
+//! Counters and neighbours as JSON. Each public function returns one line that ends in LF, or `None` if out of memory.
 use filter_slots::{End, Socket};
 use node_book::NeighbourView;
 use node_core::{Counters, Stats};
@@ -23,7 +23,7 @@ fn counters_text(alloc: Global, counters: Counters) -> Option<String> {
     ).ok()
 }
 
-/// What is known of each neighbour: a list with an object for each.
+/// The state of each neighbour: an array with one object per neighbour.
 pub fn neighbours_text(alloc: Global, views: &[NeighbourView]) -> Option<String> {
     let mut list = String::new(alloc);
     for view in views {
@@ -64,7 +64,7 @@ fn truth_text(truth: bool) -> &'static str {
     if truth { "true" } else { "false" }
 }
 
-// A smoothed time, of which an eighth is milliseconds; `null` for none.
+// A smoothed round-trip time, given in eighths of a millisecond, as decimal milliseconds; `null` for `None`.
 fn time_text(alloc: Global, time: Option<u32>) -> Option<String> {
     let Some(time) = time else {
         return format!(in alloc; "null").ok();

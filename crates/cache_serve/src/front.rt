@@ -1,13 +1,13 @@
-//! Requests of clients.
+//! Client requests on their way to the node.
 use crate::clock::now;
-use crate::house::House;
 use crate::mailbox::{Field, Waiting};
-use crate::teller::Teller;
+use crate::node_handle::NodeHandle;
+use crate::proxy_state::ProxyState;
 use crossbeam_channel::Sender;
 use futures::channel::oneshot;
 use http_rules::{TargetFault, classify, end_to_end, key_of};
 use hyper_cache::Asked;
-use hyper_cache::serving::{Answer, Asking, Forward, Front};
+use hyper_cache::serving::{Asking, Forward, Front, Outcome};
 use node_core::{Event, Mode, Network};
 use object_store::CacheKey;
 use std::alloc::{AllocError, Global};
@@ -16,35 +16,33 @@ use std::sync::ledger::Ledger;
 use std::sync::{Arc, Mutex, Wait};
 use std::time::Clock;
 
-/// Hands clients' requests to the node, and counts their answers.
+/// Submits client requests to the node and counts the answers. Owned by the client thread.
 #[derive(Drop)]
-pub struct Counter<R, L: Ledger> {
+pub struct NodeFront<R, L: Ledger> {
     pub rt: R,
     pub alloc: Global,
-    /// What all threads share.
-    pub house: Arc<House<L>>,
-    /// The seat of the thread, which takes it back at the end.
-    pub teller: Arc<Mutex<Teller<R, L>>>,
-    /// The networks whose clients may come in.
+    /// State shared by all threads.
+    pub proxy: Arc<ProxyState<L>>,
+    /// The thread's handle to the node. Only this thread locks it; a second owner takes the seat back after the server ends.
+    pub node: Arc<Mutex<NodeHandle<R, L>>>,
+    /// Networks whose clients are admitted.
     pub allowed: Vec<Network>,
-    /// The number of the last client.
+    /// The number of the last client; the first one is 1.
     pub last: u64,
-    /// How many more answers there are to be; 0 where there is no end.
+    /// Answers to give before the proxy stops; 0 means no limit.
     pub left: u64,
-    /// Told when the last answer was given.
+    /// Receives a message when the last answer has been given.
     pub stop: Sender<(), Global>,
 }
 
-/// A request as the node takes it, and the fields that a fetch for it alone passes on.
+/// A request as the node takes it, and the fields that a private fetch forwards.
 struct Request {
     key: CacheKey,
-    mode: Mode,
     fields: Vec<Field>,
 }
 
-/// What a request asks for, or the status that refuses it.
-fn request_of(alloc: Global, asked: &Asked) -> Result<Request, u16> {
-    let mode = classify(asked.method.as_str(), &asked.head)?;
+/// The node's view of a request in this mode. Errors: the HTTP status to answer.
+fn request_of(alloc: Global, asked: &Asked, mode: Mode) -> Result<Request, u16> {
     let key = match key_of(alloc, asked.target.as_str()) {
         Ok(key) => key,
         Err(TargetFault::NotHttp) => return Err(400),
@@ -55,11 +53,11 @@ fn request_of(alloc: Global, asked: &Asked) -> Result<Request, u16> {
         Mode::Private => passed_on(alloc, asked).map_err(|_| 503u16)?,
         Mode::Shared | Mode::Cached => Vec::new(alloc),
     };
-    Ok(Request { key, mode, fields })
+    Ok(Request { key, fields })
 }
 
-/// The fields of a request that a fetch for it alone passes on: all but those of one connection, Host, and what speaks of a content
-/// that is not sent on.
+/// The fields of a request that a private fetch forwards: the end-to-end fields without Host, Expect and those that describe the
+/// content, which is not forwarded.
 fn passed_on(alloc: Global, asked: &Asked) -> Result<Vec<Field>, AllocError> {
     let mut fields = Vec::new(alloc);
     for (name, value) in end_to_end(alloc, &asked.head)? {
@@ -74,7 +72,8 @@ fn passed_on(alloc: Global, asked: &Asked) -> Result<Vec<Field>, AllocError> {
     Ok(fields)
 }
 
-/// How a request goes on that had so many actions and is no hit.
+/// How a request that is not a hit is forwarded, by its mode and the number of actions it caused: a shared request without an
+/// action joined a pending fetch.
 fn forward_of(mode: Mode, actions: usize) -> Forward {
     match mode {
         Mode::Private => Forward::Bypass,
@@ -83,42 +82,36 @@ fn forward_of(mode: Mode, actions: usize) -> Forward {
     }
 }
 
-impl<R: Wait + Clock + Drop, L: Ledger> Counter<R, L> {
-    /// Has a client wait for an answer.
+impl<R: Wait + Clock + Drop, L: Ledger> NodeFront<R, L> {
+    /// Registers a client as waiting. Returns the receiver of its answer.
     fn expect(
         &self,
         client: u64,
         fields: Vec<Field>,
-    ) -> Result<oneshot::Receiver<Answer>, AllocError> {
+    ) -> Result<oneshot::Receiver<Outcome>, AllocError> {
         let (reply, answer) = oneshot::channel(self.alloc)?;
         let waiting = Waiting {
             reply,
             fields,
             fetch: None,
         };
-        self.house.mailbox.lock(&self.rt).add(client, waiting)?;
+        self.proxy.mailbox.lock(&self.rt).add(client, waiting)?;
         Ok(answer)
     }
 
-    /// Has nobody wait for this client's answer any more.
+    /// Removes a client and cancels its private fetch.
     fn forget(&self, client: u64) {
-        self.house.mailbox.lock(&self.rt).remove(client);
+        self.proxy.mailbox.lock(&self.rt).remove(client);
     }
 
-    /// Hands an event in. Says how many actions it had.
+    /// Submits an event. Returns the number of its actions, or `None` if it was refused.
     fn take(&self, event: Event) -> Option<usize> {
-        self.teller.lock(&self.rt).take(event).ok()
-    }
-}
-
-impl<R: Wait + Clock + Drop, L: Ledger> Front for Counter<R, L> {
-    fn allows(&mut self, address: Ipv4Addr) -> bool {
-        let octets = address.octets();
-        self.allowed.iter().any(|network| network.contains(octets))
+        self.node.lock(&self.rt).take(event).ok()
     }
 
-    fn ask(&mut self, asked: Asked) -> Result<Asking, u16> {
-        let Request { key, mode, fields } = request_of(self.alloc, &asked)?;
+    /// Submits a request in this mode, as a new client. Errors: the HTTP status to answer.
+    fn request(&mut self, asked: &Asked, mode: Mode) -> Result<Asking, u16> {
+        let Request { key, fields } = request_of(self.alloc, asked, mode)?;
         self.last = self.last.saturating_add(1);
         let client = self.last;
         let Ok(answer) = self.expect(client, fields) else {
@@ -139,6 +132,22 @@ impl<R: Wait + Clock + Drop, L: Ledger> Front for Counter<R, L> {
             forward: forward_of(mode, actions),
             answer,
         })
+    }
+}
+
+impl<R: Wait + Clock + Drop, L: Ledger> Front for NodeFront<R, L> {
+    fn allows(&mut self, address: Ipv4Addr) -> bool {
+        let octets = address.octets();
+        self.allowed.iter().any(|network| network.contains(octets))
+    }
+
+    fn ask(&mut self, asked: &Asked) -> Result<Asking, u16> {
+        let mode = classify(asked.method.as_str(), &asked.head)?;
+        self.request(asked, mode)
+    }
+
+    fn ask_alone(&mut self, asked: &Asked) -> Result<Asking, u16> {
+        self.request(asked, Mode::Private)
     }
 
     fn gone(&mut self, client: u64) {

@@ -1,8 +1,12 @@
-//! A running proxy: seven threads on one node, each with a seat at its desk.
+//! The threads of a running proxy. One thread owns both UDP query sockets, one serves clients, one serves administration and four
+//! fetch; each of these seven submits events to the one node, which is behind a lock, through a seat of its own. Four more
+//! threads look up host names. Actions for another thread go through channels: datagrams to the query thread, fetches to a fetch
+//! thread, answers to the client thread.
 //!
-//! One thread has the two query sockets, one serves clients, one administration, and four fetch. What one thread's event asks of
-//! another goes by channels: datagrams of a client's request to the query thread, fetches to the fetch threads, answers to the
-//! thread that serves the client.
+//! The contracts see almost nothing of this: `start` requires a ledger with one part per seat, and what is proved of the node
+//! holds by the contracts of the crates below.
+//!
+//! Tested by: tests/serve, tests/serve_slow and tests/serve_hostile, which run the built program over loopback.
 #![tactic(auto)]
 
 mod addressing;
@@ -10,17 +14,17 @@ mod clock;
 mod fault;
 mod figures;
 mod front;
-mod house;
 mod limits;
 mod mailbox;
+mod node_handle;
 mod objects;
 mod panel;
+mod proxy_state;
 mod queries;
 mod results;
 mod site;
 mod tasks;
-mod teller;
 
 pub use fault::{Port, ServeFault};
-pub use limits::Limits;
+pub use limits::{ProxyLimits, SEATS};
 pub use site::{Addresses, Site, start};

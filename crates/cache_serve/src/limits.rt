@@ -1,33 +1,74 @@
-//! The times and numbers of a proxy that its configuration doesn't set.
+//! Times and numbers of the proxy's threads and servers that the configuration does not set.
+use client_streams::StreamTimeouts;
+use hyper_cache::ServeLimits;
 use std::time::Duration;
 
-/// Times and numbers that are the same in each proxy but those of tests.
+/// Threads that fetch.
+pub const FETCHERS: usize = 4;
+
+/// Threads that look up names.
+pub const LOOK_UPS: usize = 4;
+
+/// Threads that have a seat at the node: those that fetch, and one each for queries, clients and administration.
+pub const SEATS: u64 = FETCHERS as u64 + 3;
+
+/// All threads.
+pub const THREADS: usize = SEATS as usize + LOOK_UPS;
+
+/// The capacity of the channel that asks the proxy to end. Each thread sends at most two such messages, so that sending never
+/// waits and never allocates.
+pub const ENDS: usize = 2 * THREADS;
+
+/// Consecutive allocation failures that the query thread tolerates, and retries of a fetch thread whose result was refused.
+pub const RETRIES: u32 = 1_000;
+
+/// The pause between two retries, in milliseconds.
+pub const RETRY_MILLIS: u64 = 10;
+
+/// The most octets of the content of a client's request.
+const CLIENT_CONTENT: usize = 65_536;
+
+/// The most octets of the content of an administrator's request.
+const ADMINISTRATION_CONTENT: usize = 262_144;
+
+/// Limits on the sockets and fetches of a proxy.
 #[derive(Clone, Copy)]
-pub struct Limits {
-    /// For how long a client may say nothing between two requests, and take nothing of its answer.
-    pub idle: Duration,
-    /// For a head to come whole, and between two pieces of a request's content.
-    pub head: Duration,
-    /// The most connections of clients at a time.
-    pub connections: usize,
-    /// For a connection to a server to be made.
+pub struct ProxyLimits {
+    /// Of the server for clients.
+    pub clients: ServeLimits,
+    /// Of the server for administration.
+    pub administration: ServeLimits,
+    /// Time to connect to a server.
     pub connecting: Duration,
-    /// For a whole fetch, from the moment that it is asked for.
+    /// Time for a whole fetch, from the moment that it is ordered.
     pub fetching: Duration,
-    /// For open connections to end once the proxy is told to stop.
-    pub grace: Duration,
 }
 
-impl Limits {
-    /// 60 s, 30 s, 4,096, 5 s, 30 s, 5 s.
-    pub fn usual() -> Limits {
-        Limits {
-            idle: Duration::from_secs(60),
-            head: Duration::from_secs(30),
-            connections: 4096,
+impl ProxyLimits {
+    /// The limits of the program: 4,096 connections of clients and 64 of administrators, 5 s to connect and 30 s to fetch.
+    pub fn usual() -> ProxyLimits {
+        ProxyLimits {
+            clients: serve_limits(4_096, CLIENT_CONTENT),
+            administration: serve_limits(64, ADMINISTRATION_CONTENT),
             connecting: Duration::from_secs(5),
             fetching: Duration::from_secs(30),
-            grace: Duration::from_secs(5),
         }
+    }
+}
+
+/// What both servers have in common: 60 s for an idle connection and for a client that does not read its answer, 30 s for a head
+/// and between two pieces of content, 100 ms without an accept after one that failed, and 5 s for open connections to end.
+fn serve_limits(connections: usize, content: usize) -> ServeLimits {
+    ServeLimits {
+        still: StreamTimeouts {
+            idle: Duration::from_secs(60),
+            head: Duration::from_secs(30),
+            content: Duration::from_secs(30),
+            taking: Duration::from_secs(60),
+        },
+        connections,
+        rest: Duration::from_millis(100),
+        grace: Duration::from_secs(5),
+        content,
     }
 }

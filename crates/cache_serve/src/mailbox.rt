@@ -1,34 +1,34 @@
-//! Clients that wait for an answer, and fetches that are under way.
+//! Waiting clients and in-flight fetches.
 use futures::channel::oneshot;
-use hyper_cache::serving::Answer;
+use hyper_cache::serving::Outcome;
 use node_core::Mode;
 use std::alloc::{AllocError, Global};
 use std::collections::BTreeMap;
 
-/// A field of a head: its name in lower case, and its value.
+/// A header field: its name in lower case, and its value.
 pub type Field = (Vec<u8>, Vec<u8>);
 
-/// A client that waits.
+/// A waiting client.
 #[derive(Drop)]
 pub struct Waiting {
-    /// Takes the client's answer.
-    pub reply: oneshot::Sender<Answer>,
-    /// The fields of its request that a fetch of its own passes on; none where others may join its fetch.
+    /// Sends the client its answer.
+    pub reply: oneshot::Sender<Outcome>,
+    /// The request fields that a private fetch forwards; empty if other clients may join the fetch.
     pub fields: Vec<Field>,
-    /// The fetch that is for this client alone, once there is one.
+    /// The client's private fetch, once it has started.
     pub fetch: Option<u32>,
 }
 
-/// A fetch that is under way.
+/// An in-flight fetch.
 #[derive(Drop)]
 struct Fetching {
-    /// For whom it is made.
+    /// Private, or shared between clients.
     mode: Mode,
-    /// Ends the fetch when it is dropped.
+    /// Cancels the fetch when dropped.
     _wanted: oneshot::Sender<()>,
 }
 
-/// Who waits for what.
+/// Waiting clients by client number, and in-flight fetches by fetch number.
 #[derive(Drop)]
 pub struct Mailbox {
     clients: BTreeMap<u64, Waiting>,
@@ -36,7 +36,7 @@ pub struct Mailbox {
 }
 
 impl Mailbox {
-    /// Nobody waits.
+    /// No clients and no fetches.
     pub fn new(alloc: Global) -> Mailbox {
         Mailbox {
             clients: BTreeMap::new(alloc),
@@ -44,7 +44,7 @@ impl Mailbox {
         }
     }
 
-    /// One more client waits. An error says that there is no memory.
+    /// Adds a waiting client. Errors: out of memory.
     pub fn add(&mut self, client: u64, waiting: Waiting) -> Result<(), AllocError> {
         match self.clients.insert(client, waiting) {
             Ok(_) => Ok(()),
@@ -52,7 +52,7 @@ impl Mailbox {
         }
     }
 
-    /// The client waits no more, and a fetch that was for it alone ends.
+    /// Removes a client and cancels its private fetch.
     pub fn remove(&mut self, client: u64) {
         if let Some(waiting) = self.clients.remove(&client)
             && let Some(fetch) = waiting.fetch
@@ -61,14 +61,15 @@ impl Mailbox {
         }
     }
 
-    /// Answers a client, if it waits.
-    pub fn answer(&mut self, client: u64, answer: Answer) {
+    /// Answers a client, if it is still waiting, and removes it.
+    pub fn answer(&mut self, client: u64, answer: Outcome) {
         if let Some(waiting) = self.clients.remove(&client) {
             let _ = waiting.reply.send(answer);
         }
     }
 
-    /// A copy of the fields that the fetch of this client passes on, which is its fetch from now on. None where it waits no more.
+    /// Records `fetch` as the client's private fetch. Returns a copy of the fields to forward, or `None` if the client no longer
+    /// waits. Errors: out of memory.
     pub fn fields_for(
         &mut self,
         alloc: Global,
@@ -86,7 +87,8 @@ impl Mailbox {
         Ok(Some(fields))
     }
 
-    /// A fetch is under way: dropping `wanted` ends it, and so does the next attempt.
+    /// Adds an in-flight fetch, which is cancelled when `wanted` is dropped. It replaces, and so cancels, an earlier attempt of
+    /// the same fetch. Errors: out of memory.
     pub fn begin(
         &mut self,
         fetch: u32,
@@ -103,7 +105,7 @@ impl Mailbox {
         }
     }
 
-    /// An attempt of the fetch has ended. Says for whom it was made; a fetch that is not under way is of nobody's use.
+    /// Removes a fetch whose attempt has ended. Returns its mode, or `Private` if it is not in flight, so that nothing is stored.
     pub fn end(&mut self, fetch: u32) -> Mode {
         match self.fetches.remove(&fetch) {
             Some(fetching) => fetching.mode,
@@ -111,7 +113,7 @@ impl Mailbox {
         }
     }
 
-    /// Ends all fetches, and lets all clients go without an answer.
+    /// Cancels all fetches and drops all clients without an answer.
     pub fn clear(&mut self) {
         self.fetches.clear();
         self.clients.clear();

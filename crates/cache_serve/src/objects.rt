@@ -1,14 +1,13 @@
-//! What a fetched answer becomes.
+//! Turns a fetched response into an object.
 use crate::mailbox::Field;
 use http_rules::{age_of, end_to_end, may_store};
 use hyper_cache::fetching::Page;
 use node_core::Mode;
 use object_store::{Object, SharedObject};
 use std::alloc::{AllocError, Global};
-use std::time::SystemTime;
 
-/// The object of an answer that was received: its fields that are passed on, with ours in Via and a Date where it had none
-/// (RFC 9110, 6.6.1), its Age, and for how long it may be stored. An error says that there is no memory.
+/// The object of a received response: its end-to-end fields with our Via added, and a Date if it had none (RFC 9110, 6.6.1), its
+/// Age, and its freshness lifetime in seconds, 0 if it must not be stored. Errors: out of memory.
 pub fn object_of(
     alloc: Global,
     name: &[u8],
@@ -30,7 +29,7 @@ pub fn object_of(
     SharedObject::new(alloc, Object::new(status, fields, body, age, life))
 }
 
-/// The field Via (RFC 9110, 7.6.3) of a cache of this name.
+/// The Via field (RFC 9110, 7.6.3) of a cache of this name.
 pub fn via(alloc: Global, name: &[u8]) -> Result<Field, AllocError> {
     let mut value = b"1.1 ".to_vec(alloc)?;
     value.extend_from_slice(name)?;

@@ -1,38 +1,47 @@
-//! What an administrator may do.
+//! Administration of the node: filters and counters.
 use crate::figures::{neighbours_text, stats_text};
-use crate::teller::Teller;
+use crate::node_handle::NodeHandle;
 use bpf_asm::to_text;
 use bpf_check::Checked;
 use filter_slots::Slot;
 use filter_text::{ProgramFault, read_program};
+use http_rules::is_administrator;
+use hyper_cache::Asked;
 use hyper_cache::administration::{Panel, PutFault};
 use node_core::Event;
 use std::alloc::{AllocError, Global};
+use std::sync::atomic::Ordering;
 use std::sync::ledger::Ledger;
 use std::sync::{Arc, Mutex, Wait};
 use std::time::Clock;
 
-/// Puts filters in and takes them out, and reads counters. It is the only one that does.
+/// Installs and removes filters, and reads counters. Owned by the administration thread, the only one that swaps filters.
 #[derive(Drop)]
-pub struct Switches<R, L: Ledger> {
+pub struct NodePanel<R, L: Ledger> {
     pub rt: R,
     pub alloc: Global,
-    /// Shared with the thread that ends the proxy, which takes the seat back.
-    pub teller: Arc<Mutex<Teller<R, L>>>,
+    /// The thread's handle to the node. Only this thread locks it; a second owner takes the seat back after the server ends.
+    pub node: Arc<Mutex<NodeHandle<R, L>>>,
 }
 
-impl<R: Wait + Clock + Drop, L: Ledger> Switches<R, L> {
+impl<R: Wait + Clock + Drop, L: Ledger> NodePanel<R, L> {
+    // The port that administration is served on.
+    fn port(&self) -> u16 {
+        let node = self.node.lock(&self.rt);
+        node.proxy().admin_port.load(Ordering::SeqCst)
+    }
+
     fn swap(&mut self, slot: Slot, program: Option<Arc<Checked>>) -> Result<(), AllocError> {
         let event = Event::Swap { slot, program };
-        match self.teller.lock(&self.rt).take(event) {
+        match self.node.lock(&self.rt).take(event) {
             Ok(_) => Ok(()),
             Err(_) => Err(AllocError),
         }
     }
 }
 
-/// A fault's line, or that there is no memory.
-fn refusal(alloc: Global, fault: ProgramFault) -> PutFault {
+/// A fault as one line of text, or out of memory.
+fn put_fault(alloc: Global, fault: ProgramFault) -> PutFault {
     if fault.is_want_of_memory() {
         return PutFault::NoMemory;
     }
@@ -42,17 +51,22 @@ fn refusal(alloc: Global, fault: ProgramFault) -> PutFault {
     }
 }
 
-impl<R: Wait + Clock + Drop, L: Ledger> Panel for Switches<R, L> {
+impl<R: Wait + Clock + Drop, L: Ledger> Panel for NodePanel<R, L> {
+    fn admits(&mut self, asked: &Asked) -> bool {
+        let port = self.port();
+        is_administrator(&asked.head, asked.target.as_bytes(), port)
+    }
+
     fn has(&mut self, slot: Slot) -> bool {
         match slot {
             Slot::Socket(_) => true,
-            Slot::Neighbour(n) => n < self.teller.lock(&self.rt).house().peers.len(),
+            Slot::Neighbour(n) => n < self.node.lock(&self.rt).proxy().peers.len(),
         }
     }
 
     fn put(&mut self, slot: Slot, text: &[u8]) -> Result<(), PutFault> {
         let alloc = self.alloc;
-        let program = read_program(alloc, text).map_err(|fault| refusal(alloc, fault))?;
+        let program = read_program(alloc, text).map_err(|fault| put_fault(alloc, fault))?;
         let Ok(program) = Arc::new(alloc, program) else {
             return Err(PutFault::NoMemory);
         };
@@ -66,7 +80,7 @@ impl<R: Wait + Clock + Drop, L: Ledger> Panel for Switches<R, L> {
 
     fn show(&mut self, slot: Slot) -> Result<Vec<u8>, AllocError> {
         let alloc = self.alloc;
-        let programs = self.teller.lock(&self.rt).house().desk.programs(&self.rt)?;
+        let programs = self.node.lock(&self.rt).proxy().desk.programs(&self.rt)?;
         match programs.installed(slot) {
             Some(program) => Ok(to_text(alloc, program)?.into_bytes()),
             None => b"none\n".to_vec(alloc),
@@ -74,7 +88,7 @@ impl<R: Wait + Clock + Drop, L: Ledger> Panel for Switches<R, L> {
     }
 
     fn stats(&mut self) -> Result<Vec<u8>, AllocError> {
-        let stats = self.teller.lock(&self.rt).house().desk.stats(&self.rt);
+        let stats = self.node.lock(&self.rt).proxy().desk.stats(&self.rt);
         match stats_text(self.alloc, stats) {
             Some(text) => Ok(text.into_bytes()),
             None => Err(AllocError),
@@ -84,9 +98,9 @@ impl<R: Wait + Clock + Drop, L: Ledger> Panel for Switches<R, L> {
     fn neighbours(&mut self) -> Result<Vec<u8>, AllocError> {
         let alloc = self.alloc;
         let views = self
-            .teller
+            .node
             .lock(&self.rt)
-            .house()
+            .proxy()
             .desk
             .neighbours(&self.rt, alloc)?;
         match neighbours_text(alloc, views.as_slice()) {

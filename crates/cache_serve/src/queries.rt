@@ -1,6 +1,7 @@
-//! The thread that has the query sockets.
+//! The thread that owns the query sockets.
 use crate::fault::ServeFault;
-use crate::teller::{Outgoing, Teller};
+use crate::limits::{RETRIES, RETRY_MILLIS};
+use crate::node_handle::{NodeHandle, Outgoing};
 use crossbeam_channel::Receiver;
 use mio_queries::{MioWire, PumpFault, Wire, pump_with};
 use node_core::Out;
@@ -12,15 +13,12 @@ use std::sync::ledger::Ledger;
 use std::thread;
 use std::time::{Clock, Duration};
 
-/// After how many wants of memory in a row the thread gives up, with a rest of 10 ms after each.
-const MOST_WANTS: u32 = 1_000;
-
-/// Carries datagrams in and out until the proxy stops.
+/// Receives and sends datagrams until `is_ended` is set. Errors: a socket failed, or too many consecutive allocation failures.
 pub fn carry<R, L>(
     rt: &R,
     alloc: Global,
     wire: &mut MioWire<R>,
-    teller: &mut Teller<R, L>,
+    node: &mut NodeHandle<R, L>,
     outgoing: &Receiver<Outgoing, Global>,
     is_ended: &AtomicBool,
 ) -> Result<(), ServeFault>
@@ -31,19 +29,19 @@ where
     let Ok(mut out) = Out::new(alloc) else {
         return Err(ServeFault::NoMemory);
     };
-    let mut wants = 0u32;
+    let mut failures = 0u32;
     for _ in rt.forever() {
         if is_ended.load(Ordering::SeqCst) {
             return Ok(());
         }
         send_all(rt, wire, outgoing);
-        teller.tell_failures();
+        node.report_failures();
         out.clear();
-        match pump_with(alloc, wire, teller, &mut out, 1) {
-            Ok(_) => wants = 0,
-            Err(PumpFault::NoMemory) if wants < MOST_WANTS => {
-                wants += 1;
-                thread::sleep(rt, Duration::from_millis(10));
+        match pump_with(alloc, wire, node, &mut out, 1) {
+            Ok(_) => failures = 0,
+            Err(PumpFault::NoMemory) if failures < RETRIES => {
+                failures += 1;
+                thread::sleep(rt, Duration::from_millis(RETRY_MILLIS));
             }
             Err(PumpFault::Receive) => return Err(ServeFault::QuerySocket),
             Err(_) => return Err(ServeFault::NoMemory),
@@ -52,7 +50,7 @@ where
     Ok(())
 }
 
-/// Sends what other threads have handed over, in order. What can't be sent is lost, as a datagram may be.
+/// Sends the datagrams that other threads have queued, in order. One that cannot be sent is dropped, as UDP may drop any.
 fn send_all<R: Wait, W: Wire>(rt: &R, wire: &mut W, outgoing: &Receiver<Outgoing, Global>) {
     for _ in 0..u64::MAX {
         let Ok(next) = outgoing.try_recv(rt) else {

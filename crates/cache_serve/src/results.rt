@@ -1,7 +1,8 @@
-//! What became of fetches.
+//! Results of fetches on their way to the node.
 use crate::clock::now;
+use crate::limits::{RETRIES, RETRY_MILLIS};
+use crate::node_handle::NodeHandle;
 use crate::objects::object_of;
-use crate::teller::Teller;
 use crossbeam_channel::Sender;
 use fetch_chain::Submit;
 use httpdate::HttpDate;
@@ -13,20 +14,15 @@ use std::sync::ledger::Ledger;
 use std::thread;
 use std::time::{Clock, Duration};
 
-/// How often a result that there is no memory for is told as a failure, with a rest of 10 ms before each.
-const MOST_TRIES: u32 = 1_000;
-
-const MILLIS_BETWEEN: u64 = 10;
-
-/// Hands the results of one fetch thread in.
+/// Submits the results of one fetch thread.
 #[derive(Drop)]
 pub struct Results<R, L: Ledger> {
     pub rt: R,
     pub alloc: Global,
-    pub teller: Teller<R, L>,
-    /// Whether a result could not be handed in, for want of memory.
+    pub node: NodeHandle<R, L>,
+    /// Whether a result could not be submitted even after all retries.
     pub has_given_up: bool,
-    /// Told when that is so: its clients would wait for ever, so the proxy is to end.
+    /// Receives a message when that happens: the clients of the fetch would wait forever, so the proxy shuts down.
     pub end: Sender<(), Global>,
 }
 
@@ -39,7 +35,7 @@ impl<R: Wait + Clock + Drop, L: Ledger> Results<R, L> {
         let Ok(date) = HttpDate::from_unix_secs(u64::from(seconds)) else {
             return Outcome::Failed;
         };
-        let name = self.teller.house().name.as_bytes();
+        let name = self.node.proxy().name.as_bytes();
         match object_of(self.alloc, name, mode, page, date.to_bytes().as_slice()) {
             Ok(object) => Outcome::Object(object),
             Err(_) => Outcome::Failed,
@@ -53,7 +49,7 @@ impl<R: Wait + Clock + Drop, L: Ledger> Results<R, L> {
             result: outcome,
             now: now(&self.rt),
         };
-        self.teller.take(event).is_ok()
+        self.node.take(event).is_ok()
     }
 
     fn give_up(&mut self) {
@@ -71,13 +67,13 @@ impl<R: Wait + Clock + Drop, L: Ledger> Submit<Fetched> for Results<R, L> {
             attempt,
             page,
         } = done;
-        let mode = self.teller.house().mailbox.lock(&self.rt).end(fetch);
+        let mode = self.node.proxy().mailbox.lock(&self.rt).end(fetch);
         let outcome = self.outcome(mode, page);
         if self.take(fetch, attempt, outcome) {
             return;
         }
-        for _ in 0..MOST_TRIES {
-            thread::sleep(&self.rt, Duration::from_millis(MILLIS_BETWEEN));
+        for _ in 0..RETRIES {
+            thread::sleep(&self.rt, Duration::from_millis(RETRY_MILLIS));
             if self.take(fetch, attempt, Outcome::Failed) {
                 return;
             }

@@ -1,16 +1,16 @@
-//! The threads of a proxy: how they start, and how they end.
+//! Starting and ending the threads of a proxy.
 ghost use Rattle.std.specs.Prelude.{◌≡◌};
 
 use crate::addressing::Peer;
 use crate::fault::{Port, ServeFault};
-use crate::house::{House, Lanes, no_failures};
-use crate::limits::Limits;
+use crate::limits::{ENDS, FETCHERS, LOOK_UPS, ProxyLimits, SEATS, THREADS};
 use crate::mailbox::Mailbox;
+use crate::node_handle::{Outbox, Outgoing, ThreadSeat};
+use crate::proxy_state::{Lanes, ProxyState, no_failures};
 use crate::tasks::{
-    Administration, Clients, Ending, Fetches, Heard, LookUps, Openings, Queries, Task, Work,
-    no_memory, run_task,
+    AdministrationTask, BoundQueries, ClientTask, Ending, FetchTask, LookUpTask, QueryTask, Task,
+    ThreadConfig, Work, no_memory, run_task,
 };
-use crate::teller::{Chair, Outgoing, Post};
 use crossbeam_channel::{Receiver, Sender, bounded, unbounded};
 use filter_slots::End;
 use futures::channel::{mpsc, oneshot};
@@ -23,30 +23,14 @@ use serve_config::Settings;
 use std::alloc::{AllocError, AllocGlobal, Global};
 use std::net::{Ipv4Addr, Net, SocketAddr, SocketAddrV4};
 use std::random::RandomSource;
-use std::sync::atomic::{AtomicBool, Ordering};
+use std::sync::atomic::{AtomicBool, AtomicU16, Ordering};
 use std::sync::ledger::{Blank, Ledger};
 use std::sync::{Arc, Mutex, Wait};
 use std::thread;
 use std::thread::{JoinHandle, Threads};
 use std::time::{Clock, Duration};
 
-/// The threads that have a seat: one for queries, one for clients, one for administration, and the fetch threads.
-pub const SEATS: u64 = 7;
-
-/// The threads that fetch.
-const FETCHERS: usize = 4;
-
-/// The threads that look names up.
-const LOOK_UPS: usize = 4;
-
-/// All threads of a proxy.
-const THREADS: usize = 11;
-
-/// How often the end of a proxy is told at most, by each thread twice. There is room for all of them beforehand, so that it can be
-/// told where there is no memory.
-const ENDS: usize = 22;
-
-/// Where a proxy listens.
+/// The addresses that a proxy listens on, with the ports that the system chose.
 #[derive(Clone, Copy)]
 pub struct Addresses {
     pub icp: End,
@@ -58,25 +42,26 @@ pub struct Addresses {
 /// A running proxy.
 #[derive(Drop)]
 pub struct Site<L: Ledger> {
-    house: Arc<House<L>>,
+    proxy: Arc<ProxyState<L>>,
     addresses: Option<Addresses>,
     threads: Vec<JoinHandle<Ending<L>>>,
-    // Seats of threads that were not begun.
+    // Seats of threads that were not started.
     spare: Vec<Seat<L>>,
     is_ended: Arc<AtomicBool>,
     bell: Option<Bell>,
     stops: Vec<oneshot::Sender<()>>,
-    // Told when the proxy is to end: by the last answer, or by a thread that ends.
+    // Receives a message when the proxy is to end: after the last answer, or from a thread that ends.
     ends: Receiver<(), Global>,
     end: Sender<(), Global>,
 }
 
-/// Starts a proxy: when this returns, all its sockets are bound. On an error nothing runs any more.
+/// Starts a proxy. When this returns `Ok`, all sockets are bound; after an error all threads have ended. The ledger behind
+/// `blank` has one part per seat.
 pub fn start<L, R>(
     rt: R,
     blank: Blank,
     settings: Settings,
-    limits: Limits,
+    limits: ProxyLimits,
 ) -> Result<Site<L>, ServeFault>
 where
     L: Ledger + Send + Sync + 'static,
@@ -85,17 +70,17 @@ where
     R::Listener: Send + 'static,
     requires name { blank.name ≡ L.name }
     requires parts { blank.parts ≡ L.parts }
-    requires seven { blank.parts ≡ 7 }
+    requires seats { blank.parts ≡ SEATS }
 {
     let alloc = rt.alloc();
     let allowed = networks_of(alloc, &settings.node).map_err(no_memory)?;
-    let openings = openings_of(&settings, limits);
-    let (house, seats) = house_of(alloc, blank, settings, limits.fetching)?;
+    let config = thread_config(&settings, limits);
+    let (proxy, seats) = proxy_of(alloc, blank, settings, limits.fetching)?;
     let mut opening = Opening {
         rt,
         alloc,
-        openings,
-        site: Site::of(alloc, house, seats).map_err(no_memory)?,
+        config,
+        site: Site::of(alloc, proxy, seats).map_err(no_memory)?,
     };
     let opened = opening.open(allowed);
     let Opening { site, .. } = opening;
@@ -108,10 +93,10 @@ where
     }
 }
 
-/// What the threads are opened with, by the settings.
-fn openings_of(settings: &Settings, limits: Limits) -> Openings {
+/// What the threads need of the settings.
+fn thread_config(settings: &Settings, limits: ProxyLimits) -> ThreadConfig {
     let address = Ipv4Addr::from_octets(settings.address);
-    Openings {
+    ThreadConfig {
         icp: settings.node.icp,
         htcp: settings.node.htcp,
         clients: SocketAddr::V4(SocketAddrV4::new(address, settings.http_port)),
@@ -122,27 +107,28 @@ fn openings_of(settings: &Settings, limits: Limits) -> Openings {
     }
 }
 
-/// A house with a node that has taken nothing, and the seven seats at its desk.
-fn house_of<L: Ledger>(
+/// The shared state of a proxy, with a new node, and the seats of its threads.
+fn proxy_of<L: Ledger>(
     alloc: Global,
     blank: Blank,
     settings: Settings,
     fetching: Duration,
-) -> Result<(House<L>, Vec<Seat<L>>), ServeFault>
+) -> Result<(ProxyState<L>, Vec<Seat<L>>), ServeFault>
     requires name { blank.name ≡ L.name }
     requires parts { blank.parts ≡ L.parts }
-    requires seven { blank.parts ≡ 7 }
+    requires seats { blank.parts ≡ SEATS }
 {
     let peers = peers_of(alloc, &settings.node).map_err(no_memory)?;
     let Settings {
         name,
         volume,
+        admin_port,
         node: config,
         ..
     } = settings;
     let node = Node::new(alloc, config).map_err(ServeFault::Node)?;
     let (desk, seats) = desk_of(alloc, blank, node, volume as usize)?;
-    let house = House {
+    let proxy = ProxyState {
         desk,
         mailbox: Mutex::new(Mailbox::new(alloc)),
         lanes: Mutex::new(None),
@@ -150,11 +136,12 @@ fn house_of<L: Ledger>(
         name,
         peers,
         fetching,
+        admin_port: AtomicU16::new(admin_port),
     };
-    Ok((house, seats))
+    Ok((proxy, seats))
 }
 
-/// A desk of seven seats over the book of a node.
+/// A new node with its event log behind a lock, and its seats.
 fn desk_of<L: Ledger>(
     alloc: Global,
     blank: Blank,
@@ -163,7 +150,7 @@ fn desk_of<L: Ledger>(
 ) -> Result<(Desk<L>, Vec<Seat<L>>), ServeFault>
     requires name { blank.name ≡ L.name }
     requires parts { blank.parts ≡ L.parts }
-    requires seven { blank.parts ≡ 7 }
+    requires seats { blank.parts ≡ SEATS }
 {
     let booked = match Booked::new(alloc, node, volume) {
         Ok(booked) => booked,
@@ -194,10 +181,10 @@ fn networks_of(alloc: Global, config: &Config) -> Result<Vec<Network>, AllocErro
 }
 
 impl<L: Ledger + Send + Sync + 'static> Site<L> {
-    fn of(alloc: Global, house: House<L>, seats: Vec<Seat<L>>) -> Result<Site<L>, AllocError> {
+    fn of(alloc: Global, proxy: ProxyState<L>, seats: Vec<Seat<L>>) -> Result<Site<L>, AllocError> {
         let (end, ends) = bounded(alloc, ENDS)?;
         Ok(Site {
-            house: Arc::new(alloc, house)?,
+            proxy: Arc::new(alloc, proxy)?,
             addresses: None,
             threads: Vec::with_capacity(alloc, THREADS)?,
             spare: seats,
@@ -209,21 +196,21 @@ impl<L: Ledger + Send + Sync + 'static> Site<L> {
         })
     }
 
-    /// Where the proxy listens.
+    /// The addresses that the proxy listens on.
     pub fn addresses(&self) -> Option<Addresses> {
         self.addresses
     }
 
-    /// Waits for the last answer, or for a thread to end, and then ends the proxy.
+    /// Waits until the last answer is given or a thread ends, then shuts the proxy down. Returns the report of the event log.
     pub fn finish<R: Threads + Wait + Copy>(self, rt: R) -> Result<Report, ServeFault> {
         let _ = self.ends.recv(&rt);
         self.shut(rt)
     }
 
-    /// Ends all threads, joins them, and settles the book.
+    /// Stops and joins all threads, and settles the event log.
     fn shut<R: Threads + Wait + Copy>(self, rt: R) -> Result<Report, ServeFault> {
         let Site {
-            house,
+            proxy,
             addresses: _,
             threads,
             spare,
@@ -240,7 +227,7 @@ impl<L: Ledger + Send + Sync + 'static> Site<L> {
         for stop in stops {
             let _ = stop.send(());
         }
-        house.close(&rt);
+        proxy.close(&rt);
         let mut seats = spare;
         let mut fault = None;
         for thread in threads {
@@ -252,16 +239,16 @@ impl<L: Ledger + Send + Sync + 'static> Site<L> {
                 fault = Some(ServeFault::NoMemory);
             }
         }
-        settled(house, seats, fault)
+        settled(proxy, seats, fault)
     }
 }
 
-/// A proxy that is being opened.
+/// A proxy whose threads are being started.
 #[derive(Drop)]
 struct Opening<R, L: Ledger> {
     rt: R,
     alloc: Global,
-    openings: Openings,
+    config: ThreadConfig,
     site: Site<L>,
 }
 
@@ -272,15 +259,15 @@ where
     R::Stream: Send + 'static,
     R::Listener: Send + 'static,
 {
-    /// The next seat, with what its thread needs besides.
-    fn chair(&mut self) -> Result<Chair<L>, ServeFault> {
+    /// The next free seat, with the shared state.
+    fn seat(&mut self) -> Result<ThreadSeat<L>, ServeFault> {
         let Some(seat) = self.site.spare.pop() else {
             return Err(ServeFault::NoMemory);
         };
-        Chair::new(&self.site.house, seat).map_err(no_memory)
+        ThreadSeat::new(&self.site.proxy, seat).map_err(no_memory)
     }
 
-    /// Begins a thread, and keeps its handle.
+    /// Starts a thread and keeps its handle.
     fn begin(&mut self, work: Work<L>) -> Result<(), ServeFault> {
         let (rt, task) = (self.rt, Task { work });
         let Ok(thread) = thread::spawn(&rt, move || run_task(rt, task)) else {
@@ -295,15 +282,15 @@ where
     fn open(&mut self, allowed: Vec<Network>) -> Result<(), ServeFault> {
         self.open_fetchers()?;
         let (outgoing, incoming) = unbounded(self.alloc).map_err(no_memory)?;
-        let heard = self.open_queries(incoming)?;
-        let bell = heard.bell.share().map_err(no_memory)?;
-        self.site.bell = Some(heard.bell);
-        let post = Post { to: outgoing, bell };
-        let clients = self.open_clients(allowed, post)?;
+        let queries = self.open_queries(incoming)?;
+        let bell = queries.bell.share().map_err(no_memory)?;
+        self.site.bell = Some(queries.bell);
+        let outbox = Outbox { to: outgoing, bell };
+        let clients = self.open_clients(allowed, outbox)?;
         let administration = self.open_administration()?;
         self.site.addresses = Some(Addresses {
-            icp: heard.icp,
-            htcp: heard.htcp,
+            icp: queries.icp,
+            htcp: queries.htcp,
             clients,
             administration,
         });
@@ -315,11 +302,11 @@ where
         for _ in 0..FETCHERS {
             let (to, jobs) = mpsc::unbounded(self.alloc).map_err(no_memory)?;
             let _ = lanes.push(to);
-            let fetches = Fetches {
-                chair: self.chair()?,
+            let fetches = FetchTask {
+                seat: self.seat()?,
                 jobs,
-                octets: self.openings.body_limit,
-                connecting: self.openings.limits.connecting,
+                octets: self.config.body_limit,
+                connecting: self.config.limits.connecting,
                 end: self.site.end.clone().map_err(no_memory)?,
             };
             self.begin(Work::Fetches(fetches))?;
@@ -329,7 +316,7 @@ where
             wishes,
             jobs: lanes,
         };
-        *self.site.house.lanes.lock(&self.rt) = Some(lanes);
+        *self.site.proxy.lanes.lock(&self.rt) = Some(lanes);
         Ok(())
     }
 
@@ -339,7 +326,7 @@ where
     ) -> Result<Sender<Wish, Global>, ServeFault> {
         let (to, wishes) = unbounded(self.alloc).map_err(no_memory)?;
         for _ in 0..LOOK_UPS {
-            let names = LookUps {
+            let names = LookUpTask {
                 wishes: wishes.clone().map_err(no_memory)?,
                 lanes: cloned(self.alloc, lanes).map_err(no_memory)?,
             };
@@ -348,12 +335,15 @@ where
         Ok(to)
     }
 
-    fn open_queries(&mut self, outgoing: Receiver<Outgoing, Global>) -> Result<Heard, ServeFault> {
+    fn open_queries(
+        &mut self,
+        outgoing: Receiver<Outgoing, Global>,
+    ) -> Result<BoundQueries, ServeFault> {
         let (bound, heard) = unbounded(self.alloc).map_err(no_memory)?;
-        let queries = Queries {
-            chair: self.chair()?,
-            icp: self.openings.icp,
-            htcp: self.openings.htcp,
+        let queries = QueryTask {
+            seat: self.seat()?,
+            icp: self.config.icp,
+            htcp: self.config.htcp,
             outgoing,
             bound,
             is_ended: Arc::try_clone(&self.site.is_ended).map_err(no_memory)?,
@@ -369,17 +359,17 @@ where
     fn open_clients(
         &mut self,
         allowed: Vec<Network>,
-        post: Post,
+        outbox: Outbox,
     ) -> Result<SocketAddr, ServeFault> {
         let (stop, stopped) = oneshot::channel(self.alloc).map_err(no_memory)?;
         let (bound, heard) = unbounded(self.alloc).map_err(no_memory)?;
-        let clients = Clients {
-            house: Arc::try_clone(&self.site.house).map_err(no_memory)?,
-            chair: self.chair()?,
-            post,
-            openings: self.openings,
+        let clients = ClientTask {
+            proxy: Arc::try_clone(&self.site.proxy).map_err(no_memory)?,
+            seat: self.seat()?,
+            outbox,
+            config: self.config,
             allowed,
-            name: String::from_str(self.alloc, self.site.house.name.as_str()).map_err(no_memory)?,
+            name: String::from_str(self.alloc, self.site.proxy.name.as_str()).map_err(no_memory)?,
             bound,
             stopped,
             end: self.site.end.clone().map_err(no_memory)?,
@@ -394,22 +384,25 @@ where
     fn open_administration(&mut self) -> Result<SocketAddr, ServeFault> {
         let (stop, stopped) = oneshot::channel(self.alloc).map_err(no_memory)?;
         let (bound, heard) = unbounded(self.alloc).map_err(no_memory)?;
-        let administration = Administration {
-            chair: self.chair()?,
-            openings: self.openings,
+        let administration = AdministrationTask {
+            seat: self.seat()?,
+            config: self.config,
             bound,
             stopped,
             end: self.site.end.clone().map_err(no_memory)?,
         };
         self.begin(Work::Administration(administration))?;
         let _ = self.site.stops.push(stop);
-        heard
-            .recv(&self.rt)
-            .map_err(|_| ServeFault::Bind(Port::Administration))
+        let Ok(address) = heard.recv(&self.rt) else {
+            return Err(ServeFault::Bind(Port::Administration));
+        };
+        let port = &self.site.proxy.admin_port;
+        port.store(address.port(), Ordering::SeqCst);
+        Ok(address)
     }
 }
 
-/// The senders once more.
+/// Clones each sender.
 fn cloned(
     alloc: Global,
     lanes: &[mpsc::UnboundedSender<Job>],
@@ -421,19 +414,19 @@ fn cloned(
     Ok(all)
 }
 
-/// Settles the book, where no thread ended badly.
+/// Settles the event log, unless a thread ended with a fault.
 fn settled<L: Ledger>(
-    house: Arc<House<L>>,
+    proxy: Arc<ProxyState<L>>,
     seats: Vec<Seat<L>>,
     fault: Option<ServeFault>,
 ) -> Result<Report, ServeFault> {
     if let Some(fault) = fault {
         return Err(fault);
     }
-    let Some(house) = Arc::into_inner(house) else {
+    let Some(proxy) = Arc::into_inner(proxy) else {
         return Err(ServeFault::Settle);
     };
-    let House { desk, .. } = house;
+    let ProxyState { desk, .. } = proxy;
     match desk.settle(seats) {
         Ok(report) => Ok(report),
         Err(_) => Err(ServeFault::Settle),

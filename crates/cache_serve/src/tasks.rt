@@ -1,19 +1,17 @@
-//! What the threads of a proxy do.
+//! The main function of each thread of a proxy.
 ghost use Rattle.std.specs.Prelude.{◌<◌};
 
 use crate::fault::{Port, ServeFault};
-use crate::front::Counter;
-use crate::house::House;
-use crate::limits::Limits;
-use crate::panel::Switches;
+use crate::front::NodeFront;
+use crate::limits::ProxyLimits;
+use crate::node_handle::{NodeHandle, Outbox, Outgoing, ThreadSeat};
+use crate::panel::NodePanel;
+use crate::proxy_state::ProxyState;
 use crate::queries::carry;
 use crate::results::Results;
-use crate::teller::{Chair, Outgoing, Post, Teller};
-use client_streams::Limits as StillLimits;
 use crossbeam_channel::{Receiver, Sender};
 use filter_slots::{End, Socket};
 use futures::channel::{mpsc, oneshot};
-use hyper_cache::ServeLimits;
 use hyper_cache::administration::serve_admin;
 use hyper_cache::fetching::{FetchLimits, Job, run_fetches};
 use hyper_cache::names::{Wish, look_up};
@@ -21,6 +19,7 @@ use hyper_cache::serving::serve_clients;
 use mio_queries::{Bell, BindFault, MioWire};
 use node_book::Seat;
 use node_core::Network;
+use plain_node::MAX_PENDING_FETCHES;
 use std::alloc::{AllocError, AllocGlobal, Global};
 use std::io;
 use std::net::{Net, SocketAddr};
@@ -33,72 +32,72 @@ use std::time::{Clock, Duration};
 /// How a thread ended.
 #[derive(Drop)]
 pub struct Ending<L: Ledger> {
-    /// None where it had none, or it could not be taken back.
+    /// The thread's seat. `None` if it had none or could not take it back.
     pub seat: Option<Seat<L>>,
-    /// How it ended, if badly.
+    /// Why it ended, if that is an error.
     pub fault: Option<ServeFault>,
 }
 
-/// What the query thread tells once its sockets are bound.
+/// What the query thread reports once its sockets are bound: the handle that wakes it, and the addresses.
 #[derive(Drop)]
-pub struct Heard {
+pub struct BoundQueries {
     pub bell: Bell,
     pub icp: End,
     pub htcp: End,
 }
 
-/// What the threads of a site are opened with.
+/// What the threads of a proxy need of the configuration.
 #[derive(Clone, Copy)]
-pub struct Openings {
+pub struct ThreadConfig {
     pub icp: End,
     pub htcp: End,
     pub clients: SocketAddr,
     pub admin_port: u16,
     pub body_limit: usize,
     pub stop_after: u64,
-    pub limits: Limits,
+    pub limits: ProxyLimits,
 }
 
-/// That there is no memory.
+/// An allocation failure as a fault of the proxy.
 pub fn no_memory(_: AllocError) -> ServeFault {
     ServeFault::NoMemory
 }
 
-/// What one thread is to do. It is made by the proxy, and run by whoever may start threads and open sockets.
+/// The work of one thread. Its field is private to the crate, so only `start` makes tasks.
 #[derive(Drop)]
 pub struct Task<L: Ledger> {
     pub(crate) work: Work<L>,
 }
 
-/// The kinds of tasks.
+/// The kinds of threads.
 #[derive(Drop)]
 pub enum Work<L: Ledger> {
-    Queries(Queries<L>),
-    Clients(Clients<L>),
-    Administration(Administration<L>),
-    Fetches(Fetches<L>),
-    LookUps(LookUps),
+    Queries(QueryTask<L>),
+    Clients(ClientTask<L>),
+    Administration(AdministrationTask<L>),
+    Fetches(FetchTask<L>),
+    LookUps(LookUpTask),
 }
 
-/// Both query sockets.
+/// The work of the query thread, which owns both UDP sockets and sends every datagram.
 #[derive(Drop)]
-pub struct Queries<L: Ledger> {
-    pub chair: Chair<L>,
+pub struct QueryTask<L: Ledger> {
+    pub seat: ThreadSeat<L>,
     pub icp: End,
     pub htcp: End,
     pub outgoing: Receiver<Outgoing, Global>,
-    pub bound: Sender<Result<Heard, ServeFault>, Global>,
+    pub bound: Sender<Result<BoundQueries, ServeFault>, Global>,
     pub is_ended: Arc<AtomicBool>,
     pub end: Sender<(), Global>,
 }
 
-/// Clients.
+/// The work of the client thread, which owns the clients' connections.
 #[derive(Drop)]
-pub struct Clients<L: Ledger> {
-    pub house: Arc<House<L>>,
-    pub chair: Chair<L>,
-    pub post: Post,
-    pub openings: Openings,
+pub struct ClientTask<L: Ledger> {
+    pub proxy: Arc<ProxyState<L>>,
+    pub seat: ThreadSeat<L>,
+    pub outbox: Outbox,
+    pub config: ThreadConfig,
     pub allowed: Vec<Network>,
     pub name: String,
     pub bound: Sender<SocketAddr, Global>,
@@ -106,35 +105,32 @@ pub struct Clients<L: Ledger> {
     pub end: Sender<(), Global>,
 }
 
-/// Administration.
+/// The work of the administration thread, which owns the administrators' connections.
 #[derive(Drop)]
-pub struct Administration<L: Ledger> {
-    pub chair: Chair<L>,
-    pub openings: Openings,
+pub struct AdministrationTask<L: Ledger> {
+    pub seat: ThreadSeat<L>,
+    pub config: ThreadConfig,
     pub bound: Sender<SocketAddr, Global>,
     pub stopped: oneshot::Receiver<()>,
     pub end: Sender<(), Global>,
 }
 
-/// Fetches, many at the same time.
+/// The work of a fetch thread, which owns the connections of its fetches and runs many concurrently.
 #[derive(Drop)]
-pub struct Fetches<L: Ledger> {
-    pub chair: Chair<L>,
+pub struct FetchTask<L: Ledger> {
+    pub seat: ThreadSeat<L>,
     pub jobs: mpsc::UnboundedReceiver<Job>,
     pub octets: usize,
     pub connecting: Duration,
     pub end: Sender<(), Global>,
 }
 
-/// Names that are looked up.
+/// The work of a thread that looks up host names. It has no seat, since it only forwards orders to the fetch threads.
 #[derive(Drop)]
-pub struct LookUps {
+pub struct LookUpTask {
     pub wishes: Receiver<Wish, Global>,
     pub lanes: Vec<mpsc::UnboundedSender<Job>>,
 }
-
-/// The fetches of one thread at the same time: as many as a node has, so that none waits for another of its thread.
-const FETCHES_AT_ONCE: usize = 256;
 
 /// The life of one thread of a proxy.
 pub fn run_task<R, L>(rt: R, task: Task<L>) -> Ending<L>
@@ -157,14 +153,14 @@ where
     }
 }
 
-/// The life of a fetch thread.
-fn fetch<R, L>(rt: R, fetches: Fetches<L>) -> Ending<L>
+/// Runs a fetch thread, until all senders of its jobs are gone and its last fetch has ended.
+fn fetch<R, L>(rt: R, fetches: FetchTask<L>) -> Ending<L>
 where
     R: Wait + Net + Clock + RandomSource + AllocGlobal + Copy,
     L: Ledger,
 {
-    let Fetches {
-        chair,
+    let FetchTask {
+        seat,
         jobs,
         octets,
         connecting,
@@ -174,12 +170,13 @@ where
     let limits = FetchLimits {
         octets,
         connecting,
-        at_once: FETCHES_AT_ONCE,
+        // As many as a node has pending, so that none waits for another of its thread.
+        at_once: MAX_PENDING_FETCHES,
     };
     let mut results = Results {
         rt,
         alloc,
-        teller: Teller::new(rt, alloc, chair, None),
+        node: NodeHandle::new(rt, alloc, seat, None),
         has_given_up: false,
         end,
     };
@@ -187,7 +184,7 @@ where
     let _ = results.end.send(&rt, ());
     let is_well = ran.is_ok() && !results.has_given_up;
     Ending {
-        seat: Some(results.teller.into_seat()),
+        seat: Some(results.node.into_seat()),
         fault: if is_well {
             None
         } else {
@@ -196,14 +193,14 @@ where
     }
 }
 
-/// The life of the query thread.
-fn answer_queries<R, L>(rt: R, queries: Queries<L>) -> Ending<L>
+/// Runs the query thread.
+fn answer_queries<R, L>(rt: R, queries: QueryTask<L>) -> Ending<L>
 where
     R: Wait + Net + Clock + AllocGlobal + Copy,
     L: Ledger,
 {
-    let Queries {
-        chair,
+    let QueryTask {
+        seat,
         icp,
         htcp,
         outgoing,
@@ -212,11 +209,11 @@ where
         end,
     } = queries;
     let alloc = rt.alloc();
-    let mut teller = Teller::new(rt, alloc, chair, None);
+    let mut node = NodeHandle::new(rt, alloc, seat, None);
     let fault = match bind(rt, icp, htcp) {
-        Ok((mut wire, heard)) => {
-            let _ = bound.send(&rt, Ok(heard));
-            carry(&rt, alloc, &mut wire, &mut teller, &outgoing, &is_ended).err()
+        Ok((mut wire, ready)) => {
+            let _ = bound.send(&rt, Ok(ready));
+            carry(&rt, alloc, &mut wire, &mut node, &outgoing, &is_ended).err()
         }
         Err(fault) => {
             let _ = bound.send(&rt, Err(fault));
@@ -225,13 +222,13 @@ where
     };
     let _ = end.send(&rt, ());
     Ending {
-        seat: Some(teller.into_seat()),
+        seat: Some(node.into_seat()),
         fault,
     }
 }
 
-/// Both query sockets.
-fn bind<R>(rt: R, icp: End, htcp: End) -> Result<(MioWire<R>, Heard), ServeFault>
+/// Binds both query sockets.
+fn bind<R>(rt: R, icp: End, htcp: End) -> Result<(MioWire<R>, BoundQueries), ServeFault>
 where
     R: Net + Clock + AllocGlobal + Copy,
 {
@@ -242,35 +239,25 @@ where
         Err(BindFault::Io) => return Err(ServeFault::QuerySocket),
         Err(BindFault::NoMemory) => return Err(ServeFault::NoMemory),
     };
-    let heard = Heard {
+    let ready = BoundQueries {
         bell: wire.bell().map_err(no_memory)?,
         icp: wire.end(Socket::Icp),
         htcp: wire.end(Socket::Htcp),
     };
-    Ok((wire, heard))
+    Ok((wire, ready))
 }
 
-/// For how long a client may be still.
-fn still(limits: Limits) -> StillLimits {
-    StillLimits {
-        idle: limits.idle,
-        head: limits.head,
-        content: limits.head,
-        taking: limits.idle,
-    }
-}
-
-/// The life of the thread that serves clients.
-fn answer_clients<R, L>(rt: R, clients: Clients<L>) -> Ending<L>
+/// Runs the thread that serves clients.
+fn answer_clients<R, L>(rt: R, clients: ClientTask<L>) -> Ending<L>
 where
     R: Wait + Net + Clock + RandomSource + AllocGlobal + Copy,
     L: Ledger,
 {
-    let Clients {
-        house,
-        chair,
-        post,
-        openings,
+    let ClientTask {
+        proxy,
+        seat,
+        outbox,
+        config,
         allowed,
         name,
         bound,
@@ -278,92 +265,80 @@ where
         end,
     } = clients;
     let alloc = rt.alloc();
-    let teller = Teller::new(rt, alloc, chair, Some(post));
-    let Ok((shared, kept)) = shared_of(alloc, teller) else {
+    let node = NodeHandle::new(rt, alloc, seat, Some(outbox));
+    let Ok((shared, kept)) = shared_of(alloc, node) else {
         return lost(&rt, &end);
     };
     let Ok(stop) = end.clone() else {
         return lost(&rt, &end);
     };
-    let counter = Counter {
+    let front = NodeFront {
         rt,
         alloc,
-        house,
-        teller: shared,
+        proxy,
+        node: shared,
         allowed,
         last: 0,
-        left: openings.stop_after,
+        left: config.stop_after,
         stop,
     };
-    let limits = limits_of(openings.limits, openings.limits.connections, 65_536);
     let ran = serve_clients(
         rt,
-        openings.clients,
+        config.clients,
         name.as_str(),
-        counter,
+        front,
         bound,
         stopped,
-        limits,
+        config.limits.clients,
     );
     end_of(&rt, kept, ran, Port::Clients, &end)
 }
 
-/// The limits of a server.
-fn limits_of(limits: Limits, connections: usize, content: usize) -> ServeLimits {
-    ServeLimits {
-        still: still(limits),
-        connections,
-        rest: Duration::from_millis(100),
-        grace: limits.grace,
-        content,
-    }
-}
-
-/// The life of the thread that serves administration.
-fn administer<R, L>(rt: R, administration: Administration<L>) -> Ending<L>
+/// Runs the thread that serves administration.
+fn administer<R, L>(rt: R, administration: AdministrationTask<L>) -> Ending<L>
 where
     R: Wait + Net + Clock + RandomSource + AllocGlobal + Copy,
     L: Ledger,
 {
-    let Administration {
-        chair,
-        openings,
+    let AdministrationTask {
+        seat,
+        config,
         bound,
         stopped,
         end,
     } = administration;
     let alloc = rt.alloc();
-    let teller = Teller::new(rt, alloc, chair, None);
-    let Ok((shared, kept)) = shared_of(alloc, teller) else {
+    let node = NodeHandle::new(rt, alloc, seat, None);
+    let Ok((shared, kept)) = shared_of(alloc, node) else {
         return lost(&rt, &end);
     };
-    let switches = Switches {
+    let panel = NodePanel {
         rt,
         alloc,
-        teller: shared,
+        node: shared,
     };
-    let limits = limits_of(openings.limits, 64, 262_144);
-    let ran = serve_admin(rt, openings.admin_port, switches, bound, stopped, limits);
+    let limits = config.limits.administration;
+    let ran = serve_admin(rt, config.admin_port, panel, bound, stopped, limits);
     end_of(&rt, kept, ran, Port::Administration, &end)
 }
 
-/// A teller that two hold.
+/// A handle to the node with two owners: the server, and the thread that takes the seat back when the server has ended.
 fn shared_of<R, L: Ledger>(
     alloc: Global,
-    teller: Teller<R, L>,
-) -> Result<(Arc<Mutex<Teller<R, L>>>, Arc<Mutex<Teller<R, L>>>), AllocError>
+    node: NodeHandle<R, L>,
+) -> Result<(Arc<Mutex<NodeHandle<R, L>>>, Arc<Mutex<NodeHandle<R, L>>>), AllocError>
 where
     R: Wait + Clock + Drop,
 {
-    let shared = Arc::new(alloc, Mutex::new(teller))?;
+    let shared = Arc::new(alloc, Mutex::new(node))?;
     let kept = Arc::try_clone(&shared)?;
     Ok((shared, kept))
 }
 
-/// The end of a thread that serves, whose seat is taken back.
+/// How a server thread ended, with its seat.
 fn end_of<R, L: Ledger>(
     rt: &R,
-    kept: Arc<Mutex<Teller<R, L>>>,
+    kept: Arc<Mutex<NodeHandle<R, L>>>,
     ran: io::Result<()>,
     port: Port,
     end: &Sender<(), Global>,
@@ -373,7 +348,7 @@ where
 {
     let _ = end.send(rt, ());
     Ending {
-        seat: Arc::into_inner(kept).map(|teller| teller.into_inner().into_seat()),
+        seat: Arc::into_inner(kept).map(|node| node.into_inner().into_seat()),
         fault: match ran {
             Ok(()) => None,
             Err(_) => Some(ServeFault::Bind(port)),
@@ -381,7 +356,7 @@ where
     }
 }
 
-/// The end of a thread that had no memory to begin.
+/// How a thread ended that ran out of memory before it started to serve. Its seat is lost.
 fn lost<R: Wait, L: Ledger>(rt: &R, end: &Sender<(), Global>) -> Ending<L> {
     let _ = end.send(rt, ());
     Ending {

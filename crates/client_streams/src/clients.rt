@@ -12,20 +12,20 @@ use tokio::net::{TcpListener, TcpStream};
 use tokio::sync::{AcquireOwned, OwnedSemaphorePermit, Semaphore};
 use tokio::time::{Handle, Sleep};
 
-/// Makes futures that serve clients.
+/// Makes the future that serves a client.
 pub trait Accept: Drop {
-    /// Serves one client to its end.
+    /// Serves one client until its connection ends.
     type Serving: Future<Output = ()>;
 
-    /// Serves the client that came from `address`. `None` drops the client.
+    /// Serves the client that connected from `address`. Returning `None` closes the connection.
     fn accept(&self, socket: TcpStream, address: SocketAddr) -> Option<Self::Serving>
         ensures { IfSome result Self.Serving.can_poll };
 }
 
-/// A future whose output is of no interest.
+/// A future with its output dropped.
 #[derive(Drop)]
 pub struct Quiet<F> {
-    /// What is polled.
+    /// The future that is polled.
     pub inner: F,
 }
 
@@ -44,7 +44,7 @@ impl<T: Drop, F: Future<Output = T>> Future for Quiet<F> {
     }
 }
 
-/// A client that is served, and its seat, which is free again once this is dropped.
+/// A client that is being served, and its permit, which is released when this is dropped.
 #[derive(Drop)]
 pub struct Seated<F> {
     serving: F,
@@ -63,18 +63,18 @@ impl<F: Future<Output = ()>> Future for Seated<F> {
     }
 }
 
-// A place in the queue for a seat.
+// A place in the queue for a permit.
 #[derive(Drop)]
 struct Asking {
     queued: AcquireOwned,
     ghost may_ask: { IsSome queued.semaphore },
 }
 
-/// The clients of a listener, each as a future, until `stop` is ready or its sender is gone. Each
-/// future holds a seat; while every seat is taken none is accepted, and further clients lie in the
-/// listener's queue. After a refused accept the next one waits for `rest`.
+/// The clients of a listener, as a stream of futures that ends when `stop` is ready or its sender is dropped. Each future holds a
+/// permit; while none is free, no connection is accepted, and further clients wait in the listener's queue. After a failed accept
+/// the next one waits for `rest`.
 #[derive(Drop)]
-pub struct Clients<A, R> {
+pub struct AcceptedClients<A, R> {
     rt: R,
     timers: Handle,
     listener: TcpListener,
@@ -87,8 +87,8 @@ pub struct Clients<A, R> {
     resting: Option<Sleep>,
 }
 
-impl<A: Accept, R: Clock + Drop> Clients<A, R> {
-    /// The clients of `listener`, at most `most` at a time.
+impl<A: Accept, R: Clock + Drop> AcceptedClients<A, R> {
+    /// The clients of `listener`, at most `most` concurrently.
     pub fn new(
         rt: R,
         alloc: Global,
@@ -98,12 +98,12 @@ impl<A: Accept, R: Clock + Drop> Clients<A, R> {
         accept: A,
         most: usize,
         rest: Duration,
-    ) -> Result<Clients<A, R>, AllocError> {
+    ) -> Result<AcceptedClients<A, R>, AllocError> {
         let seats = Arc::new(
             alloc,
             Semaphore::new(alloc, most.min(Semaphore::MAX_PERMITS))?,
         )?;
-        Ok(Clients {
+        Ok(AcceptedClients {
             rt,
             timers,
             listener,
@@ -117,13 +117,13 @@ impl<A: Accept, R: Clock + Drop> Clients<A, R> {
         })
     }
 
-    // The next accept waits.
+    // Delays the next accept.
     fn rest(&mut self) {
         self.resting = self.timers.sleep(&self.rt, self.rest).ok();
     }
 }
 
-impl<A: Accept, R: Clock + Drop> Stream for Clients<A, R> {
+impl<A: Accept, R: Clock + Drop> Stream for AcceptedClients<A, R> {
     type Item = Seated<A::Serving>;
 
     ghost yields = { λ _ _ last. IfSome last (λ s. A.Serving.can_poll s.serving) };

@@ -1,11 +1,15 @@
-//! The clients of a listener as futures, so many at a time, until told to stop, and a socket whose
-//! peer has to keep moving. What serves a client is a trait.
+//! A TCP listener as a stream of futures, one per client, with a limit on concurrent clients and a stop signal; and a socket that
+//! fails when its peer is silent for too long. How a client is served is behind the trait `Accept`.
+//!
+//! The contracts see only that each future the stream yields may be polled, and which socket event a read or write waits for.
+//!
+//! Tested by: crates/test_edge.
 #![tactic(auto)]
 
 mod clients;
 mod patient;
 mod refusal;
 
-pub use clients::{Accept, Clients, Quiet, Seated};
-pub use patient::{Limits, Patient, SharedStage, Stage};
+pub use clients::{Accept, AcceptedClients, Quiet, Seated};
+pub use patient::{Patient, SharedStage, Stage, StreamTimeouts};
 pub use refusal::Refusal;

@@ -1,4 +1,4 @@
-//! A socket whose peer has to keep moving.
+//! A socket that fails when its peer is silent for too long.
 ghost use Rattle.std.specs.Prelude.{◌≡◌, ⊤};
 ghost use Rattle.futures.specs.Task.{Keeps};
 ghost use Rattle.tokio.specs.Net.{stream_readable, stream_writable};
@@ -15,20 +15,20 @@ use tokio::io::{AsyncRead, AsyncWrite};
 use tokio::net::TcpStream;
 use tokio::time::{Handle, Sleep};
 
-/// How long a peer may be still before its socket fails.
+/// How long a peer may stay silent before its socket fails.
 #[derive(Clone, Copy)]
-pub struct Limits {
-    /// Between two exchanges.
+pub struct StreamTimeouts {
+    /// Between two requests.
     pub idle: Duration,
-    /// From the first octet of a head to its end.
+    /// From the first octet of a request's head to its end.
     pub head: Duration,
     /// Between two pieces of a request's content.
     pub content: Duration,
-    /// While some of its answer waits to be taken.
+    /// While a write waits for the peer to read.
     pub taking: Duration,
 }
 
-/// What is waited for of the peer.
+/// What the server waits for.
 #[derive(Clone, Copy, PartialEq, Eq)]
 pub enum Stage {
     /// The first octet of a request.
@@ -37,12 +37,11 @@ pub enum Stage {
     Head,
     /// The rest of a request's content.
     Content,
-    /// Nothing: the peer waits for its answer.
+    /// Nothing: the peer waits for its response.
     Asked,
 }
 
-/// The stage of a connection, which the service of its requests sets and its socket reads. It has
-/// several owners in one thread.
+/// The stage of a connection, set by its HTTP service and read by its socket. Reference-counted within one thread.
 #[derive(Drop)]
 pub struct SharedStage(Rc<Cell<Stage>>);
 
@@ -52,29 +51,29 @@ impl SharedStage {
         Ok(SharedStage(Rc::new(alloc, Cell::new(Stage::Idle))?))
     }
 
-    /// One more owner of the same stage. It is refused only where there are too many.
+    /// Another handle to the same stage. Errors: there are too many handles.
     pub fn share(&self) -> Result<SharedStage, AllocError> {
         Ok(SharedStage(self.0.clone()?))
     }
 
-    /// The stage now.
+    /// The current stage.
     pub fn get(&self) -> Stage {
         self.0.get()
     }
 
-    /// From now on this is the stage.
+    /// Sets the stage.
     pub fn set(&self, stage: Stage) {
         self.0.set(stage);
     }
 }
 
-// A deadline that begins with the first wait after some progress.
+// A timeout that starts with the first wait after some progress.
 #[derive(Drop)]
 struct Patience<R> {
     rt: R,
     timers: Handle,
     deadline: Option<Instant>,
-    // It is moved only when it fires, or when it is too late.
+    // The timer. It is reset only when it fires too early or would fire too late.
     sleep: Option<Sleep>,
 }
 
@@ -96,7 +95,7 @@ impl<R: Clock + Drop> Patience<R> {
         self.deadline.is_some()
     }
 
-    // Whether the wait is over. No clock or no memory ends it, too.
+    // Whether the timeout has passed, also true if the clock cannot be read or if out of memory.
     fn is_over(&mut self, limit: Duration, cx: &mut Context<'_>) -> bool
         ensures { Keeps cx.old cx.new }
     {
@@ -129,26 +128,25 @@ impl<R: Clock + Drop> Patience<R> {
     }
 }
 
-/// A socket that fails with `TimedOut` where its peer is still for longer than its limits allow: a
-/// read by the limit of the stage, unless a write waits too, and a write by the limit `taking`. The
-/// time of `head` begins with the first octet of a head, that of the others with the last octet that
-/// came or was taken.
+/// A socket that fails with `TimedOut` when its peer is silent for longer than its limits allow. A read has the limit of the
+/// current stage, unless a write is waiting too, and a write has the limit `taking`. The time of `head` starts with the first
+/// octet of a head, and each other time with the last octet received or sent.
 #[derive(Drop)]
 pub struct Patient<R> {
     socket: TcpStream,
-    limits: Limits,
+    limits: StreamTimeouts,
     stage: SharedStage,
     coming: Patience<R>,
     going: Patience<R>,
 }
 
 impl<R: Clock + Copy> Patient<R> {
-    /// The socket under these limits, at the stage that `stage` tells.
+    /// The socket with these limits, at the stage that `stage` holds. Errors: out of memory.
     pub fn new(
         rt: R,
         timers: &Handle,
         socket: TcpStream,
-        limits: Limits,
+        limits: StreamTimeouts,
         stage: SharedStage,
     ) -> Result<Patient<R>, AllocError> {
         Ok(Patient {
@@ -162,7 +160,7 @@ impl<R: Clock + Copy> Patient<R> {
 }
 
 impl<R: Clock + Drop> Patient<R> {
-    // Some octets came.
+    // Called after each read that did not block.
     fn note_read(&mut self)
         ensures { self.new.socket ≡ self.old.socket }
     {
@@ -176,6 +174,7 @@ impl<R: Clock + Drop> Patient<R> {
         }
     }
 
+    // Whether the peer has been silent for longer than the current stage allows.
     fn has_kept_silent(&mut self, cx: &mut Context<'_>) -> bool
         ensures socket { self.new.socket ≡ self.old.socket }
         ensures kept { Keeps cx.old cx.new }

@@ -1,15 +1,15 @@
-//! A text to a client that is not served.
+//! A text for a client that is refused.
 use crate::patient::Patient;
 use futures::task::{Context, Poll};
 use futures::{Future, ready};
 use std::time::Clock;
 use tokio::io::{AsyncRead, AsyncWrite};
 
-// How often octets that the client still sends are taken, so that the text is not lost with them.
+// The most reads of up to 1 KiB each that discard what the client still sends; closing with unread octets could lose the text.
 const MOST_READS: u32 = 64;
 
-/// Sends a client one text, ends its own side, and takes what the client still sends, at most 64
-/// KiB, until the client ends too or is still for too long.
+/// Sends a client one text, shuts down its own side, and discards what the client still sends, at most some 64 KiB, until the
+/// client closes or is silent for too long.
 #[derive(Drop)]
 pub struct Refusal<R> {
     socket: Patient<R>,
@@ -20,7 +20,7 @@ pub struct Refusal<R> {
 }
 
 impl<R: Clock + Drop> Refusal<R> {
-    /// Sends `text`, which has to be short: what a first write does not take is not sent.
+    /// Sends `text`, which has to be short: only one write is made, and what it does not take is not sent.
     pub fn new(socket: Patient<R>, text: Vec<u8>) -> Refusal<R> {
         Refusal {
             socket,

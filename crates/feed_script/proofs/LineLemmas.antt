@@ -1,4 +1,4 @@
--- How a text parts into lines.
+-- Splitting text into lines.
 use Rattle.std.proofs.Common.{◌≡◌, ℕ, ◌+◌, ◌-◌, ◌<◌, ◌≤◌, Bool, true, false, cond, List, [], ◌∷◌, ◌++◌, length, map, get_or, take, refl, ap, sym, ◌∙◌, arith, length-take, length-append, nat_eq}
 use Rattle.std.specs.List.{slice_split, onto_first}
 use Rattle.std.specs.Str.Lines.{lines, lines_of_parts, strip_carriage_return}
@@ -38,14 +38,14 @@ lines-break front rest h =
     ∙ ap (λ f. lines_of_parts (f ∷ slice_split is_break rest)) (append-nil' front)
     ∙ parts-cons front (slice_split is_break rest) more.0 more.1 more.2
 
--- a whole line, and the rest
+-- a complete line, and the rest
 pub script-break : (front rest : List ℕ) → NoBreak front → script_of (front ++ 10 ∷ rest) ≡ script_line (strip_carriage_return front) ∷ script_of rest
 script-break front rest h = ap (map script_line) (lines-break front rest h)
 
 one_part : (x : List ℕ) → 0 < length x → lines_of_parts (x ∷ []) ≡ x ∷ []
 one_part x h = grind arith
 
--- a last line with no break
+-- a last line without a line break
 pub script-end : (front : List ℕ) → NoBreak front → 0 < length front → script_of front ≡ script_line front ∷ []
 script-end front h some =
     ap (λ t. map script_line (lines t)) (sym (append-nil' front))
@@ -67,7 +67,7 @@ long_parts x [] h = ([], ap (map script_line) (one_part x (omega arith)) ∙ ap 
 long_parts x (y ∷ ys) h =
     (map script_line (lines_of_parts (y ∷ ys)), ap (λ l. l ∷ map script_line (lines_of_parts (y ∷ ys))) (long_line (strip_carriage_return x) (omega (arith, length-strip x))))
 
--- what begins a line that is too long, whatever follows
+-- a line that begins with too many octets is wrong, whatever follows
 pub script-long : (front rest : List ℕ) → NoBreak front → 262144 + 1 < length front → (ls : List ScriptLine) × (script_of (front ++ rest) ≡ wrong ∷ ls)
 script-long front rest h long =
     let more = split-nonempty rest in

@@ -1,4 +1,4 @@
--- A setting more, and the start.
+-- Adding a setting, and the start.
 use Rattle.std.proofs.Common.{◌≡◌, true, is_some, unwrap_or, Option, Some, None, List, [], ◌∷◌, ◌++◌, ap, sym, ◌∙◌, refl}
 use Rattle.neighbours.specs.declared.key.Key.{Key}
 use Rattle.neighbours.specs.declared.neighbour.Neighbour.{Neighbour}
@@ -14,9 +14,9 @@ use Rattle.feed_script.specs.declared.phase.Phase.TheVariants.{Before, Running}
 use Rattle.feed_script.specs.declared.station.Station.{Station}
 use Rattle.script_lines.specs.ScriptLine.{goes, allows, has_key, has_neighbour}
 use Rattle.feed_script.specs.Script.{is_misplaced, set_by, fixed_by}
-use Rattle.feed_script.specs.Ahead.{stage_of, standing_of, fixed_of, running, next, Moves}
+use Rattle.feed_script.specs.Ahead.{stage_of, script_phase_of, fixed_of, running, next, Moves}
 
--- a list of a configuration has one more at its end
+-- one more element at the end of a list of the settings
 pub with-network : (s : Setup) (new : List Network) (network : Network) → new ≡ s.settings.allowed ++ network ∷ []
     → record s { settings = record s.settings { allowed = new } } ≡ set_by s (allows network)
 with-network s new network e = λ i. record s { settings = record s.settings { allowed = e i } }
@@ -28,7 +28,7 @@ pub with-neighbour : (s : Setup) (new : List Neighbour) (neighbour : Neighbour) 
     → record s { neighbours = new } ≡ set_by s (has_neighbour neighbour)
 with-neighbour s new neighbour e = λ i. record s { neighbours = e i }
 
--- a fault that isn't want of memory is one of the settings
+-- a fault other than out of memory is a fault of the settings
 pub table-some : (found : Option NodeFault) (fault : NodeFault) (inner : ConfigFault) → fault ≡ Table inner → fault ≡ unwrap_or found NoMemory → is_some found ≡ true
 table-some None fault inner which is = absurd cc
 table-some (Some x) fault inner which is = refl
@@ -40,9 +40,9 @@ limits-some (Some x) fault which is = refl
 pub moves-go : (old : Phase) (config : Config) (station : Station) → old ≡ Before config → setup_fault (setup_of config) ≡ None
     → station.node ≡ opening (setup_of config) → fixed_of station ≡ fixed_by (setup_of config) → Moves old goes (Running station)
 moves-go old config station is fit node own = record {
-  placed = ap (λ p. is_misplaced (stage_of (standing_of p)) goes) is ∙ ap is_some fit;
+  placed = ap (λ p. is_misplaced (stage_of (script_phase_of p)) goes) is ∙ ap is_some fit;
   after =
       ap (running (fixed_of station)) node
       ∙ ap (λ e. running e (opening (setup_of config))) own
-      ∙ sym (ap (λ p. next (standing_of p) goes) is);
+      ∙ sym (ap (λ p. next (script_phase_of p) goes) is);
 }

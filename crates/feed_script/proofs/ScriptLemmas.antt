@@ -1,4 +1,4 @@
--- The text of a script, line by line.
+-- The text of a script, computed line by line.
 use Rattle.std.proofs.Common.{◌≡◌, ℕ, Bool, true, false, cond, is_some, List, [], ◌∷◌, ◌++◌, length, refl, ap, ◌∙◌, sym}
 use Rattle.bpf_check.specs.declared.checked.CheckFault.{CheckFault}
 use Rattle.filter_slots.specs.declared.slot.Slot.{Slot}
@@ -13,7 +13,7 @@ use Rattle.feed_script.specs.Printed.{actions_text, refuse_text, stats_text}
 use Rattle.feed_script.specs.Script.{setting, started, well_placed, usual, set_by, settings_from, after_go, Fixed, fixed_by, is_misplaced, event_of, events_of, woven, run_text, text}
 use Rattle.feed_script.specs.Ahead.{preparing, running, text_ahead}
 
--- what is known of a node: one event after another
+-- the laws of a node that takes events one after another
 pub record NodeLaws : Type 0 where
   pub taken : (old : State) (event : Happening) → HasTaken old (state_after old event) (event ∷ []) (actions_at old event ∷ [])
   pub more : (old mid new : State) (events : List Happening) (event : Happening) (outs : List (List Action)) (actions : List Action)
@@ -21,7 +21,7 @@ pub record NodeLaws : Type 0 where
   pub sent : (old : State) (event : Happening) (events : List Happening)
       → answers old.plain old.filters (event ∷ events) ≡ actions_at old event ∷ answers (state_after old event).plain (state_after old event).filters events
 
--- an event in its place, or not: the answers that come line by line are those that are woven, where those of the lines after it are
+-- an event, in place or not: the output line by line equals the woven output, if it does for the lines after the event
 ahead-event : (laws : NodeLaws) (start : State) (own : Fixed) (past : List Happening) (outs : List (List Action)) (mid : State) (o : Occurrence) (ls : List ScriptLine) (misplaced : Bool) → HasTaken start mid past outs
     → text_ahead (running own (state_after mid (event_of own o))) ls
     ≡ woven start own (past ++ event_of own o ∷ []) (well_placed (started own.neighbours) ls) (answers (state_after mid (event_of own o)).plain (state_after mid (event_of own o)).filters (events_of own (well_placed (started own.neighbours) ls)))
@@ -38,7 +38,7 @@ ahead-event laws start own past outs mid o ls false h next =
     ∙ ap (λ (node : PlainNode). actions_text node.fetches.list acts ++ later) took.plain
     ∙ ap (woven start own past (happens o ∷ rest)) (sym (laws.sent mid e (events_of own rest)))
 
--- the same of a refused program
+-- the same for a rejected program
 ahead-refusal : (start : State) (own : Fixed) (past : List Happening) (mid : State) (slot : Slot) (fault : CheckFault) (ls : List ScriptLine) (misplaced : Bool)
     → text_ahead (running own mid) ls ≡ woven start own past (well_placed (started own.neighbours) ls) (answers mid.plain mid.filters (events_of own (well_placed (started own.neighbours) ls)))
     → cond misplaced [] (refuse_text fault ++ text_ahead (running own mid) ls)
@@ -46,7 +46,7 @@ ahead-refusal : (start : State) (own : Fixed) (past : List Happening) (mid : Sta
 ahead-refusal start own past mid slot fault ls true next = refl
 ahead-refusal start own past mid slot fault ls false next = ap (λ t. refuse_text fault ++ t) next
 
--- the answers to all events, woven, are those that come line by line
+-- the woven output of all events equals the output line by line
 ahead-running : (laws : NodeLaws) (start : State) (own : Fixed) (past : List Happening) (outs : List (List Action)) (mid : State) (ls : List ScriptLine) → HasTaken start mid past outs
     → text_ahead (running own mid) ls ≡ woven start own past (well_placed (started own.neighbours) ls) (answers mid.plain mid.filters (events_of own (well_placed (started own.neighbours) ls)))
 ahead-running laws start own past outs mid [] h = refl
@@ -67,11 +67,11 @@ ahead-running laws start own past outs mid (inquires ∷ ls) h =
 ahead-running laws start own past outs mid (blank ∷ ls) h = ahead-running laws start own past outs mid ls h
 ahead-running laws start own past outs mid (wrong ∷ ls) h = refl
 
--- nothing was taken yet
+-- before the first event
 taken-nothing : (s : State) → HasTaken s s [] []
 taken-nothing s = record { plain = refl; filters = refl; stats = refl; sent = refl }
 
--- the start, where the settings have no fault, or a wrong line where they have one
+-- the start, if the settings are valid, or else a wrong line
 ahead-go : (laws : NodeLaws) (s : Setup) (ls : List ScriptLine) (faulty : Bool)
     → cond faulty [] ([] ++ text_ahead (running (fixed_by s) (opening s)) ls)
     ≡ run_text (settings_from s (cond faulty [] (goes ∷ well_placed (started (length s.neighbours)) ls))) (after_go (cond faulty [] (goes ∷ well_placed (started (length s.neighbours)) ls)))
@@ -89,6 +89,6 @@ ahead-setup laws s (inquires ∷ ls) = refl
 ahead-setup laws s (blank ∷ ls) = ahead-setup laws s ls
 ahead-setup laws s (wrong ∷ ls) = refl
 
--- what a fresh engine prints is the text of the script
+-- the output of a new engine is the text of the script
 pub text_ahead-fresh : NodeLaws → (b : List ℕ) → text_ahead (preparing usual) (script_of b) ≡ text b
 text_ahead-fresh laws b = ahead-setup laws usual (script_of b)

@@ -1,4 +1,4 @@
--- What a feed has read and written so far.
+-- What a run has read and written so far.
 use Rattle.std.proofs.Common.{◌≡◌, ℕ, inl, ◌+◌, ◌-◌, ◌<◌, ◌≤◌, min, Option, Some, None, IfSome, List, [], ◌++◌, length, take, drop, refl, ap, sym, ◌∙◌, arith, subst, append_assoc, length-append}
 use Rattle.std.proofs.lemmas.List.{append-nil, take-append-drop, take-append-le, length-take, length-drop}
 use Rattle.std.proofs.Math.Seq.{take-append_seam}
@@ -8,7 +8,7 @@ use Rattle.feed_script.specs.declared.engine.Stop.TheVariants.{Line}
 use Rattle.script_lines.specs.ScriptLine.{script_of}
 use Rattle.feed_script.specs.Script.{text, first_wrong, first_misplaced, usual}
 use Rattle.feed_script.specs.Written.{EndsWithBreak, NoBreak, WritesPrefix, WritesWhole}
-use Rattle.feed_script.specs.Ahead.{standing_of, stage_of, preparing, text_ahead, text_after, wrong_after, text_left, wrong_left, Takes, StopsBy, Ends, EndsBy, PrintsFront}
+use Rattle.feed_script.specs.Ahead.{script_phase_of, stage_of, preparing, text_ahead, text_after, wrong_after, text_left, wrong_left, Takes, StopsBy, Ends, EndsBy, PrintsFront}
 use Rattle.feed_script.specs.Told.{WritesFront}
 use Rattle.feed_script.proofs.EngineLemmas.{ended-append}
 use Rattle.feed_script.proofs.KnownOctets.{Appends-nil, Consumes-nil, Appends-trans, Consumes-trans, Consumes-kept}
@@ -40,7 +40,7 @@ pub record Told (input_old input_new output_old output_new : Option (List ℕ)) 
   pub reached : Reached e read written
   pub count : length read ≡ total
 
-pub told-start : ((b : List ℕ) → text_ahead (preparing usual) (script_of b) ≡ text b) → (a b : Option (List ℕ)) (e : Engine) → standing_of e.phase ≡ preparing usual → e.line.items ≡ [] → e.number ≡ 0
+pub told-start : ((b : List ℕ) → text_ahead (preparing usual) (script_of b) ≡ text b) → (a b : Option (List ℕ)) (e : Engine) → script_phase_of e.phase ≡ preparing usual → e.line.items ≡ [] → e.number ≡ 0
     → Told a a b b e 0
 told-start law a b e standing line number = record {
   read = [];
@@ -70,7 +70,7 @@ told-kept i j k o p e n told keeps = record {
   count = told.count;
 }
 
--- the engine took a piece that was read, and what it printed was written
+-- the engine took a chunk that was read, and its output was written
 pub told-takes : (i j k o p q : Option (List ℕ)) (e f : Engine) (piece printed : List ℕ) (n m : ℕ) → Told i j o p e n → Consumes j k piece → Takes e piece [] f printed → Appends p q printed
     → n + length piece ≡ m → Told i k o q f m
 told-takes i j k o p q e f piece printed n m told more takes written count = record {
@@ -100,7 +100,7 @@ told-takes i j k o p q e f piece printed n m told more takes written count = rec
   count = omega (arith, length-append told.read piece, told.count);
 }
 
--- no whole line is wrong, and their text was written
+-- no complete line is wrong, and their text was written
 pub whole-told : (i j o p : Option (List ℕ)) (e : Engine) (n : ℕ) → Told i j o p e n → WritesWhole i j o p
 whole-told i j o p e n told = record {
   whole = told.reached.whole;
@@ -117,7 +117,7 @@ whole-told i j o p e n told = record {
 take-front : (xs ys zs : List ℕ) → xs ++ ys ≡ zs → take (length xs) zs ≡ xs
 take-front xs ys zs e = ap (take (length xs)) (sym e) ∙ take-append_seam xs ys
 
--- what was written is a front of the text of what was read
+-- what was written is a prefix of the text of what was read
 prefix-from : (i j o p : Option (List ℕ)) (read front more : List ℕ) → length read ≤ 1000000001 → Consumes i j read → Appends o p front → front ++ more ≡ text read → WritesPrefix i j o p
 prefix-from i j o p read front more few consumed appended whole = record {
   read = read;
@@ -131,7 +131,7 @@ pub prefix-told : (i j o p : Option (List ℕ)) (e : Engine) (n : ℕ) → Told 
 prefix-told i j o p e n told few =
     prefix-from i j o p told.read told.written (text_left e []) (omega (arith, told.count)) told.consumed told.appended (says e told.read told.written told.reached [] ∙ ap text (append-nil told.read))
 
--- a piece was read, and a front of what it gives was written
+-- a chunk was read, and a prefix of its output was written
 pub prefix-shown : (i j k o p q : Option (List ℕ)) (e : Engine) (n : ℕ) (piece shown more : List ℕ) → Told i j o p e n → Consumes j k piece
     → text_left e piece ≡ shown ++ more → Appends p q shown → n + length piece ≤ 1000000001 → WritesPrefix i k o q
 prefix-shown i j k o p q e n piece shown more told consumed prints written few =
@@ -141,7 +141,7 @@ prefix-shown i j k o p q e n piece shown more told consumed prints written few =
     (Appends-trans o p q told.written shown told.appended written)
     (append_assoc told.written shown more ∙ ap (λ t. told.written ++ t) (sym prints) ∙ says e told.read told.written told.reached piece)
 
--- the input goes on as it will: this is its first wrong line
+-- this is the first wrong line, however the input continues
 pub line-stops : (i j k o p q : Option (List ℕ)) (e : Engine) (n : ℕ) (piece printed : List ℕ) (line : ℕ) → Told i j o p e n → Consumes j k piece
     → StopsBy e piece [] printed (Line line) → Appends p q printed → IfSome i (λ b. first_wrong b ≡ Some line) × IfSome i (λ b. Appends o q (text b))
 line-stops None j k o p q e n piece printed line told consumed stops written = (tt, tt)
@@ -177,7 +177,7 @@ pub ends-at-line : (i j o p q : Option (List ℕ)) (e : Engine) (n : ℕ) (print
     → IfSome i (λ b. first_wrong b ≡ Some line) × IfSome i (λ b. Appends o q (text b))
 ends-at-line i j o p q e n printed line told end ends written = at-end i j o p q e n printed (Some line) told end ends.0 ends.1 written
 
--- all that was read is all that there was
+-- all of the input was read
 pub all-read : (i j o p : Option (List ℕ)) (e : Engine) (n : ℕ) → Told i j o p e n → IsAtEnd j → n ≤ 1000000000 → IfSome i (λ b. length b ≤ 1000000000)
 all-read None j o p e n told end few = tt
 all-read (Some b) None o p e n told end few = absurd told.consumed
@@ -186,7 +186,7 @@ all-read (Some b) (Some ys) o p e n told end few =
     let size : length told.read ≡ length b = ap length whole in
     omega (arith, size, told.count, few)
 
--- a front of what was printed was written
+-- a prefix of the output was written
 pub front-cut : (e : Engine) (piece start printed bytes : List ℕ) (a b : Option (List ℕ)) (n : ℕ) → start ≡ [] → PrintsFront e piece start printed → bytes ≡ printed
     → Appends a b (take n bytes) → WritesFront e piece a b
 front-cut e piece start printed bytes a b n empty front same written = record {
@@ -207,7 +207,7 @@ pub record Turns (input_old input_new output_old output_new : Option (List ℕ))
   pub few : e.number ≤ total
   pub told : Told input_old input_new output_old output_new e total
 
--- a read that gave nothing
+-- a read that returned no octets
 pub told-empty : (i j k o p : Option (List ℕ)) (e : Engine) (n : ℕ) → Told i j o p e n → Consumes j k [] → Told i k o p e n
 told-empty i j k o p e n told consumed = record {
   read = told.read;
@@ -218,7 +218,7 @@ told-empty i j k o p e n told consumed = record {
   count = told.count;
 }
 
--- a read of n octets into the front of a chunk
+-- a read of n octets into the beginning of the buffer
 pub read-piece : (j k : Option (List ℕ)) (n : ℕ) (buf rest : List ℕ) → n ≤ length buf → Consumes j k (take n buf) → Consumes j k (take n (buf ++ rest))
 read-piece j k n buf rest inside consumed = let P : List ℕ → Type 0 = Consumes j k in subst P (sym (take-append-le n buf rest inside)) consumed
 
@@ -231,7 +231,7 @@ room-some room total chunk buf size most is same = omega (arith, length-take roo
 pub length-chunk : (room total : ℕ) (chunk buf : List ℕ) → length chunk ≡ 8192 → room ≡ min 8192 (1000000001 - total) → length buf ≡ length (take room chunk) → length (buf ++ drop room chunk) ≡ 8192
 length-chunk room total chunk buf size is same = omega (arith, length-take room chunk, length-append buf (drop room chunk), length-drop room chunk)
 
--- a read keeps the total below the limit and one
+-- after a read the total is at most one above the limit
 pub total-fits : (room total n : ℕ) (chunk buf : List ℕ) → length chunk ≡ 8192 → total ≤ 1000000000 → room ≡ min 8192 (1000000001 - total) → length buf ≡ length (take room chunk) → n ≤ length buf
     → total + n ≤ 1000000001
 total-fits room total n chunk buf size most is same inside = omega (arith, length-take room chunk)

@@ -1,10 +1,10 @@
-//! The engine takes the script piece by piece, and answers each line once it is whole.
+//! The engine: takes the script in chunks, and executes each line as soon as it is complete.
 ghost use Rattle.std.specs.Prelude.{◌≡◌, ◌≢◌, ◌+◌, ◌^◌, ◌<◌, ◌≤◌, [], ◌∷◌, length, true, Err, OnOk, OnErr, IfErr};
 ghost use Rattle.std.specs.Str.Lines.{strip_carriage_return};
 ghost use Rattle.script_lines.specs.ScriptLine.{script_line};
 ghost use Rattle.feed_script.specs.Script.{usual, is_misplaced};
 ghost use Rattle.feed_script.specs.Written.{NoBreak};
-ghost use Rattle.feed_script.specs.Ahead.{standing_of, stage_of, preparing, Obeys, Takes, StopsBy, Ends, EndsBy, PrintsFront};
+ghost use Rattle.feed_script.specs.Ahead.{script_phase_of, stage_of, preparing, Obeys, Takes, StopsBy, Ends, EndsBy, PrintsFront};
 
 use super::phase::{Phase, Unobeyed};
 use script_lines::{LINE_LIMIT, read_line};
@@ -17,7 +17,7 @@ pub(crate) enum Stop {
     NoMemory,
 }
 
-/// What has come of the next line, and how many lines came before it.
+/// The phase of the script, the incomplete current line, and the number of lines before it.
 #[derive(Drop)]
 pub(crate) struct Engine {
     phase: Phase,
@@ -25,7 +25,7 @@ pub(crate) struct Engine {
     number: u64,
 }
 
-// A line without the one carriage return at its end.
+// The line without a carriage return at its end; only one is removed.
 fn without_return(line: &[u8]) -> &[u8]
     ensures { result.now ≡ strip_carriage_return line.now }
 {
@@ -35,7 +35,7 @@ fn without_return(line: &[u8]) -> &[u8]
     }
 }
 
-// A line is read, and what it says is done. A refusal prints nothing.
+// Parses and executes a line. On an error nothing is appended to `out`.
 fn obey_line(
     phase: &mut Phase,
     alloc: Global,
@@ -43,7 +43,7 @@ fn obey_line(
     out: &mut Vec<u8>,
 ) -> Result<(), Unobeyed>
     ensures ok { OnOk result (Obeys phase.old (script_line text.now) out.old.items phase.new out.new.items) }
-    ensures wrong { result ≡ Err Unobeyed.Wrong → is_misplaced (stage_of (standing_of phase.old)) (script_line text.now) ≡ true }
+    ensures wrong { result ≡ Err Unobeyed.Wrong → is_misplaced (stage_of (script_phase_of phase.old)) (script_line text.now) ≡ true }
     ensures err { OnErr result (out.new.items ≡ out.old.items) }
 {
     match read_line(alloc, text) {
@@ -54,7 +54,7 @@ fn obey_line(
 
 impl Engine {
     pub(crate) fn new(alloc: Global) -> Engine
-        ensures phase { standing_of result.phase ≡ preparing usual }
+        ensures phase { script_phase_of result.phase ≡ preparing usual }
         ensures line { result.line.items ≡ [] }
         ensures number { result.number ≡ 0 }
     {
@@ -65,7 +65,7 @@ impl Engine {
         }
     }
 
-    // A line break comes.
+    // Handles a line break: executes the current line.
     fn break_line(&mut self, alloc: Global, out: &mut Vec<u8>) -> Result<(), Stop>
         requires few { self.old.number < 2 ^ 63 }
         requires partial { NoBreak self.old.line.items }
@@ -85,7 +85,7 @@ impl Engine {
         }
     }
 
-    // An octet comes that is no line break.
+    // Appends an octet other than a line break to the current line.
     fn extend_line(&mut self, c: u8, out: &Vec<u8>) -> Result<(), Stop>
         requires few { self.old.number < 2 ^ 63 }
         requires partial { NoBreak self.old.line.items }
@@ -103,7 +103,8 @@ impl Engine {
         }
     }
 
-    /// Takes the next piece of the script, and prints the answers to each line that is whole now.
+    /// Takes the next chunk of the script, executes each line that it completes, and appends the output to `out`.
+    /// Errors: the number of the first wrong line, or out of memory; `out` then holds the output of the lines executed before.
     pub(crate) fn take(
         &mut self,
         alloc: Global,
@@ -127,7 +128,7 @@ impl Engine {
         Ok(())
     }
 
-    /// The script has ended, perhaps with a line that has no break.
+    /// Ends the script: executes a last line that has no line break. Errors as for [`Engine::take`].
     pub(crate) fn finish(&mut self, alloc: Global, out: &mut Vec<u8>) -> Result<(), Stop>
         requires few { self.old.number < 2 ^ 63 }
         requires partial { NoBreak self.old.line.items }

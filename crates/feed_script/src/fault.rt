@@ -1,19 +1,19 @@
-//! Why a feed stops.
+//! Why [`feed`](crate::feed) fails.
 ghost use Rattle.std.specs.Prelude.{◌≡◌, Some};
 ghost use Rattle.std.specs.Fmt.{decimal};
 
 use std::fmt;
 
-/// Why a feed stops.
+/// Why [`feed`](crate::feed) fails.
 #[derive(Clone, Copy, Debug, PartialEq)]
 pub enum FeedFault {
-    /// The line of this number, counted from 1, is wrong.
+    /// The line with this number, counted from 1, is wrong.
     Line(u64),
-    /// The reader failed, or gave more than 1,000,000,000 octets.
+    /// The reader failed, or delivered more than 1,000,000,000 octets.
     Read,
     /// The writer failed.
     Write,
-    /// There was no memory.
+    /// Out of memory.
     NoMemory,
 }
 

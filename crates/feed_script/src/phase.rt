@@ -1,4 +1,4 @@
-//! Where a script stands, and what it obeys there.
+//! The two phases of a script: settings before `go`, events after it.
 ghost use Rattle.std.specs.Prelude.{◌≡◌, ◌≤◌, true, length, is_some, None, Err, OnOk, OnErr, IfOk};
 ghost use Rattle.bpf_run.specs.Packet.{most_payload};
 ghost use Rattle.plain_node.specs.Settings.{setup_fault, setup_of};
@@ -7,7 +7,7 @@ ghost use Rattle.node_core.specs.Happening.{happening};
 ghost use Rattle.script_lines.specs.Item.{script_line_of, IsShort};
 ghost use Rattle.script_lines.specs.ScriptLine.{sets, goes, happens, refuses, inquires, receives, takes, owns, allows, denies_fetches, uses_origins, limits, has_key, has_neighbour};
 ghost use Rattle.feed_script.specs.Script.{is_misplaced, set_by, usual, fixed_by};
-ghost use Rattle.feed_script.specs.Ahead.{stage_of, standing_of, fixed_of, preparing, Moves, Obeys};
+ghost use Rattle.feed_script.specs.Ahead.{stage_of, script_phase_of, fixed_of, preparing, Moves, Obeys};
 
 use super::station::Station;
 use bpf_check::CheckFault;
@@ -18,24 +18,34 @@ use script_lines::Item;
 use std::alloc::{AllocError, Global};
 use std::mem;
 
-/// The own address of a script that sets none.
+/// The node's address if the script sets none.
 const OWN_ADDRESS: [u8; 4] = [10, 0, 0, 1];
 
-/// Before the start there are settings, and after it a node.
+/// The phase of a script: settings before the start, a running node after it.
 #[derive(Drop)]
 pub(crate) enum Phase {
     Before(Config),
     Running(Station),
 }
 
-/// Why a line is not obeyed.
+/// Why a line is not executed: it is wrong where it stands, or there is no memory.
 #[derive(Clone, Copy)]
 pub(crate) enum Unobeyed {
     Wrong,
     Memory,
 }
 
-// The settings of a script that sets nothing.
+impl From<AllocError> for Unobeyed {
+    ghost use Rattle.feed_script.specs.declared.phase.Unobeyed.TheVariants as unobeyed;
+
+    ghost from_gives = { λ _ e. e ≡ unobeyed.Memory };
+
+    fn from(_: AllocError) -> Unobeyed {
+        Unobeyed::Memory
+    }
+}
+
+// The default settings.
 fn usual(alloc: Global) -> Config
     ensures { setup_of result ≡ usual }
 {
@@ -58,7 +68,7 @@ fn usual(alloc: Global) -> Config
     }
 }
 
-// A network more.
+// Adds a network to the settings.
 fn push_network(config: &mut Config, network: Network) -> Result<(), AllocError>
     ensures { OnOk result (setup_of config.new ≡ set_by (setup_of config.old) (allows network)) }
 {
@@ -66,7 +76,7 @@ fn push_network(config: &mut Config, network: Network) -> Result<(), AllocError>
     Ok(())
 }
 
-// A key more.
+// Adds a signing key to the settings.
 fn push_key(config: &mut Config, key: Key) -> Result<(), AllocError>
     ensures { OnOk result (setup_of config.new ≡ set_by (setup_of config.old) (has_key key)) }
 {
@@ -74,7 +84,7 @@ fn push_key(config: &mut Config, key: Key) -> Result<(), AllocError>
     Ok(())
 }
 
-// A neighbour more.
+// Adds a neighbour to the settings.
 fn push_neighbour(config: &mut Config, neighbour: Neighbour) -> Result<(), AllocError>
     ensures { OnOk result (setup_of config.new ≡ set_by (setup_of config.old) (has_neighbour neighbour)) }
 {
@@ -82,7 +92,7 @@ fn push_neighbour(config: &mut Config, neighbour: Neighbour) -> Result<(), Alloc
     Ok(())
 }
 
-// The station of a configuration.
+// Starts a node with these settings.
 fn started(alloc: Global, config: Config) -> Result<Station, Unobeyed>
     ensures node { IfOk result (λ station. station.node ≡ opening (setup_of config)) }
     ensures own { IfOk result (λ station. fixed_of station ≡ fixed_by (setup_of config)) }
@@ -92,10 +102,7 @@ fn started(alloc: Global, config: Config) -> Result<Station, Unobeyed>
     let (icp, htcp) = (config.icp, config.htcp);
     let neighbours = config.neighbours.len();
     match Node::new(alloc, config) {
-        Ok(node) => match Station::new(alloc, node, icp, htcp, neighbours) {
-            Ok(station) => Ok(station),
-            Err(_) => Err(Unobeyed::Memory),
-        },
+        Ok(node) => Ok(Station::new(alloc, node, icp, htcp, neighbours)?),
         Err(NodeFault::NoMemory) => Err(Unobeyed::Memory),
         Err(NodeFault::Table(_)) => Err(Unobeyed::Wrong),
         Err(NodeFault::Limits) => Err(Unobeyed::Wrong),
@@ -103,17 +110,17 @@ fn started(alloc: Global, config: Config) -> Result<Station, Unobeyed>
 }
 
 impl Phase {
-    /// The beginning of a script.
+    /// The phase at the beginning of a script: the default settings.
     pub(crate) fn new(alloc: Global) -> Phase
-        ensures { standing_of result ≡ preparing usual }
+        ensures { script_phase_of result ≡ preparing usual }
     {
         Phase::Before(usual(alloc))
     }
 
-    // An own address.
+    // Sets the address of both sockets.
     fn own(&mut self, addr: [u8; 4]) -> Result<(), Unobeyed>
         ensures ok { OnOk result (Moves self.old (sets (owns addr)) self.new) }
-        ensures wrong { result ≡ Err Unobeyed.Wrong → is_misplaced (stage_of (standing_of self.old)) (sets (owns addr)) ≡ true }
+        ensures wrong { result ≡ Err Unobeyed.Wrong → is_misplaced (stage_of (script_phase_of self.old)) (sets (owns addr)) ≡ true }
     {
         let Phase::Before(config) = self else {
             return Err(Unobeyed::Wrong);
@@ -123,24 +130,22 @@ impl Phase {
         Ok(())
     }
 
-    // One more network.
+    // Adds a network whose queries are answered.
     fn allow(&mut self, network: Network) -> Result<(), Unobeyed>
         ensures ok { OnOk result (Moves self.old (sets (allows network)) self.new) }
-        ensures wrong { result ≡ Err Unobeyed.Wrong → is_misplaced (stage_of (standing_of self.old)) (sets (allows network)) ≡ true }
+        ensures wrong { result ≡ Err Unobeyed.Wrong → is_misplaced (stage_of (script_phase_of self.old)) (sets (allows network)) ≡ true }
     {
         let Phase::Before(config) = self else {
             return Err(Unobeyed::Wrong);
         };
-        match push_network(config, network) {
-            Ok(()) => Ok(()),
-            Err(_) => Err(Unobeyed::Memory),
-        }
+        push_network(config, network)?;
+        Ok(())
     }
 
-    // Whether MISS_NOFETCH is answered in place of MISS.
+    // Sets whether MISS_NOFETCH is answered instead of MISS.
     fn set_nofetch(&mut self, on: bool) -> Result<(), Unobeyed>
         ensures ok { OnOk result (Moves self.old (sets (denies_fetches on)) self.new) }
-        ensures wrong { result ≡ Err Unobeyed.Wrong → is_misplaced (stage_of (standing_of self.old)) (sets (denies_fetches on)) ≡ true }
+        ensures wrong { result ≡ Err Unobeyed.Wrong → is_misplaced (stage_of (script_phase_of self.old)) (sets (denies_fetches on)) ≡ true }
     {
         let Phase::Before(config) = self else {
             return Err(Unobeyed::Wrong);
@@ -149,10 +154,10 @@ impl Phase {
         Ok(())
     }
 
-    // Whether objects are fetched from origins.
+    // Sets whether the node fetches from origin servers.
     fn set_origin(&mut self, on: bool) -> Result<(), Unobeyed>
         ensures ok { OnOk result (Moves self.old (sets (uses_origins on)) self.new) }
-        ensures wrong { result ≡ Err Unobeyed.Wrong → is_misplaced (stage_of (standing_of self.old)) (sets (uses_origins on)) ≡ true }
+        ensures wrong { result ≡ Err Unobeyed.Wrong → is_misplaced (stage_of (script_phase_of self.old)) (sets (uses_origins on)) ≡ true }
     {
         let Phase::Before(config) = self else {
             return Err(Unobeyed::Wrong);
@@ -161,10 +166,10 @@ impl Phase {
         Ok(())
     }
 
-    // The limits of the store.
+    // Sets the capacity of the store, in entries and octets.
     fn limit(&mut self, entries: u32, octets: u32) -> Result<(), Unobeyed>
         ensures ok { OnOk result (Moves self.old (sets (limits entries octets)) self.new) }
-        ensures wrong { result ≡ Err Unobeyed.Wrong → is_misplaced (stage_of (standing_of self.old)) (sets (limits entries octets)) ≡ true }
+        ensures wrong { result ≡ Err Unobeyed.Wrong → is_misplaced (stage_of (script_phase_of self.old)) (sets (limits entries octets)) ≡ true }
     {
         let Phase::Before(config) = self else {
             return Err(Unobeyed::Wrong);
@@ -174,38 +179,34 @@ impl Phase {
         Ok(())
     }
 
-    // One more key.
+    // Adds a signing key.
     fn add_key(&mut self, key: Key) -> Result<(), Unobeyed>
         ensures ok { OnOk result (Moves self.old (sets (has_key key)) self.new) }
-        ensures wrong { result ≡ Err Unobeyed.Wrong → is_misplaced (stage_of (standing_of self.old)) (sets (has_key key)) ≡ true }
+        ensures wrong { result ≡ Err Unobeyed.Wrong → is_misplaced (stage_of (script_phase_of self.old)) (sets (has_key key)) ≡ true }
     {
         let Phase::Before(config) = self else {
             return Err(Unobeyed::Wrong);
         };
-        match push_key(config, key) {
-            Ok(()) => Ok(()),
-            Err(_) => Err(Unobeyed::Memory),
-        }
+        push_key(config, key)?;
+        Ok(())
     }
 
-    // One more neighbour.
+    // Adds a neighbour.
     fn add_neighbour(&mut self, neighbour: Neighbour) -> Result<(), Unobeyed>
         ensures ok { OnOk result (Moves self.old (sets (has_neighbour neighbour)) self.new) }
-        ensures wrong { result ≡ Err Unobeyed.Wrong → is_misplaced (stage_of (standing_of self.old)) (sets (has_neighbour neighbour)) ≡ true }
+        ensures wrong { result ≡ Err Unobeyed.Wrong → is_misplaced (stage_of (script_phase_of self.old)) (sets (has_neighbour neighbour)) ≡ true }
     {
         let Phase::Before(config) = self else {
             return Err(Unobeyed::Wrong);
         };
-        match push_neighbour(config, neighbour) {
-            Ok(()) => Ok(()),
-            Err(_) => Err(Unobeyed::Memory),
-        }
+        push_neighbour(config, neighbour)?;
+        Ok(())
     }
 
-    // The start.
+    // Starts the node.
     fn go(&mut self, alloc: Global) -> Result<(), Unobeyed>
         ensures ok { OnOk result (Moves self.old goes self.new) }
-        ensures wrong { result ≡ Err Unobeyed.Wrong → is_misplaced (stage_of (standing_of self.old)) goes ≡ true }
+        ensures wrong { result ≡ Err Unobeyed.Wrong → is_misplaced (stage_of (script_phase_of self.old)) goes ≡ true }
     {
         let Phase::Before(config) = self else {
             return Err(Unobeyed::Wrong);
@@ -216,7 +217,7 @@ impl Phase {
         Ok(())
     }
 
-    // A datagram comes.
+    // Delivers a datagram to the node.
     fn receive(
         &mut self,
         alloc: Global,
@@ -228,22 +229,20 @@ impl Phase {
     ) -> Result<(), Unobeyed>
         requires { length payload.items ≤ most_payload }
         ensures ok { OnOk result (Obeys self.old (happens (receives socket from payload.items now)) out.old.items self.new out.new.items) }
-        ensures wrong { result ≡ Err Unobeyed.Wrong → is_misplaced (stage_of (standing_of self.old)) (happens (receives socket from payload.items now)) ≡ true }
+        ensures wrong { result ≡ Err Unobeyed.Wrong → is_misplaced (stage_of (script_phase_of self.old)) (happens (receives socket from payload.items now)) ≡ true }
         ensures err { OnErr result (out.new.items ≡ out.old.items) }
     {
         let Phase::Running(station) = self else {
             return Err(Unobeyed::Wrong);
         };
-        match station.receive(alloc, socket, from, payload, now, out) {
-            Ok(()) => Ok(()),
-            Err(_) => Err(Unobeyed::Memory),
-        }
+        station.receive(alloc, socket, from, payload, now, out)?;
+        Ok(())
     }
 
-    // An event that the line tells whole. One that names a slot that isn't there is a wrong line.
+    // Delivers any other event to the node. An event that names a slot the node lacks is a wrong line.
     fn take(&mut self, alloc: Global, event: &Event, out: &mut Vec<u8>) -> Result<(), Unobeyed>
         ensures ok { OnOk result (Obeys self.old (happens (takes (happening event.now))) out.old.items self.new out.new.items) }
-        ensures wrong { result ≡ Err Unobeyed.Wrong → is_misplaced (stage_of (standing_of self.old)) (happens (takes (happening event.now))) ≡ true }
+        ensures wrong { result ≡ Err Unobeyed.Wrong → is_misplaced (stage_of (script_phase_of self.old)) (happens (takes (happening event.now))) ≡ true }
         ensures err { OnErr result (out.new.items ≡ out.old.items) }
     {
         let Phase::Running(station) = self else {
@@ -252,16 +251,14 @@ impl Phase {
         if station.lacks(event) {
             return Err(Unobeyed::Wrong);
         }
-        match station.take(alloc, event, out) {
-            Ok(()) => Ok(()),
-            Err(_) => Err(Unobeyed::Memory),
-        }
+        station.take(alloc, event, out)?;
+        Ok(())
     }
 
-    // A program for a slot is refused. Without that slot it is a wrong line.
+    // Reports a program that the checker rejected. If the node lacks the slot, the line is wrong.
     fn refuse(&mut self, slot: Slot, fault: CheckFault, out: &mut Vec<u8>) -> Result<(), Unobeyed>
         ensures ok { OnOk result (Obeys self.old (refuses slot fault) out.old.items self.new out.new.items) }
-        ensures wrong { result ≡ Err Unobeyed.Wrong → is_misplaced (stage_of (standing_of self.old)) (refuses slot fault) ≡ true }
+        ensures wrong { result ≡ Err Unobeyed.Wrong → is_misplaced (stage_of (script_phase_of self.old)) (refuses slot fault) ≡ true }
         ensures err { OnErr result (out.new.items ≡ out.old.items) }
     {
         let Phase::Running(station) = self else {
@@ -270,28 +267,24 @@ impl Phase {
         if !station.has(slot) {
             return Err(Unobeyed::Wrong);
         }
-        match station.refuse(fault, out) {
-            Ok(()) => Ok(()),
-            Err(_) => Err(Unobeyed::Memory),
-        }
+        station.refuse(fault, out)?;
+        Ok(())
     }
 
-    // The counters are asked for.
+    // Prints the counters.
     fn tell(&mut self, out: &mut Vec<u8>) -> Result<(), Unobeyed>
         ensures ok { OnOk result (Obeys self.old inquires out.old.items self.new out.new.items) }
-        ensures wrong { result ≡ Err Unobeyed.Wrong → is_misplaced (stage_of (standing_of self.old)) inquires ≡ true }
+        ensures wrong { result ≡ Err Unobeyed.Wrong → is_misplaced (stage_of (script_phase_of self.old)) inquires ≡ true }
         ensures err { OnErr result (out.new.items ≡ out.old.items) }
     {
         let Phase::Running(station) = self else {
             return Err(Unobeyed::Wrong);
         };
-        match station.tell(out) {
-            Ok(()) => Ok(()),
-            Err(_) => Err(Unobeyed::Memory),
-        }
+        station.tell(out)?;
+        Ok(())
     }
 
-    /// What a line says is done. A refusal prints nothing.
+    /// Executes a parsed line. On an error nothing is appended to `out`.
     pub(crate) fn obey(
         &mut self,
         alloc: Global,
@@ -300,7 +293,7 @@ impl Phase {
     ) -> Result<(), Unobeyed>
         requires { IsShort item }
         ensures ok { OnOk result (Obeys self.old (script_line_of item) out.old.items self.new out.new.items) }
-        ensures wrong { result ≡ Err Unobeyed.Wrong → is_misplaced (stage_of (standing_of self.old)) (script_line_of item) ≡ true }
+        ensures wrong { result ≡ Err Unobeyed.Wrong → is_misplaced (stage_of (script_phase_of self.old)) (script_line_of item) ≡ true }
         ensures err { OnErr result (out.new.items ≡ out.old.items) }
     {
         match item {

@@ -1,4 +1,4 @@
-//! What is printed.
+//! The output format: actions, refusals and counters as text.
 ghost use Rattle.std.specs.Prelude.{◌≡◌, ◌++◌, codes, decimal, OnOk};
 ghost use Rattle.feed_script.specs.Printed.{action_text, actions_text, address_text, answer_text, cached_text, counters_text, end_text, field_text, key_text, octets_text, owner_text, place_text, refuse_text, socket_text, source_text, stats_text};
 
@@ -106,7 +106,7 @@ fn push_owner(out: &mut Vec<u8>, owner: Option<u64>) -> Result<(), AllocError>
     }
 }
 
-// The key of a pending fetch.
+// Appends the key of a pending fetch; nothing if there is no such fetch.
 fn push_key(out: &mut Vec<u8>, node: &Node, fetch: u32) -> Result<(), AllocError>
     ensures { OnOk result (out.new.items ≡ out.old.items ++ key_text node.now.plain.fetches.list fetch) }
 {
@@ -116,7 +116,7 @@ fn push_key(out: &mut Vec<u8>, node: &Node, fetch: u32) -> Result<(), AllocError
     }
 }
 
-// The place and the kind of an attempt.
+// Appends the numbers, source and kind of a fetch attempt.
 fn push_attempt(
     out: &mut Vec<u8>,
     fetch: u32,
@@ -137,7 +137,7 @@ fn push_attempt(
     push_cached(out, only_if_cached)
 }
 
-// Who owns a fetch, and its key.
+// Appends the owner of a fetch and its key.
 fn push_owned(
     out: &mut Vec<u8>,
     node: &Node,
@@ -194,7 +194,7 @@ fn push_fail(out: &mut Vec<u8>, status: u16) -> Result<(), AllocError>
     push_status(out, status)
 }
 
-// What a client is told.
+// Appends the answer to a client.
 fn push_answer(out: &mut Vec<u8>, alloc: Global, answer: &Answer) -> Result<(), AllocError>
     ensures { OnOk result (out.new.items ≡ out.old.items ++ answer_text answer.now) }
 {
@@ -271,7 +271,7 @@ fn push_action(
     }
 }
 
-/// The actions of one event, one a line, and then a full stop. The node is as it is after the event.
+/// Appends the actions of one event, one per line, then a line with a full stop. `node` is the node after the event.
 pub(crate) fn push_actions(
     out: &mut Vec<u8>,
     alloc: Global,
@@ -286,7 +286,7 @@ pub(crate) fn push_actions(
     out.extend_from_slice(b".\n")
 }
 
-// The place of a fault.
+// Appends the index of the faulty instruction, or `-`.
 fn push_place(out: &mut Vec<u8>, place: Option<usize>) -> Result<(), AllocError>
     ensures { OnOk result (out.new.items ≡ out.old.items ++ place_text place) }
 {
@@ -296,7 +296,7 @@ fn push_place(out: &mut Vec<u8>, place: Option<usize>) -> Result<(), AllocError>
     }
 }
 
-/// The line of a program that is refused.
+/// Appends the line for a rejected program.
 pub(crate) fn push_refusal(out: &mut Vec<u8>, fault: CheckFault) -> Result<(), AllocError>
     ensures { OnOk result (out.new.items ≡ out.old.items ++ refuse_text fault) }
 {
@@ -324,7 +324,7 @@ fn push_counters(out: &mut Vec<u8>, counters: Counters) -> Result<(), AllocError
     out.extend_from_slice(b"\n")
 }
 
-/// The counters of both sockets, a line each.
+/// Appends the counters of both sockets, one line each.
 pub(crate) fn push_stats(out: &mut Vec<u8>, stats: Stats) -> Result<(), AllocError>
     ensures { OnOk result (out.new.items ≡ out.old.items ++ stats_text stats) }
 {

@@ -1,4 +1,4 @@
-//! A node, and what it prints.
+//! A running node and its output.
 ghost use Rattle.std.specs.Prelude.{◌≡◌, ◌≤◌, ◌++◌, length, OnOk, OnErr, IfOk};
 ghost use Rattle.bpf_run.specs.Packet.{most_payload};
 ghost use Rattle.node_core.specs.Happening.{happening};
@@ -15,7 +15,7 @@ use node_core::{Event, Node, Out, step_law};
 use std::alloc::{AllocError, Global};
 use std::sync::Arc;
 
-/// A node, the own ends of its two sockets and how many neighbours it has, and room for the actions of one event and for their text.
+/// A running node: its two endpoints, its number of neighbours, and reused buffers for the actions of one event and their text.
 #[derive(Drop)]
 pub(crate) struct Station {
     node: Node,
@@ -27,8 +27,7 @@ pub(crate) struct Station {
 }
 
 impl Station {
-    /// A station of this node with these own ends and so many neighbours. An error says that there
-    /// was no memory.
+    /// Wraps a node with these endpoints and this number of neighbours. Errors: out of memory.
     pub(crate) fn new(
         alloc: Global,
         node: Node,
@@ -51,7 +50,7 @@ impl Station {
         })
     }
 
-    // The own end of a socket.
+    // The node's own endpoint for a socket.
     fn own_end(&self, socket: Socket) -> End
         ensures { result ≡ own_end (fixed_of self.now) socket }
     {
@@ -61,7 +60,7 @@ impl Station {
         }
     }
 
-    /// Whether the node has a slot.
+    /// Whether the node has this slot.
     pub(crate) fn has(&self, slot: Slot) -> bool
         ensures { result ≡ is_there (fixed_of self.now).neighbours slot }
     {
@@ -71,7 +70,7 @@ impl Station {
         }
     }
 
-    /// Whether an event names a slot that the node doesn't have.
+    /// Whether an event names a slot that the node lacks.
     pub(crate) fn lacks(&self, event: &Event) -> bool
         ensures { result ≡ lacks_slot (fixed_of self.now).neighbours (happening event.now) }
     {
@@ -81,7 +80,8 @@ impl Station {
         }
     }
 
-    /// The node takes an event, and its actions are printed.
+    /// Delivers an event to the node and appends the resulting actions to `out`. On an error nothing is appended.
+    /// Errors: out of memory.
     pub(crate) fn take(
         &mut self,
         alloc: Global,
@@ -102,7 +102,7 @@ impl Station {
         out.extend_from_slice(self.printed.as_slice())
     }
 
-    // The event that a datagram comes to the own end of its socket.
+    // The event that a datagram arrives at the node's endpoint for the socket.
     fn arrival(
         &self,
         alloc: Global,
@@ -121,7 +121,8 @@ impl Station {
         Ok(Event::Datagram { datagram, now })
     }
 
-    /// A datagram comes to the own end of its socket.
+    /// Delivers a datagram to the node's endpoint for the socket. On an error nothing is appended to `out`.
+    /// Errors: out of memory.
     pub(crate) fn receive(
         &mut self,
         alloc: Global,
@@ -143,7 +144,7 @@ impl Station {
         self.take(alloc, &event, out)
     }
 
-    /// A program is refused.
+    /// Reports a program that the checker rejected. On an error nothing is appended to `out`. Errors: out of memory.
     pub(crate) fn refuse(&mut self, fault: CheckFault, out: &mut Vec<u8>) -> Result<(), AllocError>
         ensures own { fixed_of self.new ≡ fixed_of self.old }
         ensures state { self.new.node ≡ self.old.node }
@@ -155,7 +156,7 @@ impl Station {
         out.extend_from_slice(self.printed.as_slice())
     }
 
-    /// The counters are asked for.
+    /// Prints the counters. On an error nothing is appended to `out`. Errors: out of memory.
     pub(crate) fn tell(&mut self, out: &mut Vec<u8>) -> Result<(), AllocError>
         ensures own { fixed_of self.new ≡ fixed_of self.old }
         ensures state { self.new.node ≡ self.old.node }

@@ -1,4 +1,4 @@
-//! A whole script, from any reader to any writer.
+//! Running a whole script, from any reader to any writer.
 ghost use Rattle.std.specs.Prelude.{◌≡◌, ℕ, ◌+◌, ◌^◌, ◌<◌, ◌≤◌, [], length, take, OnOk, OnErr, IfErr, IfSome, None, Some, Err};
 ghost use Rattle.std.specs.Io.KnownBytes.{Appends, IsAtEnd};
 ghost use Rattle.feed_script.specs.Script.{text, first_wrong};
@@ -11,13 +11,13 @@ use super::laws::text_law;
 use std::alloc::Global;
 use std::io::{ErrorKind, Read, Write};
 
-/// The most octets of a script.
+/// Maximum length of a script in octets.
 const SCRIPT_LIMIT: u64 = 1_000_000_000;
 
-/// The octets that are asked for at a time.
+/// Size of the read buffer in octets.
 const CHUNK: usize = 8192;
 
-// Writes all, or a front where the writer fails.
+// Writes all octets, or a prefix if the writer fails. Interrupted writes are retried.
 fn write_out<W: Write>(output: &mut W, bytes: &[u8]) -> Result<(), FeedFault>
     ensures ok { OnOk result (Appends (W.contents output.old) (W.contents output.new) bytes.now) }
     ensures err { OnErr result ((n : ℕ) × Appends (W.contents output.old) (W.contents output.new) (take n bytes.now)) }
@@ -41,7 +41,7 @@ fn write_out<W: Write>(output: &mut W, bytes: &[u8]) -> Result<(), FeedFault>
     Err(FeedFault::Write)
 }
 
-// The engine takes a piece, and what it prints is written.
+// Passes a chunk to the engine and writes its output.
 fn take_out<W: Write>(
     engine: &mut Engine,
     alloc: Global,
@@ -67,7 +67,7 @@ fn take_out<W: Write>(
     }
 }
 
-// The script has ended.
+// Ends the script: executes an incomplete last line, writes its output and flushes the writer.
 fn end_out<W: Write>(engine: &mut Engine, alloc: Global, output: &mut W) -> Result<(), FeedFault>
     requires few { engine.old.number < 2 ^ 63 }
     requires partial { NoBreak engine.old.line.items }
@@ -90,32 +90,34 @@ fn end_out<W: Write>(engine: &mut Engine, alloc: Global, output: &mut W) -> Resu
     }
 }
 
-/// Reads a script to its end, and writes the answers to its lines and nothing else. What is known is written before more is
-/// read, and the memory that is used doesn't grow with the script. After `Line` the lines before the wrong one are answered in
-/// full, after another fault a front of them.
+/// Reads a script to its end and writes the output of its lines, and nothing else. The output of all complete lines is written
+/// before more input is read. Memory use beyond the node's settings and state does not grow with the script.
+///
+/// Errors: [`FeedFault`]. After [`FeedFault::Line`] the output of all lines before the wrong one is written; after any other
+/// fault, a prefix of the output.
 pub fn feed<R: Read, W: Write>(
     alloc: Global,
     input: &mut R,
     output: &mut W,
 ) -> Result<(), FeedFault>
-    // No line is wrong, and exactly the text of the whole input was written.
+    // Success: no line is wrong, and exactly the text of the whole input was written.
     ensures right { OnOk result (IfSome (R.remaining input.old) (λ b. first_wrong b ≡ None)) }
     ensures written { OnOk result (IfSome (R.remaining input.old) (λ b.
         Appends (W.contents output.old) (W.contents output.new) (text b))) }
     ensures end { OnOk result (IsAtEnd (R.remaining input.new)) }
     ensures within { OnOk result (IfSome (R.remaining input.old) (λ b. length b ≤ 1000000000)) }
 
-    // It is the first wrong line, and the text before it was written.
+    // A wrong line: it is the first one, and the text of the lines before it was written.
     ensures line { (n : ℕ) → result ≡ Err (FeedFault.Line n) → IfSome (R.remaining input.old) (λ b.
         first_wrong b ≡ Some n) }
     ensures before { (n : ℕ) → result ≡ Err (FeedFault.Line n) → IfSome (R.remaining input.old) (λ b.
         Appends (W.contents output.old) (W.contents output.new) (text b)) }
 
-    // Where the reader fails or gives too much, no line that was read whole is wrong, and their text was written.
+    // The reader failed or delivered too much: no complete line was wrong, and the text of all complete lines was written.
     ensures whole { result ≡ Err FeedFault.Read → WritesWhole (R.remaining input.old) (R.remaining input.new)
         (W.contents output.old) (W.contents output.new) }
 
-    // After each fault, at most 1,000,000,001 octets were read, and a prefix of their text was written.
+    // Any fault: at most 1,000,000,001 octets were read, and a prefix of their text was written.
     ensures prefix { OnErr result (WritesPrefix (R.remaining input.old) (R.remaining input.new)
         (W.contents output.old) (W.contents output.new)) }
 {

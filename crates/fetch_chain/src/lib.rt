@@ -1,4 +1,8 @@
-//! Many jobs at the same time on one thread.
+//! Runs many jobs concurrently on one thread. How a job starts and what takes its result are behind traits.
+//!
+//! The contracts see only that the future of a job may be polled, and require a limit of at least one job.
+//!
+//! Tested by: crates/test_edge.
 #![tactic(auto)]
 
 ghost use Rattle.std.specs.Prelude.{◌<◌};
@@ -13,30 +17,30 @@ use std::sync::Wait;
 use std::time::Clock;
 use tokio::runtime::LocalRuntime;
 
-/// Begins jobs.
+/// Starts jobs.
 pub trait Begin: Drop {
-    /// What is to be done.
+    /// A job to be done.
     type Job: Drop;
 
-    /// What became of a job.
+    /// The result of a job.
     type Done: Drop;
 
-    /// A job under way.
+    /// A job in progress.
     type Running: Future<Output = Self::Done>;
 
-    /// Begins a job, as a future of its result.
+    /// Starts a job. Returns the future of its result.
     fn begin(&mut self, job: Self::Job) -> Self::Running
         ensures { Self.Running.can_poll result };
 }
 
 /// Takes results.
 pub trait Submit<T>: Drop {
-    /// Takes one result. No other job of the thread goes on meanwhile.
+    /// Takes one result. It blocks all other jobs of the thread until it returns.
     fn submit(&mut self, done: T);
 }
 
-/// Runs the jobs of a channel, at most `most` at the same time, until all senders are gone and the last job
-/// has ended. Each result goes to the seat as soon as it is there.
+/// Runs the jobs of a channel, at most `most` concurrently, until all its senders are gone and the last job has ended. Passes
+/// each result to `seat` as soon as it is ready. Errors: the event loop failed, or out of memory.
 pub fn run<R, B, S>(
     rt: &R,
     runtime: &mut LocalRuntime,

@@ -18,7 +18,7 @@ passing-twice None b c xs ys p q = q ∙ ap (option_map (passing ys)) p
 passing-twice (Some told) b c xs ys p q =
     q ∙ ap (option_map (passing ys)) p ∙ ap (λ (l : List Action). Some (record told { passed = l })) (append_assoc told.passed xs ys)
 
--- a front with one more
+-- a prefix with one more
 pub passes-more : (a b c : Option Told) (actions : List Action) (action : Action) (n : ℕ) → n < length actions → action ≡ get_or actions n action →
     b ≡ option_map (passing (filter is_no_send (take n actions))) a → c ≡ option_map (passing (filter is_no_send (action ∷ []))) b →
     c ≡ option_map (passing (filter is_no_send (take (n + 1) actions))) a
@@ -27,16 +27,16 @@ passes-more a b c actions action n lt is p q =
     let kept : filter is_no_send (take (n + 1) actions) ≡ filter is_no_send (take n actions) ++ filter is_no_send (action ∷ []) = ap (filter is_no_send) front ∙ filter-append is_no_send (take n actions) (action ∷ []) in
     passing-twice a b c (filter is_no_send (take n actions)) (filter is_no_send (action ∷ [])) p q ∙ ap (λ (l : List Action). option_map (passing l) a) (sym kept)
 
--- what is left behind a front
+-- what is left after a prefix
 pub front-left : (actions : List Action) (n : ℕ) → filter is_no_send actions ≡ filter is_no_send (take n actions) ++ filter is_no_send (drop n actions)
 front-left actions n = ap (filter is_no_send) (sym (take-append-drop n actions)) ∙ filter-append is_no_send (take n actions) (drop n actions)
 
--- a job that was not answered whole is some job
+-- a job that was not answered completely is some job
 pub breaks-stops : (a b : Option Told) (job : Action) → Breaks a b job → Stops a b
 breaks-stops a b job (inl same) = inl same
 breaks-stops a b job (inr some) = inr (job, some.0, some.1)
 
--- a result was taken, and of its actions a front was passed on
+-- a result was taken, and a prefix of its actions was passed on
 pub answered-in-part : (before mid between after : Option Told) (fetch attempt : ℕ) (outcome : Outcome) (actions shown done left : List Action)
     → mid ≡ before → FailsUnknown before fetch outcome → Submitted mid between fetch attempt outcome actions → shown ≡ actions
     → filter is_no_send shown ≡ done ++ left → after ≡ option_map (passing done) between → Answered before after fetch attempt left

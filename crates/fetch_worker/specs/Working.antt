@@ -1,4 +1,4 @@
--- What a fetch worker hands in for its jobs.
+-- What a fetch worker submits for its jobs.
 use Rattle.std.specs.Prelude.{◌≡◌, ◌⊎◌, ℕ, filter, List, [], ◌∷◌, ◌++◌, Option, None, IfSome}
 use Rattle.std.specs.Option.{option_map}
 use Rattle.pending_fetch.specs.Fetches.{fetch_of}
@@ -10,7 +10,7 @@ use Rattle.plain_node.specs.Memory.{is_no_send}
 use Rattle.node_core.specs.Happening.{ends}
 use Rattle.node_book.specs.Told.{Told, Submits, passing}
 
--- one result of this fetch and attempt was taken: the outcome, or that there is none
+-- one result of this fetch and attempt was taken: this outcome, or a failure
 pub record Submitted (before after : Option Told) (fetch attempt : ℕ) (outcome : Outcome) (actions : List Action) : Type 0 where
   pub said : Outcome
   pub now : ℕ
@@ -18,12 +18,12 @@ pub record Submitted (before after : Option Told) (fetch attempt : ℕ) (outcome
   pub taken : Submits before after number (ends fetch attempt said now) actions
   pub kept : (said ≡ outcome) ⊎ (said ≡ Failed)
 
--- where the clerk tells, a fetch that isn't pending has failed
+-- if the node is known, a fetch that isn't pending has failed
 abbrev pub FailsUnknown : Option Told → ℕ → Outcome → Type 0
 FailsUnknown told fetch outcome = IfSome told (λ (t : Told). fetch_of fetch t.state.plain.fetches.list ≡ None → outcome ≡ Failed)
 
--- One result of this fetch and attempt was taken, and of its actions that are no Sends all were passed on, in order, but those at the end
--- that are left.
+-- One result of this fetch and attempt was taken, and its actions that are not sends were passed on, in order, except for those
+-- in `left` at the end.
 pub record Answered (before after : Option Told) (fetch attempt : ℕ) (left : List Action) : Type 0 where
   pub between : Option Told
   pub outcome : Outcome
@@ -45,10 +45,10 @@ abbrev pub AnswersJobs : Option Told → Option Told → List Action → Type 0
 AnswersJobs before after [] = after ≡ before
 AnswersJobs before after (job ∷ jobs) = (between : Option Told) × AnswersJob before between job [] × AnswersJobs between after jobs
 
--- the last job was not answered whole: nothing was taken, or of its result's actions some were not passed on
+-- a job was not answered completely: nothing was taken, or some actions of its result were not passed on
 abbrev pub Breaks : Option Told → Option Told → Action → Type 0
 Breaks before after job = (after ≡ before) ⊎ ((left : List Action) × AnswersJob before after job left)
 
--- the same of any job, if there was one
+-- the same of some job, or there was none
 abbrev pub Stops : Option Told → Option Told → Type 0
 Stops before after = (after ≡ before) ⊎ ((last : Action) × (left : List Action) × AnswersJob before after last left)

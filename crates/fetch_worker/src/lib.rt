@@ -1,4 +1,8 @@
-//! A worker that fetches: it takes jobs one after another, fetches without holding anything, and hands the results to its clerk.
+//! A worker that answers a list of fetch jobs one at a time. `serve` doesn't run it: its fetches overlap (hyper_cache,
+//! cache_serve). The worker takes jobs from a channel, fetches while holding no lock, and submits each result to its clerk.
+//! Contracts see, of a clerk whose node is known, that each job is answered by one result, the outcome of its fetch or a failure,
+//! and that the actions of that result which are not sends are passed on in order.
+//! Tested by: crates/test_workers, must-fail edits.
 #![tactic(auto)]
 
 mod fetcher;

@@ -1,4 +1,4 @@
-//! Results of fetches, as they are handed to a clerk.
+//! Submitting the results of fetches to a clerk.
 ghost use Rattle.std.specs.Prelude.{◌≡◌, ◌≤◌, ◌+◌, [], OnOk, OnErr};
 ghost use Rattle.plain_node.specs.declared.event.Outcome.TheVariants as outcome;
 ghost use Rattle.fetch_worker.specs.Working.{Submitted};
@@ -12,16 +12,16 @@ use std::sync::Arc;
 use std::time::{Clock, SystemTime};
 use thiserror::Error;
 
-/// How often a result is handed in as a failure, where there was no memory for it.
+/// Number of tries to submit a failure in place of a result for which there was no memory.
 pub const MOST_TRIES: u32 = 1_000;
 
-/// Why a worker ended early.
+/// Errors of a worker.
 #[derive(Clone, Copy, Debug, PartialEq, Eq, Error)]
 pub enum WorkFault {
-    /// There was no memory to hand in a failure, or to pass an action on.
+    /// Allocation failure in submitting a failure or passing an action on.
     #[error("no memory")]
     NoMemory,
-    /// The clerk has taken all the events that it can number.
+    /// The clerk has no more event numbers.
     #[error("no event has a number any more")]
     Ended,
 }
@@ -41,15 +41,15 @@ impl From<SubmitFault> for WorkFault {
     }
 }
 
-/// An attempt of a fetch.
+/// An attempt of a fetch, by the numbers of both.
 #[derive(Clone, Copy)]
 pub(crate) struct Attempt {
     pub(crate) fetch: u32,
     pub(crate) attempt: u16,
 }
 
-/// Hands in the result of an attempt; where there is no memory for it, the same attempt as a failure, at most 1,000 times. The
-/// actions are in `out`. After an error nothing was taken.
+/// Submits the result of an attempt; on allocation failure submits the attempt as failed instead, in at most 1,000 tries. The
+/// actions are left in `out`. On error nothing was taken.
 pub(crate) fn submit_result<R: Clock, C: Clerk>(
     rt: &R,
     alloc: Global,
@@ -69,7 +69,7 @@ pub(crate) fn submit_result<R: Clock, C: Clerk>(
     }
 }
 
-/// Hands in that an attempt has failed, at most 1,000 times while there is no memory for it.
+/// Submits an attempt as failed, trying again on allocation failure, at most 1,000 times in all.
 fn submit_failure<R: Clock, C: Clerk>(
     rt: &R,
     alloc: Global,
@@ -91,7 +91,7 @@ fn submit_failure<R: Clock, C: Clerk>(
     Err(WorkFault::NoMemory)
 }
 
-/// Hands in the result of an attempt once.
+/// Tries once to submit the result of an attempt.
 fn submit_once<R: Clock, C: Clerk>(
     rt: &R,
     alloc: Global,
@@ -120,8 +120,8 @@ fn submit_once<R: Clock, C: Clerk>(
     }
 }
 
-/// The milliseconds since 1970. Where the clock can't be read, or is out of the range of a moment, the moment is 0, which moves
-/// no node's clock.
+/// The present time in milliseconds since 1970. Returns 0, which moves no node's clock, if the clock can't be read or is out of
+/// the range of a `Moment`.
 fn now<R: Clock>(rt: &R) -> Moment {
     match read(rt) {
         Some(now) => now,

@@ -1,4 +1,4 @@
-//! The life of a worker.
+//! The loop of a worker.
 ghost use Rattle.std.specs.Prelude.{◌≡◌, ◌≤◌, ◌+◌, ◌++◌, ◌∷◌, [], List, Option, OnOk, OnErr, filter};
 ghost use Rattle.std.specs.Option.{option_map};
 ghost use Rattle.plain_node.specs.declared.action.Action.{Action};
@@ -17,8 +17,8 @@ use std::alloc::Global;
 use std::sync::Wait;
 use std::time::Clock;
 
-/// Answers one job after another, until the channel is closed. Errors: there was no memory to hand in a failure or to pass an
-/// action on; the clerk can take no more events. What was done before stands.
+/// Answers jobs one after another until the channel is closed. Errors: allocation failure in submitting a failure or passing an
+/// action on; the clerk has no more event numbers. What was done before an error stands.
 pub fn work<R: Wait + Clock, F: Fetcher, G: Gate, C: Clerk>(
     rt: &R,
     alloc: Global,
@@ -41,9 +41,9 @@ pub fn work<R: Wait + Clock, F: Fetcher, G: Gate, C: Clerk>(
     Ok(())
 }
 
-/// Answers one job: asks the clerk for the key, fetches, lets the result wait at the gate, hands it in, and passes its actions
-/// on. A fetch without a key has failed; so has one whose result there is no memory for. Nothing is held while it fetches or waits.
-/// What is no Fetch is let go. Room for the actions is in `out`.
+/// Answers one job: asks the clerk for the key, fetches, waits at the gate, submits the result and passes its actions on. The
+/// fetch has failed if there is no key or no memory for its result. No lock is held while it fetches or waits. A job that is not
+/// a `Fetch` is ignored. `out` is a buffer for the actions. Errors: as `work`.
 pub fn answer<R: Clock, F: Fetcher, G: Gate, C: Clerk>(
     rt: &R,
     alloc: Global,
@@ -71,7 +71,7 @@ pub fn answer<R: Clock, F: Fetcher, G: Gate, C: Clerk>(
     Ok(())
 }
 
-/// What becomes of a fetch.
+/// Asks for the key of a fetch and fetches its object. The outcome is `Failed` if either is missing.
 fn outcome_of<F: Fetcher, C: Clerk>(
     alloc: Global,
     fetch: u32,
@@ -95,7 +95,7 @@ fn outcome_of<F: Fetcher, C: Clerk>(
     }
 }
 
-/// An object to be shared. Without memory it has failed.
+/// The outcome of a fetched object: a shared object, or `Failed` on allocation failure.
 fn shared(alloc: Global, object: Object) -> Outcome {
     match SharedObject::new(alloc, object) {
         Ok(object) => Outcome::Object(object),
@@ -103,7 +103,7 @@ fn shared(alloc: Global, object: Object) -> Outcome {
     }
 }
 
-/// Passes actions that are no Sends on, in order. An error says that there was no memory: a front of them was passed on.
+/// Passes on the actions that are not sends, in order. Errors: allocation failure; a prefix of them was passed on.
 fn pass_on<C: Clerk>(alloc: Global, clerk: &mut C, actions: &[Action]) -> Result<(), NoMemory>
     ensures all { OnOk result (C.told clerk.new ≡ option_map (passing (filter is_no_send actions.now)) (C.told clerk.old)) }
     ensures some { OnErr result ((done : List Action) × (left : List Action) × (filter is_no_send actions.now ≡ done ++ left) ×
@@ -116,7 +116,7 @@ fn pass_on<C: Clerk>(alloc: Global, clerk: &mut C, actions: &[Action]) -> Result
     Ok(())
 }
 
-/// Passes an action on that is no Send.
+/// Passes an action on unless it is a send.
 fn pass_one<C: Clerk>(alloc: Global, clerk: &mut C, action: &Action) -> Result<(), NoMemory>
     ensures done { OnOk result (C.told clerk.new ≡ option_map (passing (filter is_no_send (action.now ∷ []))) (C.told clerk.old)) }
     ensures refused { OnErr result (C.told clerk.new ≡ C.told clerk.old) }

@@ -1,4 +1,4 @@
--- Chains of the places in one bucket.
+-- Chains of entries in one bucket.
 use Rattle.std.proofs.Common.{◌≡◌, ◌≢◌, ℕ, zero, suc, ◌+◌, ◌<◌, ◌≤◌, ◌⊎◌, inl, inr, List, [], ◌∷◌, ◌++◌, length, map, get_or, Option, Some, None, refl, sym, ap, ◌∙◌, subst, arith, rules, length-append}
 use Rattle.std.specs.Prelude.{slice_get, slice_set, replicate, IsTrue, false}
 use Rattle.std.specs.Option.{option_map}
@@ -13,13 +13,13 @@ use Rattle.filter_slots.specs.Senders.{pair_of, bucket_of, buckets, IsLast, AreC
 below_or_at : (m n : ℕ) → m < n + 1 → (m < n) ⊎ (m ≡ n)
 below_or_at m n lt = grind arith
 
--- a list with one more element: the places before are the same
+-- appending an element keeps the earlier ones
 slice_get-before : {A : Type 0} (xs : List A) (x : A) (m : ℕ) → m < length xs → slice_get (xs ++ x ∷ []) m ≡ slice_get xs m
 slice_get-before [] x m lt = absurd (omega arith)
 slice_get-before (y ∷ xs) x zero lt = refl
 slice_get-before (y ∷ xs) x (suc m) lt = slice_get-before xs x m (omega arith)
 
--- and its last place has it
+-- and puts it last
 slice_get-last : {A : Type 0} (xs : List A) (x : A) → slice_get (xs ++ x ∷ []) (length xs) ≡ Some x
 slice_get-last [] x = refl
 slice_get-last (y ∷ xs) x = slice_get-last xs x
@@ -32,19 +32,19 @@ length-map' : {A B : Type 0} (f : A → B) (xs : List A) → length (map f xs) �
 length-map' f [] = refl
 length-map' f (x ∷ xs) = ap suc (length-map' f xs)
 
--- the bucket at a place
+-- the bucket of an entry
 bucket_at : (senders : List Sender) (n : ℕ) (sender : Sender) → slice_get senders n ≡ Some sender → get_or (buckets senders) n 256 ≡ bucket_of sender.end
 bucket_at [] n sender is = let no : ⊥ = cc in absurd no
 bucket_at (x ∷ senders) zero sender is = let e : x ≡ sender = cc in ap (λ (s : Sender). bucket_of s.end) e
 bucket_at (x ∷ senders) (suc n) sender is = bucket_at senders n sender is
 
--- the bucket at a place of a pair
+-- the bucket of an entry with this pair
 pub bucket_at_pair : (senders : List Sender) (n : ℕ) (pair : Socket × End) → slice_get (map pair_of senders) n ≡ Some pair → get_or (buckets senders) n 256 ≡ bucket_of pair.1
 bucket_at_pair [] n pair is = let no : ⊥ = cc in absurd no
 bucket_at_pair (x ∷ senders) zero pair is = let e : pair_of x ≡ pair = cc in ap (λ (p : Socket × End). bucket_of p.1) e
 bucket_at_pair (x ∷ senders) (suc n) pair is = bucket_at_pair senders n pair is
 
--- with one more place, the last of those before a limit is the same
+-- a new entry does not change the last one before a limit
 last-longer : (xs : List ℕ) (x limit bucket : ℕ) (link : Option ℕ) → limit ≤ length xs → IsLast xs limit bucket link → IsLast (xs ++ x ∷ []) limit bucket link
 last-longer xs x limit bucket None fits last =
     λ m before is. last m before (sym (get_or_append_left xs (x ∷ []) 256 m (omega arith)) ∙ is)
@@ -54,7 +54,7 @@ last-longer xs x limit bucket (Some n) fits last = (
   λ m after before is. last.2 m after before (sym (get_or_append_left xs (x ∷ []) 256 m (omega arith)) ∙ is),
 )
 
--- with one more place of another bucket, the last is the same
+-- a new entry of another bucket does not change the last one of this bucket
 last-other : (xs : List ℕ) (x bucket : ℕ) (link : Option ℕ) → x ≢ bucket → IsLast xs (length xs) bucket link → IsLast (xs ++ x ∷ []) (length xs + 1) bucket link
 last-other xs x bucket None differs last =
     λ m before is. elim (below_or_at m (length xs) before) [
@@ -70,46 +70,46 @@ last-other xs x bucket (Some n) differs last = (
   ],
 )
 
--- the last of the new place's bucket is the new place
+-- a new entry is the last one of its bucket
 last-same : (xs : List ℕ) (x n : ℕ) → n ≡ length xs → IsLast (xs ++ x ∷ []) (length xs + 1) x (Some n)
 last-same xs x n e = (omega arith, get_or_push xs x 256 n (sym e), λ m after before is. omega arith)
 
--- what the last place has
+-- the appended element
 pushed : {A : Type 0} (xs : List A) (x y : A) (n : ℕ) → n ≡ length xs → slice_get (xs ++ x ∷ []) n ≡ Some y → y ≡ x
 pushed xs x y n e at = let q = sym at ∙ ap (slice_get (xs ++ x ∷ [])) e ∙ slice_get-last xs x in cc
 
--- what a place before has
+-- an earlier element
 kept_at : {A : Type 0} (xs : List A) (x y : A) (n : ℕ) → n < length xs → slice_get (xs ++ x ∷ []) n ≡ Some y → slice_get xs n ≡ Some y
 kept_at xs x y n lt at = sym (slice_get-before xs x n lt) ∙ at
 
--- a place of a list with one more element
-place_of : {A : Type 0} (xs : List A) (x y : A) (n : ℕ) → slice_get (xs ++ x ∷ []) n ≡ Some y → (n < length xs) ⊎ (n ≡ length xs)
-place_of xs x y n at =
+-- an index of the longer list is an earlier index or the new one
+index_in_appended : {A : Type 0} (xs : List A) (x y : A) (n : ℕ) → slice_get (xs ++ x ∷ []) n ≡ Some y → (n < length xs) ⊎ (n ≡ length xs)
+index_in_appended xs x y n at =
     let below = slice_get_within (xs ++ x ∷ []) n y at in
     let lt : n < length xs + 1 = rw (sym (length-append xs (x ∷ []))) below in
     below_or_at n (length xs) lt
 
 apart-push : (pairs : List (Socket × End)) (pair : Socket × End) → ((n : ℕ) → slice_get pairs n ≡ Some pair → ⊥) → AreNeighbours pairs
     → (m n : ℕ) (p : Socket × End) → slice_get (pairs ++ pair ∷ []) m ≡ Some p → slice_get (pairs ++ pair ∷ []) n ≡ Some p → m ≡ n
-apart-push pairs pair absent old m n p at_m at_n = elim (place_of pairs pair p m at_m) [
-  | inl m_in ↦ (elim (place_of pairs pair p n at_n) [
+apart-push pairs pair absent old m n p at_m at_n = elim (index_in_appended pairs pair p m at_m) [
+  | inl m_in ↦ (elim (index_in_appended pairs pair p n at_n) [
     | inl n_in ↦ old.apart m n p (kept_at pairs pair p m m_in at_m) (kept_at pairs pair p n n_in at_n)
     | inr n_is ↦ absurd (absent m (kept_at pairs pair p m m_in at_m ∙ ap Some (pushed pairs pair p n n_is at_n)))
   ])
-  | inr m_is ↦ (elim (place_of pairs pair p n at_n) [
+  | inr m_is ↦ (elim (index_in_appended pairs pair p n at_n) [
     | inl n_in ↦ absurd (absent n (kept_at pairs pair p n n_in at_n ∙ ap Some (pushed pairs pair p m m_is at_m)))
     | inr n_is ↦ m_is ∙ sym n_is
   ])
 ]
 
--- one more neighbour, of whom there is none
+-- a new neighbour that the list does not have
 neighbours-push : (pairs : List (Socket × End)) (pair : Socket × End) → length pairs < 64 → ((n : ℕ) → slice_get pairs n ≡ Some pair → ⊥) → AreNeighbours pairs → AreNeighbours (pairs ++ pair ∷ [])
 neighbours-push pairs pair room absent old = record {
   few = rw (length-append pairs (pair ∷ [])) (omega arith);
   apart = apart-push pairs pair absent old;
 }
 
--- no two of one pair
+-- a neighbour cannot be added twice
 pub repeated : (pairs : List (Socket × End)) (pair : Socket × End) (n : ℕ) → slice_get pairs n ≡ Some pair → AreNeighbours (pairs ++ pair ∷ []) → ⊥
 repeated pairs pair n at all =
     let lt = slice_get_within pairs n pair at in
@@ -142,7 +142,7 @@ befores-push : (senders : List Sender) (last : List (Option ℕ)) (sender : Send
 befores-push senders last sender within is old n one at =
     let here : ℕ = bucket_of sender.end in
     let count = length-map' (λ (s : Sender). bucket_of s.end) senders in
-    elim (place_of senders sender one n at) [
+    elim (index_in_appended senders sender one n at) [
       | inl inside ↦ last-longer (buckets senders) here n (bucket_of one.end) one.before (omega arith) (old.befores n one (kept_at senders sender one n inside at))
       | inr e ↦
           subst (λ (s : Sender). IsLast (buckets senders ++ here ∷ []) n (bucket_of s.end) s.before) (sym (pushed senders sender one n e at))
@@ -167,7 +167,7 @@ chained-pushed senders last sender n long within before is room absent old =
       befores = λ m one at. rw more (befores-push senders last sender within before old m one at);
     }
 
--- the same where these are given by equations
+-- the same, with the values given by equations
 pub chained-push : (senders after : List Sender) (pairs : List (Socket × End)) (last : List (Option ℕ)) (sender : Sender) (bucket n : ℕ)
     → after ≡ senders ++ sender ∷ [] → pairs ≡ map pair_of senders → bucket ≡ bucket_of sender.end
     → length last ≡ 256 → bucket < 256 → sender.before ≡ get_or last bucket None → n ≡ length senders → length pairs < 64
@@ -193,7 +193,7 @@ chained-none senders last e f =
       befores = λ n sender at. let no : ⊥ = cc in absurd no;
     })
 
--- a pair that isn't at the last place of its bucket is before it
+-- a pair that is not the last entry of its bucket is before it
 pub later-step : (senders : List Sender) (limit n : ℕ) (pair : Socket × End) → ((m : ℕ) → slice_get (map pair_of senders) m ≡ Some pair → m < limit)
     → IsLast (buckets senders) limit (bucket_of pair.1) (Some n) → (slice_get (map pair_of senders) n ≡ Some pair → ⊥)
     → (m : ℕ) → slice_get (map pair_of senders) m ≡ Some pair → m < n
@@ -207,20 +207,20 @@ later-step senders limit n pair later last differs m at =
       ])
     ]
 
--- and the link of that place leads to the last one before it
+-- and the link of that entry leads to the last one before it
 pub last-step : (senders : List Sender) (last : List (Option ℕ)) (limit n bucket : ℕ) (sender : Sender) → AreChained senders last
     → slice_get senders n ≡ Some sender → IsLast (buckets senders) limit bucket (Some n) → IsLast (buckets senders) n bucket sender.before
 last-step senders last limit n bucket sender chained at is =
     subst (λ b. IsLast (buckets senders) n b sender.before) (sym (bucket_at senders n sender at) ∙ is.1) (chained.befores n sender at)
 
--- the pair at a place
+-- the pair of an entry
 pub pair_at : (senders : List Sender) (n : ℕ) (sender : Sender) → slice_get senders n ≡ Some sender → slice_get (map pair_of senders) n ≡ Some (pair_of sender)
 pair_at senders n sender at = slice_get-map pair_of senders n ∙ ap (option_map pair_of) at
 
 some-injective : {A : Type 0} (x y : A) → Some x ≡ Some y → x ≡ y
 some-injective x y e = cc
 
--- a step of a walk along a chain: the link of a place leads to the last one before it
+-- a step along a chain: the link of an entry leads to the last one before it
 pub walk-last : (senders seen : List Sender) (last : List (Option ℕ)) (limit n bucket : ℕ) (link : Option ℕ) (d : Sender) → AreChained senders last
     → seen ≡ senders → limit ≤ length senders → link ≡ Some n → IsLast (buckets senders) limit bucket link → IsLast (buckets senders) n bucket (get_or seen n d).before
 walk-last senders seen last limit n bucket link d chained e within f is =
@@ -229,7 +229,7 @@ walk-last senders seen last limit n bucket link d chained e within f is =
     let at : slice_get senders n ≡ Some (get_or seen n d) = slice_get-get_or senders n d (omega arith) ∙ ap (λ (xs : List Sender). Some (get_or xs n d)) (sym e) in
     last-step senders last limit n bucket (get_or seen n d) chained at at_some
 
--- and a pair that isn't at the place is before it
+-- and a pair that is not this entry is before it
 pub walk-later : (senders seen : List Sender) (limit n : ℕ) (pair : Socket × End) (link : Option ℕ) (d : Sender)
     → seen ≡ senders → limit ≤ length senders → link ≡ Some n → IsLast (buckets senders) limit (bucket_of pair.1) link → (pair_of (get_or seen n d) ≡ pair → IsTrue false)
     → ((m : ℕ) → slice_get (map pair_of senders) m ≡ Some pair → m < limit)
@@ -240,12 +240,12 @@ walk-later senders seen limit n pair link d e within f is differs later =
     let at : slice_get senders n ≡ Some (get_or seen n d) = slice_get-get_or senders n d (omega arith) ∙ ap (λ (xs : List Sender). Some (get_or xs n d)) (sym e) in
     later-step senders limit n pair later at_some (λ is_there. let q = sym (pair_at senders n (get_or seen n d) at) ∙ is_there in let no = differs (some-injective (pair_of (get_or seen n d)) pair q) in cc)
 
--- a place of a walk is within the list
+-- the indices of a chain are in range
 pub walk-within : (bs : List ℕ) (limit n bucket : ℕ) (link : Option ℕ) → link ≡ Some n → IsLast bs limit bucket link → n < limit
 walk-within bs limit n bucket link f is =
     let at_some : IsLast bs limit bucket (Some n) = subst (IsLast bs limit bucket) f is in at_some.0
 
--- where a walk ends, the pair is nowhere
+-- if the chain ends, the table does not have the pair
 pub walk-end : (senders : List Sender) (limit : ℕ) (pair : Socket × End) (link : Option ℕ) → link ≡ None → IsLast (buckets senders) limit (bucket_of pair.1) link
     → ((m : ℕ) → slice_get (map pair_of senders) m ≡ Some pair → m < limit)
     → (m : ℕ) → slice_get (map pair_of senders) m ≡ Some pair → ⊥
@@ -253,12 +253,12 @@ walk-end senders limit pair link f is later m at =
     let at_none : IsLast (buckets senders) limit (bucket_of pair.1) None = subst (IsLast (buckets senders) limit (bucket_of pair.1)) f is in
     at_none m (later m at) (bucket_at_pair senders m pair at)
 
--- how many places are left to walk to, at most
+-- an upper bound of the remaining steps
 abbrev pub places_left : Option ℕ → ℕ
 places_left None = 0
 places_left (Some n) = n + 1
 
--- they become fewer
+-- it decreases
 walk-fewer : (bs : List ℕ) (n bucket : ℕ) (link : Option ℕ) → IsLast bs n bucket link → places_left link < n + 1
 walk-fewer bs n bucket None is = omega arith
 walk-fewer bs n bucket (Some m) is = let lt = is.0 in omega arith
@@ -266,7 +266,7 @@ walk-fewer bs n bucket (Some m) is = let lt = is.0 in omega arith
 pub walk-smaller : (bs : List ℕ) (n bucket : ℕ) (link next : Option ℕ) → link ≡ Some n → IsLast bs n bucket next → places_left next < places_left link
 walk-smaller bs n bucket link next f is = rw f (walk-fewer bs n bucket next is)
 
--- where the table has no place for a bucket, no pair is in it
+-- an empty bucket has no pair
 pub empty-bucket : (senders : List Sender) (last : List (Option ℕ)) (pair : Socket × End) (link : Option ℕ) → AreChained senders last
     → bucket_of pair.1 < 256 → get_or last (bucket_of pair.1) None ≡ link → link ≡ None
     → (m : ℕ) → slice_get (map pair_of senders) m ≡ Some pair → ⊥

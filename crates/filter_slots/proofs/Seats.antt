@@ -18,7 +18,7 @@ use Rattle.filter_slots.specs.Verdict.{sockets_program, neighbours_program}
 use Rattle.filter_slots.specs.Filters.{Filters, AreAccepted, slot, AreNeighbours, NeighbourSlot, empty_slot, program_at, with_program, program_for, is_of, same_socket}
 use Rattle.filter_slots.specs.Senders.{seated}
 
--- without programs
+-- slots without programs
 pub seated-empty : {A : Type 0} (f : A → Option (List Insn)) (x : A) → f x ≡ None → (pairs : List (Socket × End)) (n : ℕ) → seated pairs (map f (replicate n x)) ≡ map empty_slot pairs
 seated-empty f x e [] n = refl
 seated-empty f x e (pair ∷ pairs) zero = ap (λ rest. empty_slot pair ∷ rest) (seated-empty f x e pairs zero)
@@ -31,7 +31,7 @@ length-seated [] programs = refl
 length-seated (pair ∷ pairs) [] = ap suc (length-seated pairs [])
 length-seated (pair ∷ pairs) (program ∷ programs) = ap suc (length-seated pairs programs)
 
--- what stands at a place
+-- the program at an index
 pub seated-some : {A : Type 0} (f : A → Option (List Insn)) (pairs : List (Socket × End)) (items : List A) (n : ℕ) (x : A) → length items ≡ length pairs
     → slice_get items n ≡ Some x → program_at (seated pairs (map f items)) n ≡ f x
 seated-some f [] [] n x same at = let no : ⊥ = cc in absurd no
@@ -40,14 +40,14 @@ seated-some f (pair ∷ pairs) [] n x same at = absurd (omega (arith, same))
 seated-some f (pair ∷ pairs) (y ∷ items) zero x same at = let e : y ≡ x = cc in ap f e
 seated-some f (pair ∷ pairs) (y ∷ items) (suc n) x same at = seated-some f pairs items n x (omega (arith, same)) at
 
--- nothing stands behind the last place
+-- no program past the last index
 pub seated-none : (pairs : List (Socket × End)) (programs : List (Option (List Insn))) (n : ℕ) → length pairs ≤ n → program_at (seated pairs programs) n ≡ None
 seated-none [] programs n beyond = refl
 seated-none (pair ∷ pairs) programs zero beyond = absurd (omega arith)
 seated-none (pair ∷ pairs) [] (suc n) beyond = seated-none pairs [] n (omega arith)
 seated-none (pair ∷ pairs) (program ∷ programs) (suc n) beyond = seated-none pairs programs n (omega arith)
 
--- another program at a place
+-- replacing the program at an index
 pub seated-with : {A : Type 0} (f : A → Option (List Insn)) (pairs : List (Socket × End)) (items : List A) (n : ℕ) (x : A) → length items ≡ length pairs
     → seated pairs (map f (slice_set items n x)) ≡ with_program (seated pairs (map f items)) n (f x)
 seated-with f [] items n x same = refl
@@ -56,7 +56,7 @@ seated-with f (pair ∷ pairs) (y ∷ items) zero x same = refl
 seated-with f (pair ∷ pairs) (y ∷ items) (suc n) x same =
     ap (λ rest. (record { socket = pair.0; end = pair.1; program = f y }) ∷ rest) (seated-with f pairs items n x (omega (arith, same)))
 
--- another program behind the last place
+-- replacing a program past the last index changes nothing
 pub seated-beyond : (pairs : List (Socket × End)) (programs : List (Option (List Insn))) (n : ℕ) (program : Option (List Insn)) → length pairs ≤ n
     → with_program (seated pairs programs) n program ≡ seated pairs programs
 seated-beyond [] programs n program beyond = refl
@@ -92,7 +92,7 @@ as_end addr port = record { addr = addr; port = port }
 abbrev pair_up : Socket → End → Socket × End
 pair_up socket end = (socket, end)
 
--- the slot is of the pair that it has
+-- a slot belongs to its own pair
 pub of_pair : (neighbour : NeighbourSlot) (socket : Socket) (from : End) → is_of neighbour socket from ≡ true → ◌≡◌ {A = Socket × End} (neighbour.socket, neighbour.end) (socket, from)
 of_pair neighbour socket from e =
     let last = both_true (same_socket neighbour.socket socket && bytes_eq neighbour.end.addr from.addr) (neighbour.end.port == from.port) e in
@@ -107,7 +107,7 @@ pub of_itself : (neighbour : NeighbourSlot) → is_of neighbour neighbour.socket
 of_itself neighbour =
     rw (socket_itself neighbour.socket, (bytes_eq-Decides neighbour.end.addr neighbour.end.addr).1 refl, port_itself neighbour.end.port) refl
 
--- the slot is of another pair
+-- a slot does not belong to another pair
 pub of_other : (neighbour : NeighbourSlot) (socket : Socket) (from : End) → (◌≡◌ {A = Socket × End} (neighbour.socket, neighbour.end) (socket, from) → ⊥) → is_of neighbour socket from ≡ false
 of_other neighbour socket from differs =
     let cases : (is_of neighbour socket from ≡ true) ⊎ (is_of neighbour socket from ≡ false) = grind arith in
@@ -122,7 +122,7 @@ seated-absent (pair ∷ pairs) [] socket from absent =
 seated-absent (pair ∷ pairs) (program ∷ programs) socket from absent =
     rw (of_other (record { socket = pair.0; end = pair.1; program = program }) socket from (λ e. absent zero (ap Some e))) (seated-absent pairs programs socket from (λ n. absent (suc n)))
 
--- the slot of the neighbour that stands at a place, and at no other
+-- the program for a pair that stands at one index only is the program at that index
 pub seated-there : (pairs : List (Socket × End)) (programs : List (Option (List Insn))) (socket : Socket) (from : End) (n : ℕ)
     → slice_get pairs n ≡ Some (socket, from) → ((m : ℕ) → slice_get pairs m ≡ Some (socket, from) → m ≡ n)
     → program_for (seated pairs programs) socket from ≡ program_at (seated pairs programs) n
@@ -141,7 +141,7 @@ seated-there (pair ∷ pairs) (program ∷ programs) socket from (suc n) at only
     rw (of_other (record { socket = pair.0; end = pair.1; program = program }) socket from (λ e. let no = only zero (ap Some e) in omega arith))
     (seated-there pairs programs socket from n at (λ m there. let e = only (suc m) there in omega arith))
 
--- a front of a list, and the element after it
+-- a prefix of a list, and the element after it
 front_at : {A : Type 0} (xs : List A) (k m : ℕ) (x p : A) → slice_get xs k ≡ Some x → slice_get (take k xs ++ x ∷ []) m ≡ Some p → slice_get xs m ≡ Some p
 front_at [] k m x p at there = let no : ⊥ = cc in absurd no
 front_at (y ∷ xs) zero zero x p at there = at ∙ there
@@ -154,7 +154,7 @@ front_few [] k x at = let no : ⊥ = cc in absurd no
 front_few (y ∷ xs) zero x at = omega arith
 front_few (y ∷ xs) (suc k) x at = let rest = front_few xs k x at in omega arith
 
--- a front of neighbours are neighbours
+-- a prefix of valid neighbours is valid
 pub neighbours-front : (pairs : List (Socket × End)) (k : ℕ) (pair : Socket × End) → slice_get pairs k ≡ Some pair → AreNeighbours pairs → AreNeighbours (take k pairs ++ pair ∷ [])
 neighbours-front pairs k pair at all = record {
   few = (let few = all.few in let fewer = front_few pairs k pair at in omega arith);
@@ -170,7 +170,7 @@ pub has-back : {A : Type 0} (f : A → Option (List Insn)) (pairs : List (Socket
     → nat_lt n (length (seated pairs (map f items))) ≡ true → n < length items
 has-back f pairs items n same has = let h = rw (length-seated pairs (map f items)) at has in grind (arith, nat_tests)
 
--- another program in a slot, or nothing changed where there is none
+-- replacing a program; nothing changes if the slot does not exist
 pub with-after : {A B E : Type 0} (f : A → Option (List Insn)) (pairs : List (Socket × End)) (old new : ArrayVec A) (n : ℕ) (x : A) (r : Result B E)
     → length old.items ≡ length pairs → (n < length old.items → IsOk r) → OnOk r (new.items ≡ slice_set old.items n x) → OnErr r (new ≡ old)
     → seated pairs (map f new.items) ≡ with_program (seated pairs (map f old.items)) n (f x)
@@ -182,7 +182,7 @@ with-after {A = A} f pairs old new n x (Err y) same there set kept =
       | inr beyond ↦ ap (λ (v : ArrayVec A). seated pairs (map f v.items)) kept ∙ sym (seated-beyond pairs (map f old.items) n (f x) beyond)
     ]
 
--- what stood in a slot
+-- the previous program of a slot
 pub with-before : {A E : Type 0} (f : A → Option (List Insn)) (pairs : List (Socket × End)) (items : List A) (n : ℕ) (r : Result A E)
     → length items ≡ length pairs → IfOk r (λ before. slice_get items n ≡ Some before)
     → IfOk r (λ before. f before ≡ program_at (seated pairs (map f items)) n)
@@ -210,7 +210,7 @@ accepted_if : (b : Bool) (here there : Option (List Insn)) → IfSome here IsAcc
 accepted_if true here there x y = x
 accepted_if false here there x y = y
 
--- so is the one for each sender
+-- so is the program for each sender
 pub for-accepted : (neighbours : List NeighbourSlot) (socket : Socket) (from : End) → ((n : ℕ) → IfSome (program_at neighbours n) IsAccepted)
     → IfSome (program_for neighbours socket from) IsAccepted
 for-accepted [] socket from each = tt

@@ -1,4 +1,4 @@
--- A datagram, and the programs that it was judged by: its socket's or none, and its sender's or none.
+-- A datagram judged in advance, with the optional programs of its socket's and its sender's slots.
 use Rattle.std.specs.Prelude.{List, Option}
 use Rattle.bpf_check.specs.declared.insn.Insn.{Insn}
 use Rattle.filter_slots.specs.Datagram.{DatagramFields}
@@ -10,7 +10,7 @@ pub record JudgedFields : Type 0 where
   pub first : Option (List Insn)
   pub second : Option (List Insn)
 
--- the datagram as it is judged by the programs in force
+-- the datagram, judged by the programs in force
 abbrev pub judged_under : Filters → DatagramFields → JudgedFields
 judged_under filters d = record {
   datagram = d;

@@ -1,10 +1,10 @@
-//! Datagrams compared by value.
+//! Equality of datagrams.
 
 ghost use Rattle.std.specs.Prelude.{◌≡◌, ◌↔◌, IsTrue};
 
 use crate::Datagram;
 
-/// Whether two datagrams came in by one socket, have the same ends and the same payload.
+/// Whether two datagrams are equal in socket, both ends and payload.
 pub fn same_datagram(a: &Datagram, b: &Datagram) -> bool
     ensures { IsTrue result ↔ (a.now ≡ b.now) }
 {

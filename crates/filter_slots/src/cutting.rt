@@ -1,4 +1,4 @@
-//! What a verdict leaves of a payload.
+//! Truncation of a payload by a verdict.
 
 ghost use Rattle.std.specs.Prelude.{◌≡◌};
 ghost use Rattle.filter_slots.specs.Cut.{cut_of};
@@ -6,8 +6,8 @@ ghost use Rattle.filter_slots.specs.Cut.{cut_of};
 use crate::datagram::Datagram;
 use bpf_run::packet::HEADER;
 
-/// The octets of the payload that are left when the packet is cut to so many octets, of which the
-/// first 28 are the header's: none below 29, the whole payload where it has no more.
+/// Returns the payload of the packet truncated to `value` octets. The first 28 octets of a packet are its header, so the
+/// result is empty for a value under 29, and the whole payload if the packet is not longer.
 #[inline(always)]
 pub fn cut(datagram: &Datagram, value: u32) -> &[u8]
     ensures { result.now ≡ cut_of datagram.now.payload value }

@@ -1,4 +1,4 @@
-//! A datagram that came in.
+//! Received datagrams.
 
 ghost use Rattle.std.specs.Prelude.{◌≡◌, ◌≤◌, ◌↔◌, length, IsOk, IfOk, IfErr};
 ghost use Rattle.bpf_run.specs.Packet.{filter_packet, most_payload};
@@ -10,8 +10,8 @@ use bpf_run::packet::MOST_PAYLOAD;
 use bpf_run::{End, Packet, Socket};
 use std::marker::Model;
 
-/// A UDP datagram: the socket that it came in by, its two ends and its payload of at most 65,507
-/// octets. Contracts see a record of these.
+/// A received UDP datagram: the socket that received it, source and destination, and a payload of at most 65,507 octets.
+/// Contracts see a record of these.
 #[derive(Debug, Drop)]
 pub struct Datagram {
     socket: Socket,
@@ -33,7 +33,7 @@ impl Model for Datagram {
 }
 
 impl Datagram {
-    /// The datagram, or the payload handed back where it has more than 65,507 octets.
+    /// Makes a datagram. Errors: returns the payload if it is longer than 65,507 octets.
     pub fn new(socket: Socket, from: End, to: End, payload: Vec<u8>) -> Result<Datagram, Vec<u8>>
         ensures accepts { IsOk result ↔ (length payload.items ≤ most_payload) }
         ensures value { IfOk result (λ datagram. datagram ≡ record { socket = socket; from = from; to = to; payload = payload.items }) }
@@ -50,7 +50,7 @@ impl Datagram {
         })
     }
 
-    /// The socket that it came in by.
+    /// The socket that received it.
     #[inline(always)]
     pub fn socket(&self) -> Socket
         ensures { result ≡ self.now.socket }
@@ -58,7 +58,7 @@ impl Datagram {
         self.socket
     }
 
-    /// Who sent it.
+    /// Source address and port.
     #[inline(always)]
     pub fn from(&self) -> End
         ensures { result ≡ self.now.from }
@@ -66,7 +66,7 @@ impl Datagram {
         self.from
     }
 
-    /// Whom it was sent to.
+    /// Destination address and port.
     #[inline(always)]
     pub fn to(&self) -> End
         ensures { result ≡ self.now.to }
@@ -74,7 +74,7 @@ impl Datagram {
         self.to
     }
 
-    /// The payload, of at most 65,507 octets.
+    /// The payload, at most 65,507 octets.
     #[inline(always)]
     pub fn payload(&self) -> &[u8]
         ensures same { result.now ≡ self.now.payload }
@@ -83,14 +83,14 @@ impl Datagram {
         &self.payload
     }
 
-    /// Source address, source port, destination address and destination port, in network order.
+    /// Source address, source port, destination address and destination port, in network byte order.
     pub fn ends(&self) -> [u8; 12]
         ensures { result ≡ ends_of self.now.from self.now.to }
     {
         both_ends(self.from, self.to)
     }
 
-    /// The packet that a filter sees of it.
+    /// The packet as a filter sees it.
     #[inline(always)]
     pub fn packet(&self) -> Packet<'_>
         ensures { result ≡ filter_packet self.now.from self.now.to self.now.payload }
@@ -101,7 +101,7 @@ impl Datagram {
         }
     }
 
-    /// The packet that a filter sees of it when its payload is cut to what a verdict leaves.
+    /// The packet as a filter sees it, its payload truncated as by `cut`.
     #[inline(always)]
     pub(crate) fn packet_cut(&self, value: u32) -> Packet<'_>
         ensures { result ≡ filter_packet self.now.from self.now.to (cut_of self.now.payload value) }
@@ -113,7 +113,7 @@ impl Datagram {
     }
 }
 
-/// Source address, source port, destination address and destination port, in network order.
+/// Source address, source port, destination address and destination port, in network byte order.
 pub fn both_ends(from: End, to: End) -> [u8; 12]
     ensures { result ≡ ends_of from to }
 {

@@ -1,4 +1,4 @@
-//! Datagrams that are judged before it is known which programs are in force.
+//! Datagrams judged in advance, before it is known which programs will be in force.
 
 ghost use Rattle.std.specs.Prelude.{◌≡◌, IsTrue, IfOk};
 ghost use Rattle.std.specs.Option.{option_map, option_copied};
@@ -15,9 +15,8 @@ use std::alloc::AllocError;
 use std::marker::Model;
 use std::sync::Arc;
 
-/// A datagram with the verdict of two programs on it, each of which may be missing: as of a slot of
-/// its socket that holds the first, and a slot of its sender that holds the second. Contracts see
-/// the datagram and the programs.
+/// A datagram with the verdict of two optional programs: `first` stands for the program of its socket's slot, `second`
+/// for that of its sender's slot. Contracts see the datagram and the programs; the verdict follows from them.
 #[derive(Drop)]
 pub struct Judged {
     datagram: Arc<Datagram>,
@@ -41,8 +40,8 @@ impl Model for Judged {
 }
 
 impl Judged {
-    /// Judges a datagram by two programs, or by one, or by none: the first is that of its socket's
-    /// slot, the second that of its sender's. It takes no memory.
+    /// Judges a datagram by the program of its socket's slot and that of its sender's slot, each if given. Allocates
+    /// nothing.
     pub fn new(
         datagram: Arc<Datagram>,
         first: Option<Arc<Checked>>,
@@ -59,7 +58,7 @@ impl Judged {
         }
     }
 
-    /// What its programs say of its datagram.
+    /// The verdict of its programs on its datagram.
     pub fn verdict(&self) -> Verdict
         ensures value { result.value ≡ verdict_by_both self.now.datagram self.now.first self.now.second }
         ensures steps { result.steps ≡ steps_by_both self.now.datagram self.now.first self.now.second }
@@ -74,14 +73,14 @@ impl Judged {
         &self.datagram
     }
 
-    /// The program that it was judged by as that of its socket's slot, if there was one.
+    /// The program that it was judged by for its socket's slot, if any.
     pub fn first(&self) -> &Option<Arc<Checked>>
         ensures { option_map (λ arc. arc_value arc) result.now ≡ self.now.first }
     {
         &self.first
     }
 
-    /// The program that it was judged by as that of its sender's slot, if there was one.
+    /// The program that it was judged by for its sender's slot, if any.
     pub fn second(&self) -> &Option<Arc<Checked>>
         ensures { option_map (λ arc. arc_value arc) result.now ≡ self.now.second }
     {
@@ -90,8 +89,7 @@ impl Judged {
 }
 
 impl Slots {
-    /// Judges a datagram by the programs in force on it, which get one more owner each. An error
-    /// says that one has too many.
+    /// Judges a datagram by the programs in force, and keeps a reference to each. Errors: a reference count would overflow.
     pub fn judge(&self, datagram: Arc<Datagram>) -> Result<Judged, AllocError>
         ensures { IfOk result (λ judged. judged ≡ judged_under self.now (arc_value datagram)) }
     {
@@ -101,9 +99,8 @@ impl Slots {
         Ok(Judged::new(datagram, first, second))
     }
 
-    /// The verdict in force on a datagram that is judged already: the one that it has, where the
-    /// programs in the slots of its socket and its sender are equal to its own, or both are
-    /// missing; otherwise the datagram is judged here.
+    /// The verdict in force on a datagram that was judged in advance. Reuses its verdict if the programs of its socket's and
+    /// its sender's slots equal those that it was judged by; judges the datagram otherwise.
     pub fn force_judged(&self, judged: &Judged) -> Verdict
         ensures value { result.value ≡ verdict_in_force self.now judged.now.datagram }
         ensures steps { result.steps ≡ steps_in_force self.now judged.now.datagram }
@@ -117,7 +114,7 @@ impl Slots {
     }
 }
 
-// The same program with one more owner.
+// Another reference to the program, if any. Errors: the reference count would overflow.
 fn owned(program: Option<&Arc<Checked>>) -> Result<Option<Arc<Checked>>, AllocError>
     ensures { IfOk result (λ copy. option_map (λ arc. arc_value arc) copy ≡ option_map (λ arc. arc_value arc) (option_copied program.entry)) }
 {
@@ -127,7 +124,7 @@ fn owned(program: Option<&Arc<Checked>>) -> Result<Option<Arc<Checked>>, AllocEr
     }
 }
 
-// Whether the installed program and the held one are equal, or both absent.
+// Whether both programs are equal, or both absent.
 fn is_same(installed: Option<&Arc<Checked>>, held: &Option<Arc<Checked>>) -> bool
     ensures { IsTrue result → option_map (λ arc. arc_value arc) (option_copied installed.entry) ≡ option_map (λ arc. arc_value arc) held.now }
 {

@@ -11,9 +11,9 @@ use bpf_check::Checked;
 use bpf_run::{Packet, Verdict, judge};
 use std::sync::Arc;
 
-/// The verdict of two programs on a datagram, of which the second sees the payload cut to what the
-/// first lets through. It is 0 where either is, otherwise the smaller, and the steps are those of
-/// both; without a program the whole packet is let through after 0 steps.
+/// The verdict of two programs on a datagram. The second program sees the payload truncated to what the first lets
+/// through. The value is the smaller of both, hence 0 if either is 0; the steps are the sum. A missing program lets the
+/// whole packet through in 0 steps.
 #[inline(always)]
 pub(crate) fn judge_by(
     datagram: &Datagram,
@@ -34,7 +34,7 @@ pub(crate) fn judge_by(
     }
 }
 
-// The verdict of a program or none on the whole datagram.
+// The verdict of an optional program on the whole datagram.
 #[inline(always)]
 fn judge_first(datagram: &Datagram, program: Option<&Arc<Checked>>) -> Verdict
     ensures value { result.value ≡ verdict_by datagram.now (option_map (λ arc. arc_value arc) (option_copied program.entry)) }
@@ -50,7 +50,7 @@ fn judge_first(datagram: &Datagram, program: Option<&Arc<Checked>>) -> Verdict
     }
 }
 
-// The verdict of a program on what another verdict leaves of a datagram.
+// The verdict of a program on a datagram truncated by an earlier verdict.
 fn judge_rest(datagram: &Datagram, value: u32, program: &Checked) -> Verdict
     ensures value { result.value ≡ verdict_by (cut_to datagram.now value) (Some program.now) }
     ensures steps { result.steps ≡ steps_by (cut_to datagram.now value) (Some program.now) }
@@ -59,7 +59,7 @@ fn judge_rest(datagram: &Datagram, value: u32, program: &Checked) -> Verdict
     judge_packet(program, &datagram.packet_cut(value))
 }
 
-// The verdict of a program on a packet, after at most as many steps as a program has instructions.
+// The verdict of a program on a packet. A run takes at most one step per instruction.
 #[inline(always)]
 fn judge_packet(program: &Checked, packet: &Packet<'_>) -> Verdict
     ensures value { result.value ≡ verdict_of program.now packet.now }

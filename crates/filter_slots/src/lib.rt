@@ -1,5 +1,9 @@
-//! Datagrams, a filter program or none for each query socket and each neighbour, and what a verdict
-//! leaves of a payload.
+//! Packet filters in force: one optional BPF program per query socket (ICP, HTCP) and per configured neighbour.
+//!
+//! A received datagram is judged by the program of its socket, and what that lets through by the program of the
+//! neighbour that sent it. Contracts see the slots as lists of instructions (`specs/Filters.antt`), a datagram as a record,
+//! and the verdict as a function of both (`specs/Verdict.antt`). A verdict also truncates the payload (`cut`).
+//! Tested by: crates/test_codecs, crates/test_judging, crates/test_storm, must-fail edits.
 #![tactic(auto)]
 
 pub mod comparing;

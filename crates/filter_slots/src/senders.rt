@@ -1,4 +1,4 @@
-//! The configured neighbours, found by the socket and the end of their datagrams.
+//! Index of the configured neighbours by receiving socket and source address and port.
 
 ghost use Rattle.std.specs.Prelude.{◌≡◌, ◌↔◌, ℕ, ◌<◌, [], ◌∷◌, ◌++◌, length, replicate, slice_get, IfSome, IsNone, IsTrue, IsFalse, Some, None};
 ghost use Rattle.filter_slots.specs.Filters.{AreNeighbours};
@@ -9,13 +9,13 @@ use bpf_run::{End, Socket};
 use std::default::Default;
 use std::marker::Model;
 
-/// The most neighbours.
+/// Maximum number of neighbours.
 pub(crate) const MOST_NEIGHBOURS: usize = 64;
 
-/// How many buckets there are.
+/// Number of hash buckets.
 const BUCKETS: usize = 256;
 
-/// A neighbour's socket and end, and the place of the last one before it in the same bucket.
+/// Socket and end of a neighbour, and the index of the previous neighbour in the same bucket.
 #[derive(Clone, Copy, Debug)]
 pub(crate) struct Sender {
     pub(crate) socket: Socket,
@@ -24,7 +24,7 @@ pub(crate) struct Sender {
 }
 
 impl Sender {
-    /// Whether it is this pair.
+    /// Whether it has this socket and end.
     #[inline(always)]
     fn is(&self, socket: Socket, end: End) -> bool
         ensures { IsTrue result ↔ (pair_of self.now ≡ (socket, end)) }
@@ -46,9 +46,8 @@ impl Default for Sender {
     }
 }
 
-/// At most 64 pairs of a socket and an end, no two of them equal. They are chained by buckets: the
-/// table has the last place of each bucket, and each place the one before it. Contracts see the
-/// pairs.
+/// Hash table of at most 64 distinct pairs of socket and end. `last` holds the index of the newest entry of each bucket,
+/// and each entry the index of the previous one. Contracts see the list of pairs in order of insertion.
 #[derive(Drop)]
 pub(crate) struct Senders {
     all: ArrayVec<Sender, 64>,
@@ -69,7 +68,7 @@ impl Model for Senders {
 }
 
 impl Senders {
-    /// No pairs.
+    /// An empty table.
     pub(crate) fn new() -> Senders
         ensures { result ≡ [] }
     {
@@ -79,8 +78,7 @@ impl Senders {
         }
     }
 
-    /// One more pair, where there are fewer than 64 and none is equal to it. Says whether it was
-    /// added.
+    /// Adds a pair, unless the table is full or has an equal one. Returns whether it was added.
     pub(crate) fn add(&mut self, socket: Socket, end: End) -> bool
         ensures added { IsTrue result → self.new ≡ self.old ++ (socket, end) ∷ [] }
         ensures refused { IsFalse result → AreNeighbours (self.old ++ (socket, end) ∷ []) → ⊥ }
@@ -93,7 +91,7 @@ impl Senders {
         true
     }
 
-    /// One more pair, which none is equal to.
+    /// Adds a pair that the table does not have.
     fn push(&mut self, socket: Socket, end: End)
         requires room { length self.old < 64 }
         requires absent { (n : ℕ) → slice_get self.old n ≡ Some (socket, end) → ⊥ }
@@ -110,22 +108,21 @@ impl Senders {
         self.last[bucket] = Some(n as u8);
     }
 
-    /// Does nothing. Its contract says that these can have slots.
+    /// Publishes the invariant. Does nothing at run time.
     pub(crate) fn facts(&self)
         ensures { AreNeighbours self.now }
     {
         let _ = &self.last;
     }
 
-    /// How many pairs there are.
+    /// Number of pairs.
     pub(crate) fn len(&self) -> usize
         ensures { result ≡ length self.now }
     {
         self.all.len()
     }
 
-    /// The place of a pair. Most ends that no pair has fall into an empty bucket, and are told apart
-    /// by that alone.
+    /// Index of a pair, or `None`. Most unknown ends fall into an empty bucket, so that their lookup ends there.
     #[inline(always)]
     pub(crate) fn find(&self, socket: Socket, end: End) -> Option<usize>
         ensures there { IfSome result (λ n. slice_get self.now n ≡ Some (socket, end)) }
@@ -137,7 +134,7 @@ impl Senders {
         self.follow(socket, end)
     }
 
-    /// Whether no pair is in the bucket of an end.
+    /// Whether the bucket of an end is empty.
     #[inline(always)]
     fn has_none(&self, end: End) -> bool
         ensures { IsTrue result → (socket : Socket) (n : ℕ) → slice_get self.now n ≡ Some (socket, end) → ⊥ }
@@ -149,7 +146,7 @@ impl Senders {
         }
     }
 
-    /// The place of a pair, found by the places of its bucket.
+    /// Looks up a pair in its bucket.
     #[inline(never)]
     fn follow(&self, socket: Socket, end: End) -> Option<usize>
         ensures there { IfSome result (λ n. slice_get self.now n ≡ Some (socket, end)) }
@@ -166,7 +163,7 @@ impl Senders {
         None
     }
 
-    /// The same pairs once more.
+    /// A copy.
     pub(crate) fn copy(&self) -> Senders
         ensures { result ≡ self.now }
     {
@@ -181,14 +178,14 @@ impl Senders {
     }
 }
 
-// No place for any bucket.
+// Empty buckets.
 fn no_places() -> [Option<u8>; 256]
     ensures { result ≡ replicate 256 None }
 {
     [None; BUCKETS]
 }
 
-// The bucket of an end, under 256. Ends of one network, and ports of one end, are in different ones.
+// The bucket of an end, under 256. With equal ports, the addresses of one /24 network get different buckets.
 #[inline(always)]
 fn bucket(end: End) -> usize
     ensures bucket { result ≡ bucket_of end }

@@ -1,19 +1,19 @@
-//! Where a filter program stands.
+//! Slots for filter programs.
 
 use bpf_run::Socket;
 use thiserror::Error;
 
-/// The place of a filter program.
+/// A slot for a filter program.
 #[derive(Clone, Copy, Debug, PartialEq, Eq)]
 pub enum Slot {
-    /// That of a query socket. Its program judges each datagram that comes in there.
+    /// The slot of a query socket. Its program judges each datagram that the socket receives.
     Socket(Socket),
-    /// That of a configured neighbour, counted from 0. Its program judges what the one of the
-    /// socket lets through of the datagrams that are from the neighbour.
+    /// The slot of a neighbour, by its index in the configuration. Its program judges datagrams from the neighbour, after
+    /// and as truncated by the program of the socket.
     Neighbour(usize),
 }
 
-/// There is no such slot: there are fewer neighbours.
+/// Error: the index is not that of a neighbour.
 #[derive(Clone, Copy, Debug, PartialEq, Eq, Error)]
 #[error("there is no such slot")]
 pub struct NoSlot;

@@ -1,4 +1,4 @@
-//! The programs in force.
+//! The filter programs in force.
 
 ghost use Rattle.std.specs.Prelude.{◌≡◌, ◌↔◌, ◌<◌, ◌≤◌, length, map, replicate, slice_get, slice_set, true, Some, None, IsSome, IsOk, IfOk, OnErr, OnOk, IfSome};
 ghost use Rattle.std.specs.Option.{option_map, option_copied};
@@ -19,8 +19,8 @@ use std::marker::Model;
 use std::mem;
 use std::sync::Arc;
 
-/// A filter program or none for each socket, and for each configured neighbour. Contracts see, for
-/// each, the list of its instructions, and of a neighbour its socket and end.
+/// An optional filter program for each socket and each configured neighbour. Programs are reference-counted. Contracts
+/// see each program as a list of instructions, and each neighbour with its socket and end.
 #[derive(Drop)]
 pub struct Slots {
     icp: Option<Arc<Checked>>,
@@ -48,9 +48,8 @@ impl Model for Slots {
 }
 
 impl Slots {
-    /// No programs, and a slot for each of these neighbours, of whom the datagrams come in by that
-    /// socket and are from that end. None where there are over 64, or two with one socket and end.
-    /// It takes no memory.
+    /// Empty slots for these neighbours, each given by the socket that receives its datagrams and their source. Returns
+    /// `None` if there are more than 64, or two equal ones. Allocates nothing.
     pub fn new(neighbours: &[(Socket, End)]) -> Option<Slots>
         ensures made { IsSome result ↔ AreNeighbours neighbours.now }
         ensures empty { IfSome result (λ slots. slots ≡ no_filters neighbours.now) }
@@ -64,7 +63,7 @@ impl Slots {
         })
     }
 
-    /// Whether there is such a slot.
+    /// Whether the slot exists.
     pub fn has(&self, place: Slot) -> bool
         ensures { result ≡ has_slot self.now place }
     {
@@ -74,8 +73,8 @@ impl Slots {
         }
     }
 
-    /// Puts a program into a slot, and gives the one that stood there. Where there is no such slot
-    /// nothing is changed. It takes no memory.
+    /// Installs a program in a slot, and returns the previous one. Allocates nothing. Errors: `NoSlot` if the slot does not
+    /// exist; nothing changes.
     pub fn install(
         &mut self,
         place: Slot,
@@ -86,29 +85,39 @@ impl Slots {
         ensures before { IfOk result (λ before. option_map (λ arc. arc_value arc) before ≡ slot self.old place) }
         ensures refused { OnErr result (self.new ≡ self.old) }
     {
-        match place {
-            Slot::Socket(Socket::Icp) => Ok(self.icp.replace(program)),
-            Slot::Socket(Socket::Htcp) => Ok(self.htcp.replace(program)),
-            Slot::Neighbour(n) => replace_at(&mut self.programs, n, Some(program)),
-        }
+        self.exchange(place, Some(program))
     }
 
-    /// Empties a slot, and gives the program that stood there. Where there is no such slot nothing
-    /// is changed. It takes no memory.
+    /// Empties a slot, and returns the previous program. Allocates nothing. Errors: `NoSlot` if the slot does not exist;
+    /// nothing changes.
     pub fn clear(&mut self, place: Slot) -> Result<Option<Arc<Checked>>, NoSlot>
         ensures there { IsOk result ↔ (has_slot self.old place ≡ true) }
         ensures after { self.new ≡ with_slot self.old place None }
         ensures before { IfOk result (λ before. option_map (λ arc. arc_value arc) before ≡ slot self.old place) }
         ensures refused { OnErr result (self.new ≡ self.old) }
     {
+        self.exchange(place, None)
+    }
+
+    // Puts a program or none into a slot, and returns the previous program.
+    fn exchange(
+        &mut self,
+        place: Slot,
+        program: Option<Arc<Checked>>,
+    ) -> Result<Option<Arc<Checked>>, NoSlot>
+        ensures there { IsOk result ↔ (has_slot self.old place ≡ true) }
+        ensures after { self.new ≡ with_slot self.old place (option_map (λ arc. arc_value arc) program) }
+        ensures before { IfOk result (λ before. option_map (λ arc. arc_value arc) before ≡ slot self.old place) }
+        ensures refused { OnErr result (self.new ≡ self.old) }
+    {
         match place {
-            Slot::Socket(Socket::Icp) => Ok(self.icp.take()),
-            Slot::Socket(Socket::Htcp) => Ok(self.htcp.take()),
-            Slot::Neighbour(n) => replace_at(&mut self.programs, n, None),
+            Slot::Socket(Socket::Icp) => Ok(mem::replace(&mut self.icp, program)),
+            Slot::Socket(Socket::Htcp) => Ok(mem::replace(&mut self.htcp, program)),
+            Slot::Neighbour(n) => replace_at(&mut self.programs, n, program),
         }
     }
 
-    /// The program in a slot; none where there is no such slot.
+    /// The program in a slot. `None` if the slot is empty or does not exist.
     pub fn installed(&self, place: Slot) -> Option<&Arc<Checked>>
         ensures { option_map (λ arc. arc_value arc) (option_copied result) ≡ slot self.now place }
     {
@@ -118,8 +127,7 @@ impl Slots {
         }
     }
 
-    /// The two programs that judge a datagram: that of its socket's slot, and that of the slot of
-    /// the neighbour that it is from.
+    /// The two programs that judge a datagram: that of its socket's slot, and that of its sender's slot.
     #[inline(always)]
     pub fn pair(&self, datagram: &Datagram) -> (Option<&Arc<Checked>>, Option<&Arc<Checked>>)
         ensures first { option_map (λ arc. arc_value arc) (option_copied result.0) ≡ sockets_program self.now datagram.now }
@@ -162,7 +170,7 @@ impl Slots {
         self.programs.as_slice()[n].as_ref()
     }
 
-    /// Does nothing. Its contract says that each installed program is one that the checker accepts.
+    /// Publishes that the checker accepts each installed program. Does nothing at run time.
     #[inline(always)]
     pub fn facts(&self)
         ensures accepted { AreAccepted self.now }
@@ -174,10 +182,9 @@ impl Slots {
         }
     }
 
-    /// The verdict in force on a datagram: that of its socket's program on the packet that filters
-    /// see of it, and that of its sender's program on the packet of what the first lets through.
-    /// It is 0 where either is, otherwise the smaller; an empty slot, and a sender that is no
-    /// neighbour, let all through, after 0 steps. The steps are those of both.
+    /// The verdict in force on a datagram: that of its socket's program on the packet, combined with that of its sender's
+    /// program on the packet as truncated by the first. The value is the smaller of both, hence 0 if either is 0; the steps
+    /// are the sum. An empty slot, or a sender that is not a neighbour, lets everything through in 0 steps.
     #[inline(always)]
     pub fn force(&self, datagram: &Datagram) -> Verdict
         ensures value { result.value ≡ verdict_in_force self.now datagram.now }
@@ -187,7 +194,7 @@ impl Slots {
         judge_by(datagram, first, second)
     }
 
-    /// Slots with the same programs, which are shared. Refused where a program has too many owners.
+    /// A copy that shares the programs. Errors: a reference count would overflow.
     pub fn copy(&self) -> Result<Slots, AllocError>
         ensures { IfOk result (λ copy. copy ≡ self.now) }
     {
@@ -200,7 +207,7 @@ impl Slots {
     }
 }
 
-// The neighbours, if they can have slots.
+// The index of the neighbours. `None` if there are too many, or two equal ones.
 fn senders_of(neighbours: &[(Socket, End)]) -> Option<Senders>
     ensures made { IsSome result ↔ AreNeighbours neighbours.now }
     ensures same { IfSome result (λ senders. senders ≡ neighbours.now) }
@@ -215,7 +222,7 @@ fn senders_of(neighbours: &[(Socket, End)]) -> Option<Senders>
     Some(senders)
 }
 
-// So many slots without programs.
+// `count` empty slots.
 fn no_programs(count: usize) -> ArrayVec<Option<Arc<Checked>>, 64>
     requires { count ≤ 64 }
     ensures { result.items ≡ replicate count None }
@@ -227,7 +234,7 @@ fn no_programs(count: usize) -> ArrayVec<Option<Arc<Checked>>, 64>
     programs
 }
 
-// Does nothing. Its contract says that the program, if there is one, is one that the checker accepts.
+// Publishes that the checker accepts the program, if any.
 #[inline(always)]
 fn is_accepted(program: &Option<Arc<Checked>>)
     ensures { IfSome (option_map (λ arc. arc_value arc) program.now) IsAccepted }
@@ -237,7 +244,7 @@ fn is_accepted(program: &Option<Arc<Checked>>)
     }
 }
 
-// The same programs, shared.
+// References to the same programs.
 fn all_shared(
     programs: &ArrayVec<Option<Arc<Checked>>, 64>,
 ) -> Result<ArrayVec<Option<Arc<Checked>>, 64>, AllocError>
@@ -250,7 +257,7 @@ fn all_shared(
     Ok(copies)
 }
 
-// Puts a program or none into a place, and gives what stood there.
+// Replaces an element and returns the previous one. Errors: the index is out of range.
 fn replace_at(
     programs: &mut ArrayVec<Option<Arc<Checked>>, 64>,
     n: usize,
@@ -267,7 +274,7 @@ fn replace_at(
     }
 }
 
-// The same program, shared.
+// Another reference to the program, if any.
 fn shared(program: &Option<Arc<Checked>>) -> Result<Option<Arc<Checked>>, AllocError>
     ensures { IfOk result (λ copy. option_map (λ arc. arc_value arc) copy ≡ option_map (λ arc. arc_value arc) program.now) }
 {

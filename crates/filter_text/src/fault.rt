@@ -1,23 +1,23 @@
-//! Why a text holds no program that can be installed.
+//! Why a text is not a valid filter program.
 
 use bpf_asm::AsmFault;
 use bpf_check::{CheckFault, ListingFault};
 use std::fmt;
 
-/// Why a text holds no program that can be installed. It prints as one line, without its end: `listing fault`,
-/// `assembler fault` or `check fault`, the fault's number, and ` line <n>` or ` place <i>` where it has one.
+/// Why a text is not a valid filter program. It prints as one line, without the line's end: `listing fault`, `assembler fault` or
+/// `check fault`, the fault's number, and ` line <n>` or ` place <i>` if it has one.
 #[derive(Drop)]
 pub enum ProgramFault {
-    /// The listing can't be read.
+    /// The listing has a fault, or memory ran out.
     Listing(ListingFault),
-    /// The assembler text can't be read, or a program's text can't be made for want of memory.
+    /// The assembler text has a fault, or memory ran out.
     Assembler(AsmFault),
     /// The checker refuses the program.
     Check(CheckFault),
 }
 
 impl ProgramFault {
-    /// Whether memory was refused, so that nothing is known of the text.
+    /// Whether memory ran out, so that the text itself may be valid.
     pub fn is_want_of_memory(&self) -> bool {
         match self {
             ProgramFault::Listing(fault) => matches!(fault, ListingFault::NoMemory),

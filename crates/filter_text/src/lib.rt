@@ -1,4 +1,10 @@
-//! Filter programs as operators hand them in: a listing or assembler text, told apart by the first octet.
+//! Filter programs as operators write them: a listing, as `tcpdump -ddd` prints it, or assembler text, told apart by whether the
+//! text begins with a digit. It also writes accepted programs as text.
+//!
+//! Contracts see a text as the list of its octets and a program as the list of its instructions; `specs/FilterText.antt`
+//! combines the definitions of bpf_check and bpf_asm.
+//!
+//! Tested by: the script cases in cases/check, the tests over loopback, must-fail edits (more-edits/).
 #![tactic(auto)]
 
 mod fault;

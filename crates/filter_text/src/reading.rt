@@ -1,4 +1,4 @@
-//! Reading a filter program.
+//! Reads filter programs from text.
 ghost use Rattle.std.specs.Prelude.{◌≡◌, ◌<◌, length, IfOk, IfErr, IfSome};
 ghost use Rattle.std.specs.List.{position};
 ghost use Rattle.filter_text.specs.FilterText.{is_text, is_listing, StandsFor, IsFaultOf};
@@ -8,10 +8,10 @@ use bpf_asm::assemble;
 use bpf_check::{Checked, Insn, check, read_listing};
 use std::alloc::Global;
 
-/// The program that a text stands for: a listing, as `tcpdump -ddd` prints it, where a digit comes first behind any spaces,
-/// tabs, CR and LF, otherwise assembler text.
+/// Reads a filter program: a listing, as `tcpdump -ddd` prints it, if the first octet except spaces, tabs, CR and LF is a digit,
+/// otherwise assembler text.
 ///
-/// Errors: the listing's or the assembler's fault, else the checker's, each the first of the text.
+/// Errors: the first fault of the listing or the assembler text, otherwise the first fault that the checker finds.
 pub fn read_program(alloc: Global, text: &[u8]) -> Result<Checked, ProgramFault>
     ensures program { IfOk result (λ program. StandsFor text.now program) }
     ensures fault { IfErr result (λ fault. IsFaultOf text.now fault) }
@@ -22,7 +22,7 @@ pub fn read_program(alloc: Global, text: &[u8]) -> Result<Checked, ProgramFault>
     }
 }
 
-/// The instructions that a text stands for, checked or not.
+/// The instructions of a text, not checked yet.
 fn instructions(alloc: Global, text: &[u8]) -> Result<Vec<Insn>, ProgramFault>
     ensures program { IfOk result (λ v. StandsFor text.now v.items) }
     ensures fault { IfErr result (λ fault. IsFaultOf text.now fault) }
@@ -33,7 +33,7 @@ fn instructions(alloc: Global, text: &[u8]) -> Result<Vec<Insn>, ProgramFault>
     assemble(alloc, text).map_err(ProgramFault::Assembler)
 }
 
-/// Whether the first octet that is no space, tab, CR or LF is a digit.
+/// Whether the first octet except spaces, tabs, CR and LF is a digit.
 fn is_listing(text: &[u8]) -> bool
     ensures { result ≡ is_listing text.now }
 {
@@ -43,7 +43,7 @@ fn is_listing(text: &[u8]) -> bool
     }
 }
 
-/// Where the first octet stands that is no space, tab, CR or LF.
+/// The index of the first octet except spaces, tabs, CR and LF.
 fn first_text(text: &[u8]) -> Option<usize>
     ensures first { result ≡ position is_text text.now }
     ensures within { IfSome result (λ place. place < length text.now) }

@@ -1,18 +1,18 @@
-//! Showing a program that was accepted.
+//! Writes accepted programs as text.
 
 use bpf_asm::to_text;
 use bpf_check::Checked;
 use std::alloc::Global;
 
-/// What the command `check` prints of a program: `accepted`, the number of instructions, and the program's text. None where there
-/// is no memory.
+/// The output of the command `check`: `accepted`, the number of instructions, and the program as assembler text.
+/// `None` if memory runs out.
 pub fn accepted_text(alloc: Global, program: &Checked) -> Option<String> {
     let text = to_text(alloc, program).ok()?;
     format!(in alloc; "accepted {}\n{text}", program.len()).ok()
 }
 
-/// The program as a script's swap line has it, `code,jt,jf,k` for each instruction, with semicolons between them. None where there
-/// is no memory.
+/// The program as it appears in the swap line of a script: `code,jt,jf,k` for each instruction, separated by semicolons.
+/// `None` if memory runs out.
 pub fn script_text(alloc: Global, program: &Checked) -> Option<String> {
     let mut text = String::new(alloc);
     for (place, insn) in program.insns().iter().enumerate() {

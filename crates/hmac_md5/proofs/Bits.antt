@@ -10,7 +10,7 @@ same_from_xor : (x y : ℕ) → bit_xor x y ≡ 0 → x ≡ y
 same_from_xor x y none =
     sym (xor_zero_r x) ∙ ap (bit_xor x) (sym (xor_self y)) ∙ sym (xor_assoc x y y) ∙ ap (λ (b : ℕ). bit_xor b y) none ∙ xor_zero_l y
 
--- one pair more
+-- one more pair
 pub one_more : (a b : List ℕ) (i bits : ℕ) → i < length a → i < length b → ((bits ≡ 0) ↔ (take i a ≡ take i b)) → (bit_or bits (bit_xor (get_or a i 0) (get_or b i 0)) ≡ 0) ↔ (take (i + 1) a ≡ take (i + 1) b)
 one_more a b i bits in_a in_b so_far = (equal_from_none, none_from_equal)
   where
@@ -26,6 +26,6 @@ one_more a b i bits in_a in_b so_far = (equal_from_none, none_from_equal)
         let last : get_or a i 0 ≡ get_or b i 0 = sym (get_or-take (i + 1) a i 0 (omega arith)) ∙ ap (λ (s : List ℕ). get_or s i 0) same ∙ get_or-take (i + 1) b i 0 (omega arith) in
         rw (so_far.1 front, last, xor_self, or_zero_l) refl
 
--- the same, of a loop's turn
+-- the same for an iteration of the loop
 pub one_pair_more : (a b : List ℕ) (i j x y bits : ℕ) → i < length a → i < length b → x ≡ get_or a i 0 → y ≡ get_or b i 0 → j ≡ i + 1 → ((bits ≡ 0) ↔ (take i a ≡ take i b)) → (bit_or bits (bit_xor x y) ≡ 0) ↔ (take j a ≡ take j b)
 one_pair_more a b i j x y bits in_a in_b x-is y-is j-is so_far = rw (x-is, y-is, j-is) (one_more a b i bits in_a in_b so_far)

@@ -1,4 +1,4 @@
--- How long a code is: a law for the proofs of those who write one down.
+-- The length of a code: a lemma for the proofs of crates that write one.
 use Rattle.std.proofs.Common.{◌≡◌, ℕ, List, length}
 use Rattle.md5.proofs.StandardFacts.{length-md5}
 use Rattle.hmac_md5.specs.Hmac.{hmac}

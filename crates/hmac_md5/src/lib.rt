@@ -1,4 +1,9 @@
-//! HMAC with MD5 (RFC 2104): the code that shows a text to come from one who knows the key. It takes no memory.
+//! HMAC-MD5 (RFC 2104), the message authentication code of signed HTCP messages, and a comparison of codes that does not exit
+//! early. It does not allocate.
+//!
+//! Contracts see keys, messages and codes as lists of octets; `specs/Hmac.antt` defines the code on top of the crate md5.
+//!
+//! Tested by: src/tests.rt (RFC 2202), crates/test_codecs (signed HTCP messages), must-fail edits.
 #![tactic(auto)]
 
 ghost use Rattle.std.specs.Prelude.{◌≡◌, ◌++◌, ◌↔◌, ◌<◌, ◌≤◌, ◌-◌, IsTrue, length, map, replicate, bit_xor};
@@ -14,7 +19,7 @@ const INNER_PAD: u8 = 0x36;
 
 const OUTER_PAD: u8 = 0x5c;
 
-// The octets, and zeros to the end of the block.
+// Pads up to 64 octets to a block with zeros.
 fn filled(octets: &[u8]) -> [u8; BLOCK_LEN]
     requires { length octets.now ≤ 64 }
     ensures { result ≡ octets.now ++ replicate (64 - length octets.now) 0 }
@@ -24,7 +29,7 @@ fn filled(octets: &[u8]) -> [u8; BLOCK_LEN]
     block
 }
 
-// The key in one block.
+// The key as one block.
 fn block_of(key: &[u8]) -> [u8; BLOCK_LEN]
     ensures { result ≡ block_key key.now }
 {
@@ -35,7 +40,7 @@ fn block_of(key: &[u8]) -> [u8; BLOCK_LEN]
     }
 }
 
-// Changes each octet by the pad.
+// Combines each octet with the pad by exclusive or, in place.
 fn change(octets: &mut [u8], pad: u8)
     ensures { octets.new ≡ map (λ octet. bit_xor octet pad) octets.old }
 {
@@ -44,7 +49,7 @@ fn change(octets: &mut [u8], pad: u8)
     }
 }
 
-// The block with each octet changed by the pad.
+// The block with each octet combined with the pad by exclusive or.
 fn changed(block: [u8; BLOCK_LEN], pad: u8) -> [u8; BLOCK_LEN]
     ensures { result ≡ map (λ octet. bit_xor octet pad) block }
 {
@@ -53,9 +58,9 @@ fn changed(block: [u8; BLOCK_LEN], pad: u8) -> [u8; BLOCK_LEN]
     out
 }
 
-/// The code of the parts, joined, under a key of any length (RFC 2104, section 2).
+/// The HMAC-MD5 of the concatenated parts under a key of any length (RFC 2104, section 2).
 ///
-/// A key of more than 64 octets stands for its digest.
+/// A key of more than 64 octets is replaced by its digest.
 pub fn mac(key: &[u8], parts: &[&[u8]]) -> [u8; 16]
     ensures { result ≡ hmac key.now (flat_map (λ part. part.now) parts.now) }
 {
@@ -71,8 +76,7 @@ pub fn mac(key: &[u8], parts: &[&[u8]]) -> [u8; 16]
     outer.finalize()
 }
 
-// The bits in which an octet of one differs from that of the other, of all pairs together. Each pair
-// is looked at, whatever was found before it.
+// The bits in which any two octets at the same index differ. The loop has no early exit.
 fn difference(a: &[u8], b: &[u8]) -> u8
     requires { length a.now ≡ length b.now }
     ensures { (result ≡ 0) ↔ (a.now ≡ b.now) }
@@ -84,8 +88,8 @@ fn difference(a: &[u8], b: &[u8]) -> u8
     bits
 }
 
-/// Whether two codes are equal. Of codes of one length it looks at every octet, whatever it found
-/// before; how long that takes is no part of its contract.
+/// Whether two codes are equal. For codes of equal length every octet is compared, wherever they differ; the running time is not
+/// part of the contract.
 pub fn same(a: &[u8], b: &[u8]) -> bool
     ensures { IsTrue result ↔ (a.now ≡ b.now) }
 {

@@ -1,6 +1,6 @@
 use super::*;
 
-// The test cases 1 to 7 of RFC 2202 for HMAC-MD5: key, text, code.
+// Test cases 1 to 7 of RFC 2202 for HMAC-MD5: key, message, code.
 #[test]
 fn outside_vectors(rt: HostRuntime) {
     let counted: [u8; 25] = [
@@ -50,7 +50,7 @@ fn outside_vectors(rt: HostRuntime) {
     }
 }
 
-// A key of 65 octets is hashed first.
+// A key of 65 octets is replaced by its digest.
 #[test]
 fn long_key(rt: HostRuntime) {
     let key = [0x0b; 65];

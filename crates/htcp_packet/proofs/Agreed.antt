@@ -1,4 +1,4 @@
--- The function of the octets agrees with the fields, the grammar and the faults.
+-- The decoding function agrees with the fields, the grammar and the faults.
 use Rattle.std.proofs.Common.{◌≡◌, ℕ, Bool, true, false, cond, List, length, drop, Option, Some, None, Result, Ok, Err, refl, sym, ap, subst, ◌∙◌}
 use Rattle.std.specs.Prelude.{◌↔◌, slice_index, MatchResult}
 use Rattle.std.proofs.lemmas.Bool.{eq-eqb, eqb-true, leb-true, le-leb}

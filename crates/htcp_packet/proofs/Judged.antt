@@ -1,16 +1,16 @@
--- A message that was signed is good when it is read.
-use Rattle.std.proofs.Common.{◌≡◌, ℕ, ◌+◌, ◌<◌, ◌≤◌, List, length, Some, refl, sym, ap, subst, ◌∙◌, arith}
+-- The signature of a signed message verifies as good.
+use Rattle.std.proofs.Common.{◌≡◌, ℕ, ◌<◌, ◌≤◌, List, length, Some, refl, sym, ap, subst, ◌∙◌, arith}
 use Rattle.std.specs.Prelude.{◌↔◌}
 use Rattle.htcp_packet.specs.Message.{Message, Spells}
 use Rattle.htcp_packet.specs.Reading.{Received, message_of}
-use Rattle.htcp_packet.specs.Writing.{body_text, data_text, message_text}
+use Rattle.htcp_packet.specs.Writing.{data_text, message_text}
 use Rattle.htcp_packet.specs.Signing.{IsGood, sealed, sealed_received, IsSignable}
 use Rattle.htcp_packet.proofs.Lengths.{length-signed}
 use Rattle.htcp_packet.proofs.Whole.{one_message}
 use Rattle.htcp_packet.proofs.Agreed.{agreed}
 use Rattle.htcp_packet.proofs.Written.{spelled_from_written, holds_sealed}
 
--- whoever reads what was written finds the signature good, but at the last second
+-- the written signature verifies as good, except at the last second
 pub good_as_made : (m : Message) (ends name secret : List ℕ) (seconds : ℕ) (o raw : List ℕ) (n : Message) → Spells o (data_text m) (sealed m ends name secret seconds) → Spells o raw n → (IsGood (record { message = n; raw = raw }) ends secret seconds ↔ (seconds < 4294967295))
 good_as_made m ends name secret seconds o raw n written read = (before_last, good_before_last)
   where
@@ -30,7 +30,7 @@ good_as_made m ends name secret seconds o raw n written read = (before_last, goo
     good_before_last : seconds < 4294967295 → IsGood (made n raw) ends secret seconds
     good_before_last lt = subst (λ (r : Received). IsGood r ends secret seconds) same (record { signature = refl; begun = omega arith; lasts = omega arith })
 
--- what is written of a sealed message spells it
+-- what is written of a signed message encodes it
 sealed_spelled : (m : Message) (ends name secret : List ℕ) (seconds : ℕ) → IsSignable m ends name secret seconds → Spells (message_text (sealed m ends name secret seconds)) (data_text m) (sealed m ends name secret seconds)
 sealed_spelled m ends name secret seconds is =
     let can = is.writable in

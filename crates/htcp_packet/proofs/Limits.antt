@@ -1,17 +1,17 @@
--- When a message is too long to be written.
+-- Messages that are too long to be encoded.
 use Rattle.std.proofs.Common.{◌≡◌, ℕ, ◌+◌, ◌-◌, ◌^◌, ◌<◌, ◌≤◌, min, Result, Ok, Err, arith}
 use Rattle.std.specs.Prelude.{◌↔◌, IsErrAnd}
-use Rattle.htcp_packet.specs.declared.fault.EncodeFault.{EncodeFault}
-use Rattle.htcp_packet.specs.declared.fault.EncodeFault.TheVariants as faults
+use Rattle.wire_octets.specs.declared.encode_fault.EncodeFault.{EncodeFault}
+use Rattle.wire_octets.specs.declared.encode_fault.EncodeFault.TheVariants as faults
 
--- the test of OP-DATA and the key's name together is one of the whole message
+-- testing the length of OP-DATA plus key name is testing that of the whole message
 pub over : (body name sum total : ℕ) → sum ≡ min (min body (2 ^ 64 - 1) + name) (2 ^ 64 - 1) → total ≡ body + name + 42 → 65465 < sum → 65507 < total
 over body name sum total sum-is total-is lt = omega arith
 
 pub within : (body name sum total : ℕ) → sum ≡ min (min body (2 ^ 64 - 1) + name) (2 ^ 64 - 1) → total ≡ body + name + 42 → sum ≤ 65465 → total ≤ 65507
 within body name sum total sum-is total-is le = omega arith
 
--- the answer TooLong, want of memory, and Ok
+-- the results TooLong, NoMemory and Ok
 pub refused_over : {A : Type 0} (r : Result A EncodeFault) (total : ℕ) → r ≡ Err faults.TooLong → 65507 < total → (r ≡ Err faults.TooLong) ↔ (65507 < total)
 refused_over r total long lt = (λ e. lt, λ l. long)
 

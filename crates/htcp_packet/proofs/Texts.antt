@@ -1,4 +1,4 @@
--- What is read is in the grammar, and what is in the grammar is read.
+-- The decoding functions of texts, bodies and AUTH agree with the grammar.
 use Rattle.std.proofs.Common.{◌≡◌, ℕ, ◌+◌, ◌-◌, ◌*◌, ◌/◌, ◌%◌, ◌^◌, ◌<◌, ◌≤◌, Bool, true, false, cond, ltb, eqb, List, ◌∷◌, ◌++◌, length, take, drop, Option, Some, None, refl, sym, ap, subst, ◌∙◌, append_assoc, arith, inl, inr}
 use Rattle.std.specs.Prelude.{slice_index, ◌⊎◌}
 use Rattle.std.proofs.lemmas.Bool.{ltb-false, le-ltb, eqb-true, ne_eqb}
@@ -29,7 +29,7 @@ chosen false x y z e = inr (refl, e)
 pub some_is : {A : Type 0} (x y : A) → Some x ≡ Some y → x ≡ y
 some_is x y e = cc
 
--- what a reader took from the front
+-- what a decoding step took from the front
 pub record Takes (octets text rest : List ℕ) : Type 0 where
   pub parts : octets ≡ text ++ rest
   pub rest_fits : IsOctets rest
@@ -61,7 +61,7 @@ countstr_again t r lt =
     let two : ltb (length (countstr t ++ r)) 2 ≡ false = le-ltb _ _ (omega arith) in
     rw (two, n, long, take_at t r (length t) refl, drop_at t r (length t) refl) refl
 
--- ---- what is asked for, and what is held
+-- ---- SPECIFIER and DETAIL
 
 spec_takes : (o : List ℕ) (x : Spec × List ℕ) → IsOctets o → spec_at o ≡ Some x → Takes o (spec_text x.0) x.1 × IsSpec x.0
 unfolding spec_at

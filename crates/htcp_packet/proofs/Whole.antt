@@ -1,4 +1,4 @@
--- Whole messages: what is read is spelled, what is spelled is read, and a fault is the first.
+-- Whole messages: decoding is sound and complete, and a reported fault is the first.
 use Rattle.std.proofs.Common.{◌≡◌, ℕ, zero, suc, ◌+◌, ◌*◌, ◌/◌, ◌%◌, ◌<◌, ◌≤◌, Bool, true, false, eqb, List, ◌∷◌, ◌++◌, length, take, drop, Option, Some, None, Result, Ok, Err, refl, sym, ap, subst, ◌∙◌, arith, inl, inr}
 use Rattle.std.specs.Prelude.{slice_index, MatchResult, IfOk, IsOkAnd}
 use Rattle.std.proofs.lemmas.Bool.{eq-eqb, ne_eqb}
@@ -45,7 +45,7 @@ data_fits o fits = IsOctets-take (big_number 2 (drop 4 o)) (drop 4 o) (IsOctets-
 data_length : (o : List ℕ) → IsHeader o → length (data_octets o) ≡ big_number 2 (drop 4 o)
 data_length o h = omega (arith, h.data_high, length-take (big_number 2 (drop 4 o)) (drop 4 o))
 
--- ---- what is read is spelled
+-- ---- soundness: a message that is read is encoded
 
 data_is : (o : List ℕ) (m : Message) → IsOctets o → ReadsAs o m → IsData m (data_octets o)
 data_is o m fits h =
@@ -89,7 +89,7 @@ spelled_from_reads o m fits h =
       auth = auth_takes a m.auth (IsOctets-drop (big_number 2 (drop 4 o)) (drop 4 o) (IsOctets-drop 4 o fits)) h.auth;
     }
 
--- ---- what is spelled is read
+-- ---- completeness: an encoded message is read
 
 same_form : (a b c d : ℕ) (f g r s : Bool) → a ≡ b → c ≡ d → f ≡ g → r ≡ s → form_of a c f r ≡ form_of b d g s
 same_form a b c d f g r s p q u v = rw (p, q, u, v) refl
@@ -138,7 +138,7 @@ reads_from_spelled o raw m s =
       whole,
     )
 
--- ---- one reading
+-- ---- uniqueness
 
 pub same_message : (m n : Message) → m.minor ≡ n.minor → m.opcode ≡ n.opcode → m.response ≡ n.response → m.f1 ≡ n.f1 → m.rr ≡ n.rr → m.trans ≡ n.trans → m.body ≡ n.body → m.auth ≡ n.auth → m ≡ n
 same_message m n minor opcode response f1 rr trans body auth =
@@ -202,7 +202,7 @@ no_fault o m fits h faults.Length bad = no_header_fault o h.header faults.Length
 no_fault o m fits h faults.Major bad = no_header_fault o h.header faults.Major (omega arith) bad
 no_fault o m fits h faults.Data bad = no_header_fault o h.header faults.Data (omega arith) bad
 
--- ---- what a reader answers
+-- ---- results of the decoder
 
 abbrev pub Answers : List ℕ → Result HtcpView HtcpFault → Type 0
 Answers o r = MatchResult r (λ view. ReadsAs o (shown view) × (view.raw.now ≡ data_octets o)) (λ fault. IsFaultOf o fault)
@@ -217,7 +217,7 @@ read_again o (Ok view) fits h raw m s =
     (one_reading o (shown view) m h.0 p.0, h.1 ∙ p.1)
 read_again o (Err fault) fits h raw m s = absurd (no_fault o m fits (reads_from_spelled o raw m s).0 fault h.holds)
 
--- what the reader of the body was given, and what it answered
+-- argument and result of decoding the body
 pub body_from_code : (o raw op_data : List ℕ) (form : Form) (b : Option Body) → raw ≡ data_octets o → form ≡ form_at raw → op_data ≡ drop 8 raw → b ≡ body_at form op_data → BodyAt o b
 body_from_code o raw op_data form b raw-is form-is op-is is =
     ap (λ (x : List ℕ). body_at (form_at x) (drop 8 x)) (sym raw-is) ∙ ap (λ (f : Form). body_at f (drop 8 raw)) (sym form-is) ∙ ap (body_at form) (sym op-is) ∙ sym is

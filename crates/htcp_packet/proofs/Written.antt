@@ -1,4 +1,4 @@
--- What is written is in the grammar.
+-- What is written is in the grammar: it encodes the message.
 use Rattle.std.proofs.Common.{◌≡◌, ℕ, ◌+◌, ◌*◌, ◌^◌, ◌<◌, ◌≤◌, List, [], ◌∷◌, ◌++◌, length, refl, sym, ap, ◌∙◌, append_assoc, arith, inl}
 use Rattle.std.proofs.lemmas.List.{length-append, append-nil}
 use Rattle.byteorder.specs.Endian.{big_bytes}
@@ -60,7 +60,7 @@ spelled_from_written m out can trans auth short is =
 abbrev pub seal_with : ℕ → ℕ → List ℕ → List ℕ → Seal
 seal_with time expire name code = record { time = time; expire = expire; key_name = name; signature = code }
 
--- five pieces put one after the other
+-- associativity of appending five pieces
 pub five_put : (old a b c d e w x y z new : List ℕ) → w ≡ old ++ a → x ≡ w ++ b → y ≡ x ++ c → z ≡ y ++ d → new ≡ z ++ e → new ≡ old ++ (a ++ (b ++ (c ++ (d ++ e))))
 five_put old a b c d e w x y z new w-is x-is y-is z-is new-is = rw (new-is, z-is, y-is, x-is, w-is) (simp append_assoc)
 
@@ -71,12 +71,12 @@ seal_put old s n w x y z new long n-is w-is x-is y-is z-is new-is =
     five_put old (big_bytes 2 n) (big_bytes 4 s.time) (big_bytes 4 s.expire) (countstr s.key_name) (countstr s.signature) w x y z new w-is x-is y-is z-is new-is
     ∙ ap (λ (k : ℕ). old ++ (big_bytes 2 k ++ seal_text s)) len
 
--- a whole message, by its front and its AUTH
+-- a whole message from its front and its AUTH
 pub message_put : (m : Message) (a : Auth) (front out : List ℕ) (n : ℕ) → front ≡ big_bytes 2 n ++ (0 ∷ m.minor ∷ data_text m) → out ≡ front ++ auth_text a → n ≡ length (data_text m) + length (auth_text a) + 4 → out ≡ message_text (record m { auth = a })
 message_put m a front out n front-is out-is n-is =
     out-is ∙ ap (λ (x : List ℕ). x ++ auth_text a) front-is ∙ ap (λ (k : ℕ). big_bytes 2 k ++ (0 ∷ m.minor ∷ data_text m ++ auth_text a)) n-is
 
--- the seal that was made
+-- the seal that signing makes
 pub seal_made : (m : Message) (ends name secret : List ℕ) (seconds expire : ℕ) (raw code : List ℕ) → expire ≡ expiry seconds → raw ≡ data_text m → code ≡ hmac secret (covered ends m.minor seconds expire raw name) → seal_with seconds expire name code ≡ seal_for m ends name secret seconds
 seal_made m ends name secret seconds expire raw code expire-is raw-is code-is =
     let code_is : code ≡ hmac secret (covered ends m.minor seconds (expiry seconds) (data_text m) name) = code-is ∙ ap (λ (e : ℕ). hmac secret (covered ends m.minor seconds e raw name)) expire-is ∙ ap (λ (r : List ℕ). hmac secret (covered ends m.minor seconds (expiry seconds) r name)) raw-is in

@@ -1,4 +1,4 @@
--- The test of equality is true exactly where messages are equal: laws for the types that are compared by it.
+-- Proof that the boolean equality of messages decides equality. The laws of `PartialEq` and `Eq` rest on it.
 use Rattle.std.proofs.Common.{◌≡◌, ℕ, Bool, true, false, eqb, List, refl, sym, ap, subst, ◌∙◌}
 use Rattle.std.specs.Prelude.{◌&&◌}
 use Rattle.std.specs.Bool.{Decides, beq}
@@ -10,13 +10,13 @@ use Rattle.std.proofs.lemmas.Slice.Eq.{bytes_eq-Decides}
 use Rattle.htcp_packet.specs.Message.{Spec, Details, Body, empty, specifier, clear, detail, cache_headers, opaque, Seal, Auth, unsigned, signed, Message}
 use Rattle.htcp_packet.specs.Equality.{same_spec, same_details, same_body, same_seal, same_auth, same_message}
 
--- both tests hold
+-- a true conjunction has two true parts
 pub and_both : (a b : Bool) → (a && b) ≡ true → (a ≡ true) × (b ≡ true)
 and_both true true e = (refl, refl)
 and_both true false e = absurd cc
 and_both false b e = absurd cc
 
--- texts that pass the test are equal, and a text passes it with itself
+-- soundness and reflexivity of equality of texts, numbers and flags
 texts : (x y : List ℕ) → bytes_eq x y ≡ true → x ≡ y
 texts x y e = (bytes_eq-Decides x y).0 e
 
@@ -30,7 +30,7 @@ flag_itself : (b : Bool) → beq b b ≡ true
 flag_itself true = refl
 flag_itself false = refl
 
--- the same of each part of a message
+-- the same for each part of a message
 specs_same : (s t : Spec) → same_spec s t ≡ true → s ≡ t
 specs_same s t e =
     let a = and_both _ _ e in
@@ -109,11 +109,11 @@ message_itself : (m : Message) → same_message m m ≡ true
 message_itself m =
     rw (number_itself m.minor, number_itself m.opcode, number_itself m.response, flag_itself m.f1, flag_itself m.rr, number_itself m.trans, body_itself m.body, auth_itself m.auth) refl
 
--- messages are equal exactly where the test is true
+-- `same_message` decides equality
 pub same_message-Decides : (m n : Message) → Decides (same_message m n) (m ≡ n)
 same_message-Decides m n = (messages_same m n, λ e. subst (λ (x : Message). same_message m x ≡ true) e (message_itself m))
 
--- so the test is an equivalence
+-- hence it is an equivalence
 pub messages_equiv : IsEquivalence same_message
 messages_equiv = record {
   refl = message_itself;

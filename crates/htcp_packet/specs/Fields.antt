@@ -1,10 +1,10 @@
--- A message field by field, as the readers find it in octets. No public contract rests on it.
+-- A message field by field, as the decoder reads it. No public contract refers to this file.
 use Rattle.std.specs.Prelude.{◌≡◌, ℕ, ◌≤◌, ◌/◌, ◌%◌, ◌==◌, List, length, drop, slice_index, Some}
 use Rattle.byteorder.specs.Endian.{big_number}
 use Rattle.htcp_packet.specs.Message.{Message}
 use Rattle.htcp_packet.specs.Reading.{body_at, auth_at, data_octets, auth_octets, form_at}
 
--- the octets have none of the faults of lengths and version
+-- lengths and version have no fault
 pub record IsHeader (octets : List ℕ) : Type 0 where
   pub whole : 4 ≤ length octets
   pub len : big_number 2 octets ≡ length octets
@@ -12,7 +12,7 @@ pub record IsHeader (octets : List ℕ) : Type 0 where
   pub data_low : 8 ≤ big_number 2 (drop 4 octets)
   pub data_high : big_number 2 (drop 4 octets) ≤ length (drop 4 octets)
 
--- each field of the message is what the octets have at its place
+-- each field of the message is what is read at its offset
 pub record ReadsAs (octets : List ℕ) (m : Message) : Type 0 where
   pub header : IsHeader octets
   pub minor : m.minor ≡ slice_index octets 3

@@ -1,25 +1,25 @@
--- HTCP/0.0 (RFC 2756): what a message is, and which octets spell it. What the RFC leaves to the sender,
--- padding and reserved bits, is free. big_bytes n x are the n octets of the number x, the highest first.
+-- HTCP/0.0 (RFC 2756): messages, and which octets encode them. Padding and reserved bits, which the RFC leaves to the
+-- sender, are arbitrary. `big_bytes n x` is the number x in n octets, big-endian.
 use Rattle.std.specs.Prelude.{◌≡◌, ℕ, ◌+◌, ◌*◌, ◌<◌, ◌^◌, Bool, true, false, ◌==◌, ◌⊎◌, if◌then◌else◌, List, [], ◌∷◌, ◌++◌, length}
 use Rattle.byteorder.specs.Endian.{big_bytes}
 use Rattle.htcp_packet.specs.declared.message.Form.{Form}
 use Rattle.htcp_packet.specs.declared.message.Form.TheVariants as forms
 
--- SPECIFIER: what is asked for
+-- SPECIFIER: identifies a request
 pub record Spec : Type 0 where
   pub method : List ℕ
   pub uri : List ℕ
   pub version : List ℕ
   pub headers : List ℕ
 
--- DETAIL: what is held
+-- DETAIL: describes a cached object
 pub record Details : Type 0 where
   pub response : List ℕ
   pub entity : List ℕ
   pub cache : List ℕ
 
--- what an operation says: nothing, a SPECIFIER, a reason and a SPECIFIER, a DETAIL, cache headers, or octets
--- that aren't looked into
+-- OP-DATA: nothing, a SPECIFIER, a reason and a SPECIFIER, a DETAIL, cache headers, or octets that are not decoded
+-- further
 pub data Body : Type 0 where
   empty : Body
   specifier : Spec → Body
@@ -28,7 +28,7 @@ pub data Body : Type 0 where
   cache_headers : List ℕ → Body
   opaque : List ℕ → Body
 
--- what a signed AUTH says
+-- the contents of a signed AUTH
 pub record Seal : Type 0 where
   pub time : ℕ
   pub expire : ℕ
@@ -51,7 +51,7 @@ pub record Message : Type 0 where
   pub body : Body
   pub auth : Auth
 
--- the form of a request's OP-DATA: NOP, TST, CLR, and every other operation
+-- the layout of OP-DATA in a request: NOP, TST, CLR, and every other opcode
 abbrev pub request_form : ℕ → Form
 request_form opcode =
     if opcode == 0 then forms.Empty
@@ -59,7 +59,7 @@ request_form opcode =
     else (if opcode == 4 then forms.Clear
     else forms.Opaque))
 
--- the form of an answer's OP-DATA: NOP and CLR, TST found and not found, and every other answer
+-- the layout of OP-DATA in a response: NOP, CLR, TST by its response code, and every other response
 abbrev pub answer_form : ℕ → ℕ → Form
 answer_form opcode response =
     if opcode == 0 then forms.Empty
@@ -67,43 +67,43 @@ answer_form opcode response =
     else (if opcode == 1 then (if response == 0 then forms.Detail else (if response == 1 then forms.CacheHeaders else forms.Opaque))
     else forms.Opaque))
 
--- the form that operation, answer code and flags give: RR marks an answer, and F1 an answer whose code is one of
--- HTCP's own
+-- the layout for opcode, response code and flags. RR marks a response; a response with F1 set (MO) has a code that applies
+-- to the whole message, and its OP-DATA is opaque.
 abbrev pub form_of : ℕ → ℕ → Bool → Bool → Form
 form_of opcode response f1 rr =
     if rr then (if f1 then forms.Opaque else answer_form opcode response)
     else request_form opcode
 
--- COUNTSTR: a length of two octets, and that many octets
+-- COUNTSTR: a two-octet length, then the text
 abbrev pub countstr : List ℕ → List ℕ
 countstr text = big_bytes 2 (length text) ++ text
 
--- a SPECIFIER's four texts
+-- an encoded SPECIFIER: four texts
 abbrev pub spec_text : Spec → List ℕ
 spec_text s = countstr s.method ++ (countstr s.uri ++ (countstr s.version ++ countstr s.headers))
 
--- a DETAIL's three texts
+-- an encoded DETAIL: three texts
 abbrev pub detail_text : Details → List ℕ
 detail_text d = countstr d.response ++ (countstr d.entity ++ countstr d.cache)
 
--- each text's length fits two octets
+-- the length of each text fits two octets
 pub record IsSpec (s : Spec) : Type 0 where
   pub method : length s.method < 2 ^ 16
   pub uri : length s.uri < 2 ^ 16
   pub version : length s.version < 2 ^ 16
   pub headers : length s.headers < 2 ^ 16
 
--- each text's length fits two octets
+-- the length of each text fits two octets
 pub record IsDetails (d : Details) : Type 0 where
   pub response : length d.response < 2 ^ 16
   pub entity : length d.entity < 2 ^ 16
   pub cache : length d.cache < 2 ^ 16
 
--- the octets are the text, and padding behind it
+-- the octets are the text followed by padding
 abbrev pub BeginsWith : List ℕ → List ℕ → Type 0
 BeginsWith text octets = (padding : List ℕ) × (octets ≡ text ++ padding)
 
--- two octets, twelve reserved bits and four of the reason; then a SPECIFIER
+-- OP-DATA of a CLR request: twelve reserved bits, four bits of reason, then a SPECIFIER
 pub record IsClear (reason : ℕ) (s : Spec) (octets : List ℕ) : Type 0 where
   pub reserved : ℕ
   pub reserved_fits : reserved < 4096
@@ -111,7 +111,7 @@ pub record IsClear (reason : ℕ) (s : Spec) (octets : List ℕ) : Type 0 where
   pub texts : IsSpec s
   pub begins : BeginsWith (big_bytes 2 (16 * reserved + reason) ++ spec_text s) octets
 
--- OP-DATA of this form holds the body; where cache headers are due, nothing at all is an empty text
+-- OP-DATA of this layout holds the body. Missing cache headers count as an empty text.
 abbrev pub HoldsBody : Form → Body → List ℕ → Type 0
 HoldsBody forms.Empty empty octets = Unit {0}
 HoldsBody forms.Specifier (specifier s) octets = IsSpec s × BeginsWith (spec_text s) octets
@@ -126,14 +126,14 @@ HoldsBody form body octets = ⊥
 abbrev pub seal_text : Seal → List ℕ
 seal_text s = big_bytes 4 s.time ++ (big_bytes 4 s.expire ++ (countstr s.key_name ++ countstr s.signature))
 
--- the times fit four octets, and each text's length two
+-- the times fit four octets, and the length of each text two
 pub record IsSeal (s : Seal) : Type 0 where
   pub time : s.time < 2 ^ 32
   pub expire : s.expire < 2 ^ 32
   pub key_name : length s.key_name < 2 ^ 16
   pub signature : length s.signature < 2 ^ 16
 
--- a signed AUTH: LENGTH, which counts itself, and within it the seal and padding; then more padding
+-- a signed AUTH: LENGTH, which includes itself, then the seal and padding within it, then more padding
 pub record IsSealed (s : Seal) (octets : List ℕ) : Type 0 where
   pub inside : List ℕ
   pub inside_fits : length inside + 2 < 2 ^ 16
@@ -141,7 +141,7 @@ pub record IsSealed (s : Seal) (octets : List ℕ) : Type 0 where
   pub sealed : BeginsWith (seal_text s) inside
   pub begins : BeginsWith (big_bytes 2 (length inside + 2) ++ inside) octets
 
--- the octets behind DATA hold the AUTH: unsigned are no octets, and LENGTH 2 with padding behind it
+-- the octets after DATA hold the AUTH. No octets, or LENGTH 2 followed by padding, mean unsigned.
 abbrev pub HoldsAuth : Auth → List ℕ → Type 0
 HoldsAuth unsigned octets = (octets ≡ []) ⊎ BeginsWith (0 ∷ 2 ∷ []) octets
 HoldsAuth (signed s) octets = IsSealed s octets
@@ -151,7 +151,7 @@ abbrev pub bit : Bool → ℕ
 bit true = 1
 bit false = 0
 
--- DATA: LENGTH, which counts itself; OPCODE and RESPONSE; six reserved bits, F1 and RR; TRANS-ID; OP-DATA
+-- DATA: LENGTH, which includes itself; OPCODE and RESPONSE; six reserved bits, F1 and RR; TRANS-ID; OP-DATA
 pub record IsData (m : Message) (whole : List ℕ) : Type 0 where
   pub reserved : ℕ
   pub op_data : List ℕ
@@ -162,7 +162,7 @@ pub record IsData (m : Message) (whole : List ℕ) : Type 0 where
   pub spelled : whole ≡ big_bytes 2 (length whole) ++ ((16 * m.opcode + m.response) ∷ (4 * reserved + 2 * bit m.f1 + bit m.rr) ∷ big_bytes 4 m.trans ++ op_data)
   pub body : HoldsBody (form_of m.opcode m.response m.f1 m.rr) m.body op_data
 
--- the octets spell the message, and raw are those of its DATA: LENGTH of all octets, MAJOR 0, MINOR, DATA and AUTH
+-- the octets encode the message, and raw is its DATA: LENGTH of the whole, MAJOR 0, MINOR, DATA, AUTH
 pub record Spells (octets raw : List ℕ) (m : Message) : Type 0 where
   pub authentication : List ℕ
   pub fits : length octets < 2 ^ 16

@@ -1,4 +1,4 @@
--- What a view shows, without where it lies in memory.
+-- The message that a borrowed view stands for.
 use Rattle.htcp_packet.specs.declared.message.Specifier.{Specifier}
 use Rattle.htcp_packet.specs.declared.message.Detail.{Detail}
 use Rattle.htcp_packet.specs.declared.message.HtcpBody.{HtcpBody}
@@ -31,7 +31,7 @@ abbrev pub shown_auth : HtcpAuth → Auth
 shown_auth auths.Unsigned = unsigned
 shown_auth (auths.Signed time expire key_name signature) = signed (record { time = time; expire = expire; key_name = key_name.now; signature = signature.now })
 
--- the message, without the octets of its DATA
+-- the message, without its DATA as received
 abbrev pub shown : HtcpView → Message
 shown v = record {
   minor = v.minor;
@@ -44,6 +44,6 @@ shown v = record {
   auth = shown_auth v.auth;
 }
 
--- the message, and the octets of its DATA
+-- the message, with its DATA as received
 abbrev pub received : HtcpView → Received
 received v = record { message = shown v; raw = v.raw.now }

@@ -1,4 +1,4 @@
--- The octets of a message as they are written: without padding, reserved bits zero.
+-- The encoding that is written: no padding, reserved bits zero.
 use Rattle.std.specs.Prelude.{ℕ, ◌+◌, ◌*◌, ◌<◌, List, [], ◌∷◌, ◌++◌, length}
 use Rattle.byteorder.specs.Endian.{big_bytes}
 use Rattle.htcp_packet.specs.declared.message.Form.{Form}
@@ -31,15 +31,15 @@ message_text m =
     big_bytes 2 (length (data_text m) + length (auth_text m.auth) + 4)
     ++ (0 ∷ m.minor ∷ data_text m ++ auth_text m.auth)
 
--- how many octets a message can have: what a UDP datagram over IPv4 can carry
+-- maximum length of a message: the maximum payload of a UDP datagram over IPv4
 abbrev pub most_octets : ℕ
 most_octets = 65507
 
--- the same message with no signature
+-- the message without its signature
 abbrev pub without_auth : Message → Message
 without_auth m = record m { auth = unsigned }
 
--- the body is one of this form, and a reason fits its four bits
+-- the body has this layout, and its reason, if any, fits four bits
 abbrev pub FitsForm : Form → Body → Type 0
 FitsForm forms.Empty empty = Unit {0}
 FitsForm forms.Specifier (specifier s) = Unit {0}
@@ -49,7 +49,7 @@ FitsForm forms.CacheHeaders (cache_headers h) = Unit {0}
 FitsForm forms.Opaque (opaque all) = Unit {0}
 FitsForm form body = ⊥
 
--- what can be written: operation and answer code fit four bits, and the body has the form that they and the flags give
+-- the message can be encoded: opcode and response fit four bits, and the body has the layout that they and the flags give
 pub record IsWritable (m : Message) : Type 0 where
   pub opcode : m.opcode < 16
   pub response : m.response < 16

@@ -1,40 +1,40 @@
-//! The numbers of HTCP's operations and answer codes (RFC 2756).
+//! HTCP opcodes and response codes (RFC 2756).
 
-/// The operation that does nothing: a ping.
+/// Opcode: no operation, a ping.
 pub const NOP: u8 = 0;
 
-/// The operation that asks whether an object is held.
+/// Opcode: test whether an object is in the cache.
 pub const TST: u8 = 1;
 
-/// The operation that asks to be told of changes.
+/// Opcode: monitor changes of the cache.
 pub const MON: u8 = 2;
 
-/// The operation that passes on an object's headers.
+/// Opcode: set the headers of an object.
 pub const SET: u8 = 3;
 
-/// The operation that asks to forget an object.
+/// Opcode: clear an object from the cache.
 pub const CLR: u8 = 4;
 
-/// The answer to a TST: the object is held.
+/// Response to TST: the object is in the cache.
 pub const FOUND: u8 = 0;
 
-/// The answer to a TST: the object is not held.
+/// Response to TST: the object is not in the cache.
 pub const NOT_FOUND: u8 = 1;
 
-/// The protocol's own answer, whatever the operation, with F1 set: authentication was not used, but is required.
+/// Response to any opcode, with MO (F1) set: authentication was not used, but is required.
 pub const AUTHENTICATION_REQUIRED: u8 = 0;
 
-/// The same: the authentication was unsatisfactory.
+/// Response to any opcode, with MO (F1) set: authentication was used, but is not satisfactory.
 pub const AUTHENTICATION_FAILED: u8 = 1;
 
-/// The same: the operation is not implemented.
+/// Response to any opcode, with MO (F1) set: the opcode is not implemented.
 pub const NOT_IMPLEMENTED: u8 = 2;
 
-/// The same: the major version is not supported.
+/// Response to any opcode, with MO (F1) set: the major version is not supported.
 pub const MAJOR_NOT_SUPPORTED: u8 = 3;
 
-/// The same: the minor version is not supported.
+/// Response to any opcode, with MO (F1) set: the minor version is not supported.
 pub const MINOR_NOT_SUPPORTED: u8 = 4;
 
-/// The same: the operation is not allowed to the one who asks.
+/// Response to any opcode, with MO (F1) set: the opcode is not allowed to the requester.
 pub const NOT_ALLOWED: u8 = 5;

@@ -1,49 +1,26 @@
-//! Why a message isn't read, or isn't written.
+//! Decoding errors.
 
-ghost use Rattle.std.specs.Prelude.{◌≡◌};
-ghost use Rattle.htcp_packet.specs.declared.fault.EncodeFault.TheVariants.{NoMemory};
-
-use std::alloc::{AllocError, AllocFailed};
 use thiserror::Error;
 
-/// What is wrong with a datagram: the first that applies.
+/// Why a datagram is not an HTCP message. Faults are tested in this order, and the first that applies is reported.
 #[derive(Clone, Copy, Debug, PartialEq, Eq, Error)]
 pub enum HtcpFault {
+    /// Shorter than the header, which has 4 octets.
     #[error("under 4 octets")]
     Short,
+    /// The length field differs from the length of the datagram.
     #[error("the length field differs from the octets")]
     Length,
+    /// MAJOR is not 0.
     #[error("unknown major version")]
     Major,
+    /// The length of DATA is truncated, is under 8, or exceeds the datagram.
     #[error("the data isn't whole")]
     Data,
+    /// OP-DATA is too short for the form that opcode, response and flags give.
     #[error("a text of the operation isn't whole")]
     Text,
+    /// The octets after DATA are not a complete AUTH.
     #[error("the authentication isn't whole")]
     Auth,
-}
-
-/// Why a message isn't written.
-#[derive(Clone, Copy, Debug, PartialEq, Eq, Error)]
-pub enum EncodeFault {
-    #[error("over 65507 octets")]
-    TooLong,
-    #[error("out of memory")]
-    NoMemory,
-}
-
-impl From<AllocError> for EncodeFault {
-    ghost from_gives = { λ _ e. e ≡ NoMemory };
-
-    fn from(_e: AllocError) -> EncodeFault {
-        EncodeFault::NoMemory
-    }
-}
-
-impl<T: Drop> From<AllocFailed<T>> for EncodeFault {
-    ghost from_gives = { λ _ e. e ≡ NoMemory };
-
-    fn from(_e: AllocFailed<T>) -> EncodeFault {
-        EncodeFault::NoMemory
-    }
 }

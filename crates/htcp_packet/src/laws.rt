@@ -1,4 +1,4 @@
-//! Laws of the grammar, and of signatures.
+//! Laws of the message grammar and of signatures. The functions do nothing; their contracts are the laws.
 
 ghost use Rattle.std.specs.Prelude.{◌≡◌, ◌↔◌, ◌<◌, ℕ, List, Some};
 ghost use Rattle.wire_octets.specs.Octets.{IsOctets};
@@ -9,23 +9,23 @@ ghost use Rattle.htcp_packet.specs.Writing.{message_text};
 
 use crate::verifying::Sign;
 
-/// Octets spell at most one message, and have at most one DATA.
+/// An octet string encodes at most one message, with one DATA.
 pub fn one_message()
     ensures { (octets a b : List ℕ) (m n : Message) → Spells octets a m → Spells octets b n → (m ≡ n) × (a ≡ b) }
 {}
 
-/// Octets read as a message exactly where they spell it.
+/// The decoding function returns a message exactly if the octets encode it.
 pub fn read_as_spelled()
     ensures { (octets raw : List ℕ) (m : Message) → IsOctets octets → (message_of octets ≡ Some (record { message = m; raw = raw })) ↔ Spells octets raw m }
 {}
 
-/// The test of a signature, as a function, agrees with what a good signature is.
+/// The verification function returns `Good` exactly for a good signature.
 pub fn good_where_signed_so()
     ensures { (r : Received) (ends secret : List ℕ) (seconds : ℕ) → (sign_of r ends secret seconds ≡ Sign.Good) ↔ IsGood r ends secret seconds }
 {}
 
-/// What `sign` writes of a message at a second is read as that message, sealed, and its seal is good for the same
-/// ends and secret at that second: but at the last second, since no signature can expire later.
+/// What `sign` writes decodes to the signed message, and its signature is good for the same ends and secret at the second
+/// of signing, except at second 4,294,967,295, the last one, where it expires at once.
 pub fn verdict_of_signed()
     ensures read { (m : Message) (ends name secret : List ℕ) (seconds : ℕ) → IsSignable m ends name secret seconds
         → message_of (message_text (sealed m ends name secret seconds)) ≡ Some (sealed_received m ends name secret seconds) }

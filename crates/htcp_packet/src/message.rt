@@ -1,4 +1,4 @@
-//! Messages, borrowed from the datagram that spells them.
+//! Message types, borrowed from the datagram.
 
 ghost use Rattle.std.specs.Prelude.{◌≡◌, ◌↔◌, ◌<◌, ◌^◌, IsTrue};
 ghost use Rattle.std.specs.Cmp.{on_per, on_equiv, partial_equiv_from_equiv};
@@ -11,7 +11,7 @@ ghost use Rattle.htcp_packet.specs.Writing.{FitsForm, IsWritable};
 
 use crate::codes::{CLR, FOUND, NOP, NOT_FOUND, TST};
 
-/// The form of an operation's data, OP-DATA.
+/// The layout of OP-DATA.
 #[derive(Clone, Copy, Debug, PartialEq, Eq)]
 pub enum Form {
     Empty,
@@ -23,7 +23,7 @@ pub enum Form {
 }
 
 impl Form {
-    /// The form that the operation, the answer code and the flags give.
+    /// The layout for an opcode, a response code and the flags F1 and RR.
     pub fn of(opcode: u8, response: u8, f1: bool, rr: bool) -> Form
         ensures { result ≡ form_of opcode response f1 rr }
     {
@@ -48,7 +48,7 @@ impl Form {
     }
 }
 
-/// SPECIFIER: what is asked for (RFC 2756, section 3.2).
+/// SPECIFIER: identifies a request (RFC 2756, section 3.2).
 #[derive(Clone, Copy, Debug, PartialEq, Eq)]
 pub struct Specifier<'a> {
     pub method: &'a [u8],
@@ -57,7 +57,7 @@ pub struct Specifier<'a> {
     pub headers: &'a [u8],
 }
 
-/// DETAIL: what is held (RFC 2756, section 3.3).
+/// DETAIL: describes a cached object (RFC 2756, section 3.3).
 #[derive(Clone, Copy, Debug, PartialEq, Eq)]
 pub struct Detail<'a> {
     pub response_headers: &'a [u8],
@@ -65,27 +65,27 @@ pub struct Detail<'a> {
     pub cache_headers: &'a [u8],
 }
 
-/// OP-DATA: the data of an operation.
+/// OP-DATA: the data of an opcode.
 #[derive(Clone, Copy, Debug, PartialEq, Eq)]
 pub enum HtcpBody<'a> {
-    /// Of NOP, and of the answer to CLR.
+    /// Of NOP, and of a CLR response.
     Empty,
-    /// Of a request TST.
+    /// Of a TST request.
     Specifier(Specifier<'a>),
-    /// Of a request CLR. A reason is under 16.
+    /// Of a CLR request. The reason is under 16.
     Clear {
         reason: u8,
         specifier: Specifier<'a>,
     },
-    /// Of the answer to TST where something is held.
+    /// Of a TST response, if the object is in the cache.
     Detail(Detail<'a>),
-    /// Of the answer to TST where nothing is held.
+    /// Of a TST response, if the object is not in the cache.
     CacheHeaders(&'a [u8]),
-    /// Of everything else, not looked into.
+    /// Of everything else; not decoded further.
     Opaque(&'a [u8]),
 }
 
-/// AUTH: the signature of a message, and its times in seconds since 1970 UTC.
+/// AUTH: the signature of a message. Times are in seconds since 1970-01-01 UTC.
 #[derive(Clone, Copy, Debug, PartialEq, Eq)]
 pub enum HtcpAuth<'a> {
     Unsigned,
@@ -97,10 +97,10 @@ pub enum HtcpAuth<'a> {
     },
 }
 
-/// A message, and its DATA as received.
+/// A message, together with the octets of its DATA as received.
 ///
-/// `rr` tells an answer from a request. `f1` is RD in a request (an answer is wanted) and MO in an answer (its
-/// code is one of the protocol's own, whatever the operation).
+/// `rr` is set in a response. `f1` is RD in a request (a response is desired), and MO in a response (the response code
+/// applies to the whole message instead of the opcode).
 #[derive(Clone, Copy, Debug)]
 pub struct HtcpView<'a> {
     pub minor: u8,
@@ -112,7 +112,7 @@ pub struct HtcpView<'a> {
     pub rr: bool,
     pub trans: u32,
     pub body: HtcpBody<'a>,
-    /// The octets of DATA, padding and reserved bits included. It is no part of a message's equality.
+    /// DATA as received, including padding and reserved bits. Ignored by `==`.
     pub raw: &'a [u8],
     pub auth: HtcpAuth<'a>,
 }
@@ -122,7 +122,7 @@ impl<'a> PartialEq for HtcpView<'a> {
 
     ghost laws = { on_per shown (partial_equiv_from_equiv messages_equiv) };
 
-    /// Whether both are the same message. The octets of their DATA aren't looked at.
+    /// Whether both are the same message. Ignores `raw`.
     fn eq(&self, other: &HtcpView<'a>) -> bool
         ensures value { result ≡ on shown same_message self.now other.now }
         ensures same { IsTrue result ↔ (shown self.now ≡ shown other.now) }
@@ -142,7 +142,7 @@ impl<'a> Eq for HtcpView<'a> {
     ghost laws = { on_equiv shown messages_equiv };
 }
 
-// Whether the body has this form, and a reason fits its four bits.
+// Whether the body has this layout and its reason, if any, fits four bits.
 fn fits_form(form: Form, body: &HtcpBody<'_>) -> bool
     ensures { IsTrue result ↔ FitsForm form (shown_body body.now) }
 {
@@ -164,8 +164,8 @@ fn fits_form(form: Form, body: &HtcpBody<'_>) -> bool
 }
 
 impl<'a> HtcpView<'a> {
-    /// Whether the message can be written: operation and answer code are under 16, the body has the form that
-    /// they and the flags give, and a reason is under 16.
+    /// Whether the message can be encoded: opcode and response are under 16, the body has the layout that they and the
+    /// flags give, and its reason, if any, is under 16.
     pub fn is_writable(&self) -> bool
         ensures { IsTrue result ↔ IsWritable (shown self.now) }
     {
@@ -173,7 +173,7 @@ impl<'a> HtcpView<'a> {
         self.opcode < 16 && self.response < 16 && fits_form(form, &self.body)
     }
 
-    // The numbers of a view are in range.
+    // Publishes the range of `trans`, which follows from its type, for use in proofs.
     pub(crate) fn is_in_range(&self)
         ensures { self.now.trans < 2 ^ 32 }
     {

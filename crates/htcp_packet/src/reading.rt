@@ -1,4 +1,4 @@
-//! Messages from octets.
+//! Decoder.
 
 ghost use Rattle.std.specs.Prelude.{◌≡◌, ℕ, List, Some, None, MatchResult, IfOk, IfErr, IsOkAnd};
 ghost use Rattle.std.specs.Option.{option_map};
@@ -13,7 +13,7 @@ use crate::message::{Detail, Form, HtcpAuth, HtcpBody, HtcpView, Specifier};
 use byteorder::{BigEndian, ByteOrder};
 use wire_octets::{split_u16, split_u32};
 
-// A counted text, and the octets behind it.
+// Decodes a COUNTSTR. Returns it and the rest.
 #[tactic(auto, unfolding(crate::specs::Reading::countstr_at))]
 fn countstr(octets: &[u8]) -> Option<(&[u8], &[u8])>
     ensures { option_map (λ x. (x.0.now, x.1.now)) result ≡ countstr_at octets.now }
@@ -26,7 +26,7 @@ fn countstr(octets: &[u8]) -> Option<(&[u8], &[u8])>
     Some(rest.split_at(len))
 }
 
-// A SPECIFIER, and the octets behind it.
+// Decodes a SPECIFIER. Returns it and the rest.
 #[tactic(auto, unfolding(crate::specs::Reading::spec_at))]
 fn specifier(octets: &[u8]) -> Option<(Specifier<'_>, &[u8])>
     ensures { option_map (λ x. (shown_specifier x.0, x.1.now)) result ≡ spec_at octets.now }
@@ -46,7 +46,7 @@ fn specifier(octets: &[u8]) -> Option<(Specifier<'_>, &[u8])>
     ))
 }
 
-// A DETAIL, and the octets behind it.
+// Decodes a DETAIL. Returns it and the rest.
 #[tactic(auto, unfolding(crate::specs::Reading::detail_at))]
 fn detail(octets: &[u8]) -> Option<(Detail<'_>, &[u8])>
     ensures { option_map (λ x. (shown_detail x.0, x.1.now)) result ≡ detail_at octets.now }
@@ -64,7 +64,7 @@ fn detail(octets: &[u8]) -> Option<(Detail<'_>, &[u8])>
     ))
 }
 
-// The body in OP-DATA of a form.
+// Decodes OP-DATA of a given layout.
 #[tactic(auto, unfolding(crate::specs::Reading::body_at))]
 fn body_of(form: Form, octets: &[u8]) -> Option<HtcpBody<'_>>
     ensures { option_map shown_body result ≡ body_at form octets.now }
@@ -101,7 +101,7 @@ fn body_of(form: Form, octets: &[u8]) -> Option<HtcpBody<'_>>
     }
 }
 
-// What a signed AUTH has behind its length.
+// Decodes the part of a signed AUTH after its length.
 #[tactic(auto, unfolding(crate::specs::Reading::seal_at))]
 fn seal_of(octets: &[u8]) -> Option<HtcpAuth<'_>>
     ensures { option_map shown_auth result ≡ seal_at octets.now }
@@ -120,7 +120,7 @@ fn seal_of(octets: &[u8]) -> Option<HtcpAuth<'_>>
     })
 }
 
-// AUTH in the octets behind DATA.
+// Decodes AUTH from the octets after DATA.
 #[tactic(auto, unfolding(crate::specs::Reading::auth_at))]
 fn auth_of(octets: &[u8]) -> Option<HtcpAuth<'_>>
     ensures { option_map shown_auth result ≡ auth_at octets.now }
@@ -141,7 +141,7 @@ fn auth_of(octets: &[u8]) -> Option<HtcpAuth<'_>>
     seal_of(&octets[2..len])
 }
 
-// DATA and the octets behind it, of a datagram whose header has no fault.
+// Checks the header, and splits off DATA from the octets after it. Errors: the first fault of the header.
 fn data_of(datagram: &[u8]) -> Result<(&[u8], &[u8]), HtcpFault>
     ensures { MatchResult result (λ x. IsHeader datagram.now × (x.0.now ≡ data_octets datagram.now) × (x.1.now ≡ auth_octets datagram.now)) (λ fault. IsFaultOf datagram.now fault) }
 {
@@ -165,7 +165,7 @@ fn data_of(datagram: &[u8]) -> Result<(&[u8], &[u8]), HtcpFault>
     Ok(rest.split_at(len))
 }
 
-// The message field by field, or the first fault.
+// Decodes the message field by field, or returns the first fault.
 fn read(datagram: &[u8]) -> Result<HtcpView<'_>, HtcpFault>
     ensures { MatchResult result (λ view. ReadsAs datagram.now (shown view) × (view.raw.now ≡ data_octets datagram.now)) (λ fault. IsFaultOf datagram.now fault) }
 {
@@ -196,16 +196,18 @@ fn read(datagram: &[u8]) -> Result<HtcpView<'_>, HtcpFault>
     })
 }
 
-/// The message that a datagram spells, borrowed from it, with the octets of its DATA as they stand there; else
-/// the first fault. It takes no memory.
+/// Decodes a datagram. The view borrows from it and includes DATA as received; nothing is allocated.
+///
+/// # Errors
+/// The first fault that applies, in the order of `HtcpFault`, if the datagram is not a message.
 pub fn decode(datagram: &[u8]) -> Result<HtcpView<'_>, HtcpFault>
-    // What is read is spelled so, with this DATA.
+    // Sound: the datagram encodes the returned message, with this DATA.
     ensures found { IfOk result (λ view. Spells datagram.now view.raw.now (shown view)) }
-    // What is spelled so is read.
+    // Complete: an encoded message is returned.
     ensures only { (raw : List ℕ) (m : Message) → Spells datagram.now raw m → IsOkAnd result (λ view. (shown view ≡ m) × (view.raw.now ≡ raw)) }
-    // Anything else has a fault, and it is the first.
+    // The returned fault is the first that applies.
     ensures fault { IfErr result (λ fault. IsFaultOf datagram.now fault) }
-    // The same as a function of the octets.
+    // The same, in terms of the decoding function of the specification.
     ensures value { MatchResult result (λ view. message_of datagram.now ≡ Some (received view)) (λ fault. message_of datagram.now ≡ None) }
 {
     read(datagram)

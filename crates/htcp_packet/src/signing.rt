@@ -1,4 +1,4 @@
-//! Signed messages.
+//! Signing.
 
 ghost use Rattle.std.specs.Prelude.{◌≡◌, ◌↔◌, ◌+◌, ◌<◌, ◌≤◌, ◌++◌, length, ℕ, List, OnOk, IfOk};
 ghost use Rattle.htcp_packet.specs.Message.{Message, signed, Spells};
@@ -6,20 +6,19 @@ ghost use Rattle.htcp_packet.specs.View.{shown, shown_body};
 ghost use Rattle.htcp_packet.specs.Writing.{auth_text, body_text, data_text, message_text, most_octets, IsWritable};
 ghost use Rattle.htcp_packet.specs.Signing.{sealed, IsGood};
 
-use crate::fault::EncodeFault;
 use crate::message::HtcpView;
 use crate::verifying::signature_of;
 use crate::writing::{FRONT_LEN, MAX_LEN, body_len, front, put_countstr};
 use std::alloc::{AllocError, Global};
-use wire_octets::{put_u16, put_u32};
+use wire_octets::{EncodeFault, put_u16, put_u32};
 
-// Seconds for which a signature lasts.
+// Lifetime of a signature in seconds.
 const LIFE: u32 = 60;
 
-// AUTH without its key's name: three lengths, two times and 16 octets of signature.
+// Length of a signed AUTH without the key name: three lengths, two times and a signature of 16 octets.
 const SEAL_LEN: usize = 30;
 
-// A signed AUTH.
+// Appends a signed AUTH.
 fn put_seal(
     out: &mut Vec<u8>,
     times: (u32, u32),
@@ -37,7 +36,7 @@ fn put_seal(
     Ok(())
 }
 
-// The signed message, in which OP-DATA and the key's name are within the limit together.
+// Encodes and signs a message that fits a datagram.
 fn signed_message(
     alloc: Global,
     view: &HtcpView<'_>,
@@ -61,11 +60,13 @@ fn signed_message(
     Ok(out)
 }
 
-/// The octets of the message signed with a key of this name and secret, at this second. Its `raw` and the
-/// signature that it has aren't looked at.
+/// Encodes a message and signs it with the key of this name and secret. Ignores `view.raw` and `view.auth`.
 ///
-/// The signature expires 60 seconds later, but at 4,294,967,295 at the latest. `ends` and `seconds` are as in
-/// `verify`. `TooLong` where there would be over 65,507 octets. `is_writable` tests the condition.
+/// The signature's time is `seconds`; it expires 60 seconds later, or at 4,294,967,295 if that is earlier. `ends` and
+/// `seconds` are as in `verify`. Requires what `HtcpView::is_writable` tests.
+///
+/// # Errors
+/// `TooLong` exactly if the message would exceed 65,507 octets; `NoMemory` if an allocation fails.
 pub fn sign(
     alloc: Global,
     view: &HtcpView<'_>,
@@ -78,7 +79,7 @@ pub fn sign(
     ensures written { IfOk result (λ out. out.items ≡ message_text (sealed (shown view.now) ends.now name.now secret.now seconds)) }
     ensures spelled { IfOk result (λ out. Spells out.items (data_text (shown view.now)) (sealed (shown view.now) ends.now name.now secret.now seconds)) }
     ensures too_long { (result ≡ Err EncodeFault.TooLong) ↔ (most_octets < length (message_text (sealed (shown view.now) ends.now name.now secret.now seconds))) }
-    // Whoever reads it finds the signature good, but at the last second.
+    // The signature verifies as good at the second of signing, except at the last second.
     ensures good { IfOk result (λ out. (raw : List ℕ) (m : Message) → Spells out.items raw m → (IsGood (record { message = m; raw = raw }) ends.now secret.now seconds ↔ (seconds < 4294967295))) }
 {
     view.is_in_range();

@@ -1,4 +1,4 @@
-//! What the signature of a message says.
+//! Signature verification.
 
 ghost use Rattle.std.specs.Prelude.{◌≡◌, ◌↔◌, ◌∷◌, ◌++◌};
 ghost use Rattle.byteorder.specs.Endian.{big_bytes};
@@ -11,21 +11,21 @@ use crate::message::{HtcpAuth, HtcpView};
 use byteorder::{BigEndian, ByteOrder};
 use hmac_md5::{mac, same};
 
-/// What a signature says.
+/// Result of verifying a signature.
 #[derive(Clone, Copy, Debug, PartialEq, Eq)]
 pub enum Sign {
-    /// The message isn't signed.
+    /// The message is not signed.
     Absent,
-    /// The signature is the message's, and its times hold.
+    /// The signature matches the message, is not from the future and has not expired.
     Good,
-    /// Any other signature.
+    /// The message is signed, but not so.
     Bad,
 }
 
-// Seconds for which a signature may be early.
+// Seconds by which the time of a signature may be ahead of the clock.
 const EARLY: u32 = 60;
 
-// MAJOR and MINOR, and both times.
+// MAJOR (0), MINOR and both times, as signed.
 fn versions_and_times(minor: u8, times: (u32, u32)) -> [u8; 10]
     ensures { result ≡ 0 ∷ minor ∷ big_bytes 4 times.0 ++ big_bytes 4 times.1 }
 {
@@ -36,7 +36,7 @@ fn versions_and_times(minor: u8, times: (u32, u32)) -> [u8; 10]
     octets
 }
 
-// The signature of a message with these parts.
+// The signature (HMAC-MD5) of a message with these parts.
 pub(crate) fn signature_of(
     minor: u8,
     raw: &[u8],
@@ -53,7 +53,7 @@ pub(crate) fn signature_of(
     mac_of(secret, (ends, &between), raw, (&len, key_name))
 }
 
-// The code of these parts, at one lifetime.
+// HMAC of the parts. A function of its own, so that all parts have one lifetime.
 fn mac_of<'a>(
     secret: &[u8],
     front: (&'a [u8], &'a [u8]),
@@ -66,15 +66,15 @@ fn mac_of<'a>(
     mac(secret, &parts)
 }
 
-/// What the message's signature says at this second, if the key has this secret. It takes no memory.
+/// Verifies the signature of a message with the key's secret. Allocates nothing.
 ///
-/// `ends` are those of the datagram: address and port of the sender, then of the receiver, in network order.
-/// `seconds` are since 1970 UTC. A signature may be 60 seconds early. Of a key's name over 65,535 octets, which
-/// no datagram has, the length counts modulo 65,536.
+/// `ends` are the addresses of the datagram: IPv4 address and port of the sender, then of the receiver, in network byte
+/// order. `seconds` is the current time in seconds since 1970-01-01 UTC. The signature's time may be up to 60 seconds
+/// ahead. The length of a key name is taken modulo 65,536; no datagram holds a longer name.
 pub fn verify(view: &HtcpView<'_>, ends: &[u8; 12], secret: &[u8], seconds: u32) -> Sign
     ensures absent { (result ≡ Sign.Absent) ↔ (shown_auth view.now.auth ≡ unsigned) }
     ensures good { (result ≡ Sign.Good) ↔ IsGood (received view.now) ends.now secret.now seconds }
-    // The same as a function.
+    // The same, in terms of the verification function of the specification.
     ensures value { result ≡ sign_of (received view.now) ends.now secret.now seconds }
 {
     match view.auth {

@@ -1,4 +1,4 @@
-//! Octets from messages.
+//! Encoder.
 
 ghost use Rattle.std.specs.Prelude.{◌≡◌, ◌+◌, ◌-◌, ◌^◌, ◌<◌, ◌≤◌, ◌∷◌, ◌++◌, ◌↔◌, [], length, min, OnOk, IfOk};
 ghost use Rattle.byteorder.specs.Endian.{big_bytes};
@@ -6,21 +6,20 @@ ghost use Rattle.htcp_packet.specs.Message.{countstr, spec_text, detail_text, Sp
 ghost use Rattle.htcp_packet.specs.Writing.{body_text, data_text, message_text, most_octets, without_auth, IsWritable};
 ghost use Rattle.htcp_packet.specs.View.{shown, shown_body, shown_detail, shown_specifier};
 
-use crate::fault::EncodeFault;
 use crate::message::{Detail, HtcpBody, HtcpView, Specifier};
 use std::alloc::{AllocError, Global};
-use wire_octets::{put_u16, put_u32};
+use wire_octets::{EncodeFault, put_u16, put_u32};
 
-// The most octets of a datagram.
+// Maximum payload of a UDP datagram over IPv4, in octets.
 pub(crate) const MAX_LEN: usize = 65_507;
 
-// LENGTH, MAJOR and MINOR, DATA's LENGTH, operation and answer code, flags and TRANS-ID.
+// Octets before OP-DATA: LENGTH, MAJOR, MINOR, the LENGTH of DATA, opcode and response, flags, TRANS-ID.
 pub(crate) const FRONT_LEN: usize = 12;
 
-// LENGTH 2.
+// Length of the AUTH of an unsigned message, which is its LENGTH field alone.
 const UNSIGNED_LEN: usize = 2;
 
-// A counted text.
+// Appends a COUNTSTR: a two-octet length, then the text.
 pub(crate) fn put_countstr(out: &mut Vec<u8>, text: &[u8]) -> Result<(), AllocError>
     requires { length text.now < 65536 }
     ensures { OnOk result (out.new.items ≡ out.old.items ++ countstr text.now) }
@@ -51,7 +50,7 @@ fn put_detail(out: &mut Vec<u8>, d: &Detail<'_>) -> Result<(), AllocError>
     Ok(())
 }
 
-// OP-DATA.
+// Appends OP-DATA.
 fn put_body(out: &mut Vec<u8>, body: &HtcpBody<'_>) -> Result<(), AllocError>
     requires { length (body_text (shown_body body.now)) < 65536 }
     ensures { OnOk result (out.new.items ≡ out.old.items ++ body_text (shown_body body.now)) }
@@ -87,7 +86,7 @@ fn detail_len(d: &Detail<'_>) -> usize
         .saturating_add(d.cache_headers.len())
 }
 
-// The octets of OP-DATA.
+// Length of OP-DATA, saturating at the maximum of `usize`.
 pub(crate) fn body_len(body: &HtcpBody<'_>) -> usize
     ensures { result ≡ min (length (body_text (shown_body body.now))) (2 ^ 64 - 1) }
 {
@@ -104,7 +103,7 @@ pub(crate) fn body_len(body: &HtcpBody<'_>) -> usize
     }
 }
 
-// DATA.
+// Appends DATA.
 fn put_data(out: &mut Vec<u8>, view: &HtcpView<'_>, body_len: usize) -> Result<(), AllocError>
     requires len { body_len ≡ length (body_text (shown_body view.now.body)) }
     requires within { body_len ≤ 65493 }
@@ -120,7 +119,7 @@ fn put_data(out: &mut Vec<u8>, view: &HtcpView<'_>, body_len: usize) -> Result<(
     Ok(())
 }
 
-// The message up to its AUTH, which has `auth_len` octets, in room for all of it.
+// Encodes the message up to AUTH, with capacity for an AUTH of `auth_len` octets.
 pub(crate) fn front(
     alloc: Global,
     view: &HtcpView<'_>,
@@ -155,9 +154,10 @@ fn unsigned(alloc: Global, view: &HtcpView<'_>, body_len: usize) -> Result<Vec<u
     Ok(out)
 }
 
-/// The octets of the message without its signature. Its `raw` isn't looked at.
+/// Encodes a message without a signature. Ignores `view.raw` and `view.auth`. Requires what `HtcpView::is_writable` tests.
 ///
-/// `TooLong` where they would be over 65,507. `is_writable` tests the condition.
+/// # Errors
+/// `TooLong` exactly if the message would exceed 65,507 octets; `NoMemory` if an allocation fails.
 pub fn encode(alloc: Global, view: &HtcpView<'_>) -> Result<Vec<u8>, EncodeFault>
     requires { IsWritable (shown view.now) }
     ensures written { IfOk result (λ out. out.items ≡ message_text (without_auth (shown view.now))) }

@@ -1,4 +1,4 @@
--- The first element of a text, and the ones after it.
+-- The first list element of a text, and those after it.
 use Rattle.std.proofs.Common.{◌≡◌, ℕ, suc, ◌+◌, ◌<◌, ◌≤◌, List, [], ◌∷◌, ◌++◌, length, map, find, flat_map, take, drop, bytes_eq, Bool, true, false, cond, Some, None, option_map, refl, sym, ap, ◌∙◌, arith, add-one}
 use Rattle.std.specs.Option.{option_or}
 use Rattle.http_rules.specs.declared.directives.Place.{Place}
@@ -6,7 +6,7 @@ use Rattle.http_rules.specs.declared.directives.Place.TheVariants.{Plain}
 use Rattle.http_rules.specs.Directives.{place_after, is_separator, onto_first, elements_from, directive_of, directives_in, first_argument}
 use Rattle.http_rules.specs.Elements.{element_len, argument_among}
 
--- a text whose first element ends before its end: that element, then those after the comma
+-- a text with a comma after its first element: that element, then those after the comma
 abbrev Before : Place → List ℕ → Type 0
 Before place text = element_len place text < length text
     → elements_from place text ≡ take (element_len place text) text ∷ elements_from Plain (drop (suc (element_len place text)) text)
@@ -45,7 +45,7 @@ pub directives_whole : (text : List ℕ) (n : ℕ) → n ≡ element_len Plain t
     → directives_in text ≡ directive_of text ∷ []
 directives_whole text n e h = ap (map directive_of) (elements_whole Plain text (rw e at h))
 
--- the first of these directives is the one, or the search goes on
+-- the first directive has the name, or the search continues
 pub first_argument-cons : (name : List ℕ) (d : List ℕ × List ℕ) (ds : List (List ℕ × List ℕ))
     → first_argument name (d ∷ ds) ≡ option_or (first_argument name (d ∷ [])) (first_argument name ds)
 first_argument-cons name d ds = by (bytes_eq d.0 name)
@@ -66,7 +66,7 @@ first_argument-append name (d ∷ ds) ys = by (bytes_eq d.0 name) (first_argumen
     by true ih = refl
     by false ih = ih
 
--- a search value by value finds the first of all directives
+-- searching the values in order finds the first of all directives
 pub argument_among-whole : (name : List ℕ) (values : List (List ℕ)) → argument_among name values ≡ first_argument name (flat_map directives_in values)
 argument_among-whole name [] = refl
 argument_among-whole name (v ∷ vs) =

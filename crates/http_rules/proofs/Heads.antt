@@ -1,4 +1,4 @@
--- The values of a name in a map, and those of the fields that it holds.
+-- Looking up a name in a header map agrees with the list of fields that it holds.
 use Rattle.std.proofs.Common.{◌≡◌, ℕ, suc, ◌<◌, ◌≢◌, List, [], ◌∷◌, ◌++◌, length, map, filter, bytes_eq, slice_get, option_map, true, false, refl, sym, ap, ◌∙◌, inl, inr, arith}
 use Rattle.std.proofs.lemmas.Bool.{cases_Bool}
 use Rattle.std.proofs.lemmas.List.{map-append}
@@ -15,13 +15,13 @@ IsMissing name m = (i : ℕ) → i < length m → (entry_at m i).0 ≢ name
 differ : (a b : List ℕ) → a ≢ b → bytes_eq a b ≡ false
 differ a b n = elim (cases_Bool (bytes_eq a b)) [ inl t ↦ absurd (n ((bytes_eq-Decides a b).0 t)) | inr f ↦ f ]
 
--- a map without its first entry has no name twice
+-- a map without its first entry has distinct names
 rest_unique : (e : Entry FieldValue) (m : Entries FieldValue) → IsUnique (e ∷ m) → IsUnique m
 rest_unique e m u i j hi hj k =
     let same : suc i ≡ suc j = u (suc i) (suc j) (omega arith) (omega arith) k in
     omega arith
 
--- the name of the first entry is in no other
+-- no other entry has the name of the first
 first_missing : (e : Entry FieldValue) (m : Entries FieldValue) → IsUnique (e ∷ m) → IsMissing e.0 m
 first_missing e m u i hi k =
     let same : 0 ≡ suc i = u 0 (suc i) (omega arith) (omega arith) (sym k) in
@@ -69,7 +69,7 @@ append_none : (xs ys : List (List ℕ)) → ys ≡ [] → xs ++ ys ≡ xs
 append_none [] ys h = h
 append_none (x ∷ xs) ys h = ap (λ (zs : List (List ℕ)). x ∷ zs) (append_none xs ys h)
 
--- a map's values of a name are those of its fields
+-- the values of a name in a map are those in its list of fields
 pub values-get_all : (name : List ℕ) (m : Entries FieldValue) → IsUnique m → map (λ v. v.bytes) (get_all m name) ≡ values_of name (fields_of m)
 values-get_all name [] u = refl
 values-get_all name (e ∷ m) u =
@@ -90,7 +90,7 @@ first-map : (values : List FieldValue) → slice_get (map (λ (v : FieldValue). 
 first-map [] = refl
 first-map (v ∷ vs) = refl
 
--- a map's first value of a name is that of its fields
+-- the first value of a name in a map is that in its list of fields
 pub first_value-get : (name : List ℕ) (m : Entries FieldValue) → IsUnique m → option_map (λ v. v.bytes) (get m name) ≡ first_value name (fields_of m)
 first_value-get name m u =
     sym (first-map (get_all m name)) ∙ ap (λ (xs : List (List ℕ)). slice_get xs 0) (values-get_all name m u)

@@ -18,7 +18,7 @@ visible_octet c h =
     let both = and_parts (nat_le 0x21 c) (nat_le c 0x7e) h in
     (grind (arith, nat_tests, both.0), grind (arith, nat_tests, both.1))
 
--- a host that is there
+-- a URL with a host
 host_there : (o : Option (Host (List ℕ))) → not (is_empty_host (unwrap_or o (Domain []))) ≡ true → is_some o ≡ true
 host_there None h = cc
 host_there (Some x) h = refl

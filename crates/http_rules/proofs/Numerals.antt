@@ -1,9 +1,9 @@
--- Numbers of digits, up to a bound.
+-- Decimal numbers, capped at a bound.
 use Rattle.std.proofs.Common.{◌≡◌, ℕ, ◌+◌, ◌-◌, ◌*◌, ◌<◌, ◌≤◌, ◌⊎◌, inl, inr, min, List, [], ◌∷◌, length, get_or, drop, refl, arith}
 use Rattle.std.proofs.lemmas.List.{drop_more}
-use Rattle.http_rules.specs.Text.{value_after}
+use Rattle.wire_octets.specs.Decimal.{value_after}
 
--- a number that is cut at the bound gives the same, cut there
+-- capping at each step gives the same as capping at the end
 value_cut : (most a b : ℕ) (cs : List ℕ) → (a ≡ b) ⊎ ((most ≤ a) × (most ≤ b)) → min (value_after a cs) most ≡ min (value_after b cs) most
 value_cut most a b [] (inl e) = omega arith
 value_cut most a b [] (inr k) = omega (arith, k.0, k.1)
@@ -14,7 +14,7 @@ value_cut most a b (c ∷ cs) (inr k) =
 lt_or_le : (m n : ℕ) → (m < n) ⊎ (n ≤ m)
 lt_or_le m n = grind arith
 
--- one digit more
+-- one more digit
 pub value_step : (most m n : ℕ) (word : List ℕ) (i : ℕ) → i < length word → m ≡ min (n * 10 + (get_or word i 0 - 48)) most
     → min (value_after m (drop (i + 1) word)) most ≡ min (value_after n (drop i word)) most
 value_step most m n word i inside e =

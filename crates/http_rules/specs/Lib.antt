@@ -1,3 +1,4 @@
+pub mod Administrator
 pub mod Directives
 pub mod Elements
 pub mod Fields

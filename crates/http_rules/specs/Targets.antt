@@ -1,4 +1,4 @@
--- The key that a request's target gives: the text of an `http` URL without its fragment.
+-- The cache key of a request target: the text of an `http` URL without its fragment.
 use Rattle.std.specs.Prelude.{◌≡◌, ℕ, ◌<◌, ◌≤◌, List, codes, length, bytes_eq, nat_le, not, Bool, true, ◌&&◌, Option, Some, None, option_and_then, if◌then◌else◌}
 use Rattle.std.specs.List.{list_all}
 use Rattle.std.specs.Result.{result_ok}
@@ -11,25 +11,25 @@ use Rattle.http_rules.specs.declared.target.TargetFault.TheVariants.{NotHttp, To
 abbrev pub text_of : Parts → List ℕ
 text_of url = serialize (record url { fragment = None })
 
--- whether an octet is visible ASCII
+-- visible ASCII
 abbrev pub is_visible : ℕ → Bool
 is_visible octet = nat_le 0x21 octet && nat_le octet 0x7e
 
--- whether a URL can be a key: `http`, with a host, with no user and no password, all in visible ASCII
+-- whether a URL is a valid key, apart from its length: scheme `http`, a host, no user or password, all visible ASCII
 abbrev pub is_plain : Parts → Bool
 is_plain url =
     bytes_eq url.scheme (codes "http")
     && (has_host url && (not (has_credentials url) && list_all is_visible (text_of url)))
 
--- the key of a URL, however long
+-- the key of a URL, of any length
 abbrev pub url_key : Parts → Option (List ℕ)
 url_key url = if is_plain url then Some (text_of url) else None
 
--- the key of a target, however long
+-- the key of a target, of any length
 abbrev pub target_key : List ℕ → Option (List ℕ)
 target_key target = option_and_then url_key (result_ok (parse_url None target))
 
--- why a URL gives no key: it can be none, or its text is too long
+-- why a URL has no key: it is not a valid one, its text is too long, or memory ran out
 abbrev pub IsFaultOf : Parts → TargetFault → Type 0
 IsFaultOf url NotHttp = url_key url ≡ None
 IsFaultOf url TooLong = (is_plain url ≡ true) × (8192 < length (text_of url))

@@ -1,4 +1,4 @@
-//! How old a response was when it came.
+//! The age of a response when it was received.
 ghost use Rattle.std.specs.Prelude.{◌≡◌, ◌≤◌};
 ghost use Rattle.http_rules.specs.Fields.{fields_of};
 ghost use Rattle.http_rules.specs.Responses.{age_of};
@@ -7,8 +7,8 @@ use crate::fields::first_value;
 use crate::seconds::seconds;
 use http_header::HeaderMap;
 
-/// How many seconds old a response was when it came, by its first Age field: 0 where there is none
-/// or it is no number, and at most 2,147,483,648.
+/// The age of a response in seconds when it was received, from its first Age field (RFC 9111, section 5.1): 0 if the field is
+/// missing or not a number, and at most 2,147,483,648.
 pub fn age_of(head: &HeaderMap) -> u32
     ensures value { result ≡ age_of (fields_of head.now) }
     ensures bound { result ≤ 2147483648 }

@@ -1,4 +1,4 @@
-//! The directives of Cache-Control fields.
+//! The directives of Cache-Control fields (RFC 9111, section 5.2).
 ghost use Rattle.std.specs.Prelude.{◌≡◌, ◌≤◌, ◌∷◌, [], length, codes, IfSome};
 ghost use Rattle.std.specs.Option.{option_copied};
 ghost use Rattle.std.specs.List.{position_or_len, list_any};
@@ -12,19 +12,19 @@ use crate::seconds::{seconds, unquoted};
 use crate::text::{is_name, trimmed};
 use http_header::HeaderMap;
 
-/// Where an octet of a field's value stands.
+/// The quoting state of a scan through a field value.
 #[derive(Clone, Copy, Debug, PartialEq, Eq)]
 pub(crate) enum Place {
-    /// Outside of double quotes.
+    /// Outside double quotes.
     Plain,
-    /// Within them.
+    /// Inside double quotes.
     Quoted,
-    /// Within them, after a backslash.
+    /// Inside double quotes, after a backslash.
     Escaped,
 }
 
 impl Place {
-    /// Where the octet after this one stands.
+    /// The state after this octet.
     fn after(self, octet: u8) -> Place
         ensures { result ≡ place_after self octet }
     {
@@ -45,7 +45,7 @@ impl Place {
         }
     }
 
-    /// Whether an octet that stands there ends an element.
+    /// Whether this octet, read in this state, ends a list element.
     fn is_separator(self, octet: u8) -> bool
         ensures { result ≡ is_separator self octet }
     {
@@ -55,7 +55,7 @@ impl Place {
         }
     }
 
-    /// Whether an octet that stands there is within double quotes.
+    /// Whether the state is inside double quotes.
     fn is_quoted(self) -> bool
         ensures { result ≡ is_quoted self }
     {
@@ -66,7 +66,7 @@ impl Place {
     }
 }
 
-// Whether a double quote of a value is never closed.
+// Whether a value has an unclosed double quote.
 fn is_unclosed(value: &[u8]) -> bool
     ensures { result ≡ is_unclosed value.now }
 {
@@ -77,7 +77,7 @@ fn is_unclosed(value: &[u8]) -> bool
     place.is_quoted()
 }
 
-// How many octets the first element of a text has.
+// The length of the first list element of a text.
 fn element_len(text: &[u8]) -> usize
     ensures value { result ≡ element_len Place.Plain text.now }
     ensures bound { result ≤ length text.now }
@@ -92,7 +92,7 @@ fn element_len(text: &[u8]) -> usize
     text.len()
 }
 
-// The first element of a text, and the text after its comma, if it has one.
+// Splits off the first list element; the rest, after the comma, is `None` if there is no comma.
 fn split_element(text: &[u8]) -> (&[u8], Option<&[u8]>)
     ensures value { directives_in text.now ≡ directive_of result.0.now ∷ directives_left (option_copied result.1) }
     ensures less { octets_left (option_copied result.1) ≤ length text.now }
@@ -106,14 +106,14 @@ fn split_element(text: &[u8]) -> (&[u8], Option<&[u8]>)
     }
 }
 
-// Whether an octet ends the name of a directive.
+// Whether an octet ends the name of a directive: `=`, space or tab.
 fn ends_name(octet: u8) -> bool
     ensures { result ≡ ends_name octet }
 {
     octet == b'=' || (octet == b' ' || octet == b'\t')
 }
 
-// How many octets the name of a directive has.
+// The length of the name at the beginning of a directive.
 fn name_len(text: &[u8]) -> usize
     ensures value { result ≡ position_or_len ends_name text.now }
     ensures bound { result ≤ length text.now }
@@ -126,7 +126,7 @@ fn name_len(text: &[u8]) -> usize
     text.len()
 }
 
-// The argument of an element, if its name is this one.
+// The argument of an element, if it is the directive with this name.
 fn argument_of<'a>(element: &'a [u8], name: &str) -> Option<&'a [u8]>
     requires { lowercase name.now ≡ name.now }
     ensures { option_copied result ≡ first_argument name.now (directive_of element.now ∷ []) }
@@ -140,7 +140,7 @@ fn argument_of<'a>(element: &'a [u8], name: &str) -> Option<&'a [u8]>
     }
 }
 
-// The argument of the first directive of a name in one value.
+// The argument of the first directive with this name in one field value.
 fn argument_in<'a>(value: &'a [u8], name: &str) -> Option<&'a [u8]>
     requires { lowercase name.now ≡ name.now }
     ensures { option_copied result ≡ first_argument name.now (directives_in value.now) }
@@ -156,7 +156,7 @@ fn argument_in<'a>(value: &'a [u8], name: &str) -> Option<&'a [u8]>
     None
 }
 
-// The argument of the first directive of a name, value by value.
+// The argument of the first directive with this name in all field values, in order.
 fn search_values<'a>(head: &'a HeaderMap, name: &str) -> Option<&'a [u8]>
     requires { lowercase name.now ≡ name.now }
     ensures { option_copied result ≡ argument_among name.now (values_of (codes "cache-control") (fields_of head.now)) }
@@ -169,8 +169,8 @@ fn search_values<'a>(head: &'a HeaderMap, name: &str) -> Option<&'a [u8]>
     None
 }
 
-/// The argument of a head's first Cache-Control directive of a name, which is in lower case: all that
-/// follows the name.
+/// The argument of the first Cache-Control directive with this name: everything after the name, with the equals sign. `None` if
+/// there is no such directive. `name` is in lower case.
 pub(crate) fn argument<'a>(head: &'a HeaderMap, name: &str) -> Option<&'a [u8]>
     requires { lowercase name.now ≡ name.now }
     ensures { option_copied result ≡ argument name.now (fields_of head.now) }
@@ -178,7 +178,7 @@ pub(crate) fn argument<'a>(head: &'a HeaderMap, name: &str) -> Option<&'a [u8]>
     search_values(head, name)
 }
 
-/// Whether a head has a Cache-Control directive of a name, which is in lower case.
+/// Whether there is a Cache-Control directive with this name. `name` is in lower case.
 pub(crate) fn asks(head: &HeaderMap, name: &str) -> bool
     requires { lowercase name.now ≡ name.now }
     ensures { result ≡ asks name.now (fields_of head.now) }
@@ -186,8 +186,7 @@ pub(crate) fn asks(head: &HeaderMap, name: &str) -> bool
     argument(head, name).is_some()
 }
 
-/// The seconds of a directive's argument: an equals sign, and a numeral that may stand in double
-/// quotes.
+/// Parses the argument of a directive as seconds: an equals sign and a decimal number, which may be in double quotes.
 pub(crate) fn argument_seconds(argument: &[u8]) -> Option<u32>
     ensures value { result ≡ argument_seconds argument.now }
     ensures bound { IfSome result (λ n. n ≤ 2147483648) }
@@ -198,8 +197,7 @@ pub(crate) fn argument_seconds(argument: &[u8]) -> Option<u32>
     }
 }
 
-/// Whether a head has a Cache-Control value of which a double quote is never closed: no directive can
-/// be told from what follows the quote.
+/// Whether some Cache-Control value has an unclosed double quote, so that directives after the quote cannot be recognized.
 pub(crate) fn has_unclosed(head: &HeaderMap) -> bool
     ensures { result ≡ has_unclosed (fields_of head.now) }
 {

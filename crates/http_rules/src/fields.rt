@@ -1,4 +1,4 @@
-//! The fields of a head by their names.
+//! Looking up header fields by name.
 ghost use Rattle.std.specs.Prelude.{◌≡◌, map};
 ghost use Rattle.std.specs.Option.{option_copied};
 ghost use Rattle.http_header.specs.Token.{lowercase};
@@ -6,7 +6,7 @@ ghost use Rattle.http_rules.specs.Fields.{fields_of, values_of, first_value, has
 
 use http_header::{GetAll, HeaderMap, HeaderValue};
 
-/// The values of the fields of a name, which is in lower case.
+/// The values of all fields with this name, in order. `name` is in lower case.
 pub(crate) fn values_of<'a>(head: &'a HeaderMap, name: &str) -> GetAll<'a, HeaderValue>
     requires { lowercase name.now ≡ name.now }
     ensures { map (λ v. v.bytes) result ≡ values_of name.now (fields_of head.now) }
@@ -15,7 +15,7 @@ pub(crate) fn values_of<'a>(head: &'a HeaderMap, name: &str) -> GetAll<'a, Heade
     head.get_all(name)
 }
 
-/// The value of the first field of a name, which is in lower case.
+/// The value of the first field with this name, or `None`. `name` is in lower case.
 pub(crate) fn first_value<'a>(head: &'a HeaderMap, name: &str) -> Option<&'a [u8]>
     requires { lowercase name.now ≡ name.now }
     ensures { option_copied result ≡ first_value name.now (fields_of head.now) }
@@ -27,7 +27,7 @@ pub(crate) fn first_value<'a>(head: &'a HeaderMap, name: &str) -> Option<&'a [u8
     }
 }
 
-/// Whether there is a field of a name, which is in lower case.
+/// Whether there is a field with this name. `name` is in lower case.
 pub(crate) fn has_field(head: &HeaderMap, name: &str) -> bool
     requires { lowercase name.now ≡ name.now }
     ensures { result ≡ has_field name.now (fields_of head.now) }

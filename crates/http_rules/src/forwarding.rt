@@ -1,4 +1,4 @@
-//! Which fields are passed on.
+//! Which header fields are forwarded (RFC 9110, sections 7.6.1 and 11.7).
 ghost use Rattle.std.specs.Prelude.{◌≡◌, IfOk, map, bytes_eq, codes};
 ghost use Rattle.std.specs.List.{list_any};
 ghost use Rattle.http_header.specs.Token.{lowercase};
@@ -10,8 +10,8 @@ use crate::text::{is_name, trimmed};
 use http_header::HeaderMap;
 use std::alloc::{AllocError, Global};
 
-/// Whether the fields of a name, which is in lower case, are not passed on with this head: they
-/// speak of one connection alone.
+/// Whether fields with this name are hop-by-hop and must not be forwarded: the known hop-by-hop fields, and those that the
+/// Connection fields of the head name. `name` is in lower case.
 pub fn is_hop_by_hop(head: &HeaderMap, name: &[u8]) -> bool
     requires { lowercase name.now ≡ name.now }
     ensures { result ≡ is_hop_by_hop (fields_of head.now) name.now }
@@ -19,12 +19,15 @@ pub fn is_hop_by_hop(head: &HeaderMap, name: &[u8]) -> bool
     is_always_removed(name) || is_named(head, name)
 }
 
-// Whether fields of this name are never passed on.
+// Whether fields with this name are never forwarded.
 fn is_always_removed(name: &[u8]) -> bool
     ensures { result ≡ list_any (bytes_eq name.now) always_removed }
 {
     name == b"connection".as_slice()
         || name == b"keep-alive".as_slice()
+        || name == b"proxy-authenticate".as_slice()
+        || name == b"proxy-authentication-info".as_slice()
+        || name == b"proxy-authorization".as_slice()
         || name == b"proxy-connection".as_slice()
         || name == b"te".as_slice()
         || name == b"trailer".as_slice()
@@ -32,7 +35,7 @@ fn is_always_removed(name: &[u8]) -> bool
         || name == b"upgrade".as_slice()
 }
 
-// Whether the head's Connection fields name a field.
+// Whether a Connection field of the head names this field.
 fn is_named(head: &HeaderMap, name: &[u8]) -> bool
     requires { lowercase name.now ≡ name.now }
     ensures { result ≡ list_any (names name.now) (values_of (codes "connection") (fields_of head.now)) }
@@ -45,7 +48,7 @@ fn is_named(head: &HeaderMap, name: &[u8]) -> bool
     false
 }
 
-// Whether a value of Connection names a field.
+// Whether a Connection value names this field.
 fn names(value: &[u8], name: &[u8]) -> bool
     requires { lowercase name.now ≡ name.now }
     ensures { result ≡ names name.now value.now }
@@ -53,7 +56,7 @@ fn names(value: &[u8], name: &[u8]) -> bool
     value.split(|c| *c == b',').any(|part| is_part(part, name))
 }
 
-// Whether a part of a value is this name.
+// Whether a list element is this name, ignoring case and surrounding white space.
 fn is_part(part: &[u8], name: &[u8]) -> bool
     requires { lowercase name.now ≡ name.now }
     ensures { result ≡ is_part name.now part.now }
@@ -61,7 +64,7 @@ fn is_part(part: &[u8], name: &[u8]) -> bool
     is_name(trimmed(part), name)
 }
 
-/// The fields of a head that are passed on, each name in lower case with its value.
+/// The fields that are forwarded, as pairs of a name in lower case and a value, in the order of the map. Errors: out of memory.
 pub fn end_to_end(alloc: Global, head: &HeaderMap) -> Result<Vec<(Vec<u8>, Vec<u8>)>, AllocError>
     ensures { IfOk result (λ kept. map (λ f. (f.0.items, f.1.items)) kept.items ≡ end_to_end (fields_of head.now)) }
 {

@@ -1,7 +1,12 @@
-//! What a shared cache may do with a request, a response and their header fields (RFC 9110 to 9112,
-//! narrowed). Heads are read as header maps, and nothing here speaks HTTP.
+//! HTTP caching rules for a shared cache (RFC 9110 to 9112, restricted): how a request may be answered, whether and for how long
+//! a response may be stored, the cache key of a request target, and which header fields are forwarded.
+//!
+//! Pure functions on header maps and URLs, without any I/O. Their contracts define each result from the list of header fields
+//! (names in lower case) or from the parsed URL.
+//! Tested by: crates/test_http_rules, must-fail edits.
 #![tactic(auto)]
 
+mod administrator;
 mod age;
 mod directives;
 mod fields;
@@ -12,6 +17,7 @@ mod seconds;
 mod target;
 mod text;
 
+pub use administrator::is_administrator;
 pub use age::age_of;
 pub use forwarding::{end_to_end, is_hop_by_hop};
 pub use request::classify;

@@ -1,16 +1,20 @@
-//! How a request may be answered.
+//! Classification of requests.
 ghost use Rattle.std.specs.Prelude.{◌≡◌};
 ghost use Rattle.http_rules.specs.Fields.{fields_of};
-ghost use Rattle.http_rules.specs.Requests.{mode_of, is_private};
+ghost use Rattle.http_rules.specs.Requests.{mode_of, is_private, may_ask_no_cache};
 
-use crate::directives::asks;
+use crate::directives::{asks, has_unclosed};
 use crate::fields::has_field;
 use http_header::HeaderMap;
 use node_core::Mode;
 
-/// How a client's request may be answered, by its method and its fields, or the status with which
-/// it is refused: 501 for a method other than GET, 504 for a request that asks for what is stored
-/// (`only-if-cached`) and forbids what is stored (`no-cache`).
+/// How a request may be answered, from its method and header fields.
+///
+/// A directive that stands behind an unclosed quote cannot be recognized, so a request with such a quote counts as one that may
+/// have `no-cache`: it is private, or with `only-if-cached` refused.
+///
+/// Errors: the status code of the refusal. 501 for a method other than GET; 504 for a request with `only-if-cached` and either
+/// `no-cache` or an unclosed quote.
 pub fn classify(method: &str, head: &HeaderMap) -> Result<Mode, u16>
     ensures { result ≡ mode_of method.now (fields_of head.now) }
 {
@@ -18,7 +22,7 @@ pub fn classify(method: &str, head: &HeaderMap) -> Result<Mode, u16>
         return Err(501);
     }
     if asks(head, "only-if-cached") {
-        return if asks(head, "no-cache") {
+        return if may_ask_no_cache(head) {
             Err(504)
         } else {
             Ok(Mode::Cached)
@@ -31,7 +35,14 @@ pub fn classify(method: &str, head: &HeaderMap) -> Result<Mode, u16>
     })
 }
 
-// Whether a request belongs to one client.
+// Whether a request has `no-cache`, or may have it behind an unclosed quote.
+fn may_ask_no_cache(head: &HeaderMap) -> bool
+    ensures { result ≡ may_ask_no_cache (fields_of head.now) }
+{
+    asks(head, "no-cache") || has_unclosed(head)
+}
+
+// Whether a request must be neither answered from the shared store nor stored there.
 fn is_private(head: &HeaderMap) -> bool
     ensures { result ≡ is_private (fields_of head.now) }
 {
@@ -39,5 +50,5 @@ fn is_private(head: &HeaderMap) -> bool
         || has_field(head, "cookie")
         || has_field(head, "range")
         || asks(head, "no-store")
-        || asks(head, "no-cache")
+        || may_ask_no_cache(head)
 }

@@ -1,4 +1,4 @@
-//! For how long a response may be stored.
+//! Whether and for how long a response may be stored.
 ghost use Rattle.std.specs.Prelude.{◌≡◌, ◌≤◌, IfSome};
 ghost use Rattle.http_rules.specs.Fields.{fields_of};
 ghost use Rattle.http_rules.specs.Responses.{life_of, lifetime, is_forbidden};
@@ -9,8 +9,8 @@ use crate::fields::has_field;
 use http_header::HeaderMap;
 use node_core::Mode;
 
-/// For how many seconds the response to a request of this mode may be stored, by its status and its
-/// fields as they were received; None if it may not.
+/// The remaining freshness lifetime, in seconds, with which a response may be stored; `None` if it must not be stored. Only
+/// responses with status 200 to shared requests may be, and none that is already stale. `head` holds the fields as received.
 pub fn may_store(mode: Mode, status: u16, head: &HeaderMap) -> Option<u32>
     ensures { result ≡ life_of mode status (fields_of head.now) }
 {
@@ -26,7 +26,7 @@ pub fn may_store(mode: Mode, status: u16, head: &HeaderMap) -> Option<u32>
     }
 }
 
-// For how many seconds a response is fresh.
+// The freshness lifetime of a response in seconds: `s-maxage`, or else `max-age`.
 fn lifetime(head: &HeaderMap) -> Option<u32>
     ensures { result ≡ lifetime (fields_of head.now) }
 {
@@ -36,7 +36,7 @@ fn lifetime(head: &HeaderMap) -> Option<u32>
     }
 }
 
-// Whether something forbids a shared cache to store a response, or may stand where it can't be read.
+// Whether a shared cache must not store the response, or a directive that forbids it might be hidden by an unclosed quote.
 fn is_forbidden(head: &HeaderMap) -> bool
     ensures { result ≡ is_forbidden (fields_of head.now) }
 {

@@ -1,13 +1,14 @@
-//! The seconds that a numeral spells.
+//! Parsing delta-seconds (RFC 9111, section 1.2.2).
 ghost use Rattle.std.specs.Prelude.{◌≡◌, ◌≤◌, min, IfSome};
 ghost use Rattle.std.specs.Char.{is_ascii_digit};
 ghost use Rattle.std.specs.List.{list_all};
-ghost use Rattle.http_rules.specs.Text.{value_after, is_numeral, seconds, unquoted};
+ghost use Rattle.http_rules.specs.Text.{seconds, unquoted};
+ghost use Rattle.wire_octets.specs.Decimal.{is_numeral, value_after};
 
-/// The most seconds that count.
+/// Upper bound for delta-seconds; larger values are capped.
 const MOST_SECONDS: u64 = 2_147_483_648;
 
-/// The seconds that a numeral spells, at most 2,147,483,648; None for any other text.
+/// Parses a decimal number of seconds, capped at 2,147,483,648; `None` for any other text.
 pub(crate) fn seconds(text: &[u8]) -> Option<u32>
     ensures value { result ≡ seconds text.now }
     ensures bound { IfSome result (λ n. n ≤ 2147483648) }
@@ -19,21 +20,21 @@ pub(crate) fn seconds(text: &[u8]) -> Option<u32>
     }
 }
 
-// Whether a text is one digit or more.
+// Whether a text is one or more digits.
 fn is_numeral(text: &[u8]) -> bool
     ensures { result ≡ is_numeral text.now }
 {
     !text.is_empty() && are_digits(text)
 }
 
-// Whether each octet is a digit.
+// Whether all octets are digits.
 fn are_digits(text: &[u8]) -> bool
     ensures { result ≡ list_all is_ascii_digit text.now }
 {
     text.iter().all(|c| c.is_ascii_digit())
 }
 
-// The number that digits spell, or the most seconds where it is larger.
+// The value of the digits, capped at `MOST_SECONDS`.
 fn capped_value(digits: &[u8]) -> u32
     ensures value { result ≡ min (value_after 0 digits.now) 2147483648 }
     ensures bound { result ≤ 2147483648 }
@@ -45,7 +46,7 @@ fn capped_value(digits: &[u8]) -> u32
     n as u32
 }
 
-/// A text in double quotes without them, and any other as it is.
+/// Strips a pair of enclosing double quotes; any other text is returned as it is.
 pub(crate) fn unquoted(text: &[u8]) -> &[u8]
     ensures { result.now ≡ unquoted text.now }
 {

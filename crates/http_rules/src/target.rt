@@ -1,4 +1,4 @@
-//! The key of a request's target.
+//! The cache key of a request target.
 ghost use Rattle.std.specs.Prelude.{◌≡◌, ◌≤◌, length, IfOk, IfErr, IsErrOf, Some, None, true};
 ghost use Rattle.std.specs.List.{list_all};
 ghost use Rattle.url.specs.Parts.{has_credentials};
@@ -9,16 +9,16 @@ use std::alloc::{AllocError, Global};
 use thiserror::Error;
 use url::{ParseError, Position, Url};
 
-/// Why a request's target gives no key.
+/// Why a request target has no cache key.
 #[derive(Clone, Copy, Debug, PartialEq, Eq, Error)]
 pub enum TargetFault {
-    /// It is no `http` URL with a host and without a user or password.
+    /// Not an `http` URL with a host and without user and password.
     #[error("not an http URL of a host")]
     NotHttp,
-    /// Its key would have over 8,192 octets, or it is too long for a URL.
+    /// The key would be longer than 8,192 octets, or the target is too long for the URL parser.
     #[error("too long")]
     TooLong,
-    /// There was no memory.
+    /// Out of memory.
     #[error("no memory")]
     NoMemory,
 }
@@ -34,7 +34,7 @@ impl From<AllocError> for TargetFault {
     }
 }
 
-/// The key of a target in absolute form: the URL as the URL Standard writes it, without its fragment.
+/// The cache key of a request target in absolute form: the URL as the URL Standard serializes it, without its fragment.
 pub fn key_of(alloc: Global, target: &str) -> Result<CacheKey, TargetFault>
     ensures key { IfOk result (λ key. target_key target.now ≡ Some key) }
     ensures not_http { IsErrOf result TargetFault.NotHttp → target_key target.now ≡ None }
@@ -47,7 +47,7 @@ pub fn key_of(alloc: Global, target: &str) -> Result<CacheKey, TargetFault>
     }
 }
 
-/// The key of a URL.
+/// The cache key of a parsed URL.
 pub fn key_of_url(alloc: Global, url: &Url) -> Result<CacheKey, TargetFault>
     ensures key { IfOk result (λ key. url_key url.now ≡ Some key) }
     ensures fault { IfErr result (λ fault. IsFaultOf url.now fault) }
@@ -61,7 +61,7 @@ pub fn key_of_url(alloc: Global, url: &Url) -> Result<CacheKey, TargetFault>
     key_of_plain(alloc, url)
 }
 
-// The key of a URL that can be one and is short enough.
+// The cache key of a URL that is known to be a valid key.
 fn key_of_plain(alloc: Global, url: &Url) -> Result<CacheKey, TargetFault>
     requires plain { is_plain url.now ≡ true }
     requires short { length (text_of url.now) ≤ 8192 }
@@ -76,7 +76,7 @@ fn key_of_plain(alloc: Global, url: &Url) -> Result<CacheKey, TargetFault>
     }
 }
 
-// The text of a URL without its fragment.
+// The serialized URL without its fragment.
 fn text_of(url: &Url) -> &[u8]
     ensures { result.now ≡ text_of url.now }
 {
@@ -84,7 +84,7 @@ fn text_of(url: &Url) -> &[u8]
         .as_bytes()
 }
 
-// Whether a URL can be a key.
+// Whether a URL is a valid key, apart from its length.
 fn is_plain(url: &Url) -> bool
     ensures { result ≡ is_plain url.now }
 {
@@ -99,7 +99,7 @@ fn has_credentials(url: &Url) -> bool
     !url.username().is_empty() || url.password().is_some()
 }
 
-// Whether each octet is visible ASCII.
+// Whether all octets are visible ASCII.
 fn is_visible(text: &[u8]) -> bool
     ensures { result ≡ list_all is_visible text.now }
 {

@@ -1,7 +1,7 @@
-//! Administration: filters are put in and taken out, and counters read.
+//! The administration server: installs and removes filters, and shows counters.
 use crate::requests::{Answers, Asked, Given};
 use crate::server::{ServeLimits, serve};
-use crate::texts::text_of;
+use crate::texts::{not_administrator, text_of};
 use crossbeam_channel::Sender;
 use filter_slots::{Slot, Socket};
 use futures::channel::oneshot;
@@ -15,62 +15,66 @@ use std::rc::Rc;
 use std::sync::Wait;
 use std::time::Clock;
 
-/// Why a filter is not put in.
+/// Why a filter was not installed.
 #[derive(Debug, Drop)]
 pub enum PutFault {
-    /// It is none: what is wrong with it, as a line of text.
+    /// The text is not a valid filter; the line says what is wrong.
     NoFilter(Vec<u8>),
+    /// Out of memory.
     NoMemory,
 }
 
-/// What is administered, in the thread that serves. Each error says that there is no memory.
+/// What is administered. Called on the thread that serves. Every `AllocError` means out of memory.
 pub trait Panel: Drop {
-    /// Whether there is such a slot. The calls for one slot are made only where it is there.
+    /// Whether the request is the administrator's. The other functions are called only for requests that are.
+    fn admits(&mut self, asked: &Asked) -> bool;
+
+    /// Whether the slot exists. `put`, `clear` and `show` are called only for slots that exist.
     fn has(&mut self, slot: Slot) -> bool;
 
-    /// Puts the filter of this text into a slot.
+    /// Installs the filter of this text in a slot.
     fn put(&mut self, slot: Slot, text: &[u8]) -> Result<(), PutFault>;
 
-    /// Takes the filter out of a slot.
+    /// Removes the filter of a slot.
     fn clear(&mut self, slot: Slot) -> Result<(), AllocError>;
 
-    /// The text of a slot's filter.
+    /// The text of a slot's filter, or a text that says that it has none.
     fn show(&mut self, slot: Slot) -> Result<Vec<u8>, AllocError>;
 
-    /// The counters, as a JSON text.
+    /// The counters, as JSON.
     fn stats(&mut self) -> Result<Vec<u8>, AllocError>;
 
-    /// What is known of each neighbour, as a JSON text.
+    /// The state of each neighbour, as JSON.
     fn neighbours(&mut self) -> Result<Vec<u8>, AllocError>;
 }
 
-// What all connections share.
+// State shared by all connections.
 #[derive(Drop)]
 struct Office<P> {
     alloc: Global,
     panel: RefCell<P>,
 }
 
-// Administrators of a panel.
+// Answers requests from a shared panel.
 #[derive(Drop)]
 struct Administrators<P> {
     office: Rc<Office<P>>,
 }
 
-// The slot whose filter has this path.
+// The slot that a path names.
 fn slot_of(path: &str) -> Option<Slot> {
     match path {
         "/filter/icp" => Some(Slot::Socket(Socket::Icp)),
         "/filter/htcp" => Some(Slot::Socket(Socket::Htcp)),
         _ => {
-            let place = place_of(path.strip_prefix("/filter/neighbour/")?)?;
+            let place = neighbour_number(path.strip_prefix("/filter/neighbour/")?)?;
             Some(Slot::Neighbour(place))
         }
     }
 }
 
-// The number that a text spells in decimal digits, without zeros in front.
-fn place_of(text: &str) -> Option<usize> {
+// Parses a decimal number without leading zeros.
+fn neighbour_number(text: &str) -> Option<usize> {
     let digits = text.as_bytes();
     if digits.len() > 1 && digits[0] == b'0' {
         return None;
@@ -81,7 +85,7 @@ fn place_of(text: &str) -> Option<usize> {
     text.parse().ok()
 }
 
-// The path and the query of a target, which may be a whole URL.
+// The path and query of a request target, which may be a whole URL.
 fn path_of(target: &str) -> &str {
     let Some(rest) = target.strip_prefix("http://") else {
         return target;
@@ -109,8 +113,24 @@ fn json(text: Vec<u8>) -> Given {
 }
 
 impl<P: Panel> Administrators<P> {
-    // What a request is answered with. An error says that there is no memory.
+    // The answer to a request: 403 unless it is the administrator's. Errors: out of memory.
     fn answer(&self, asked: &Asked) -> Result<Given, AllocError> {
+        if !self.admits(asked) {
+            return Ok(text(403, not_administrator(self.office.alloc)?));
+        }
+        self.obey(asked)
+    }
+
+    // Whether the request is the administrator's.
+    fn admits(&self, asked: &Asked) -> bool {
+        match self.office.panel.try_borrow_mut() {
+            Ok(mut panel) => panel.admits(asked),
+            Err(_) => false,
+        }
+    }
+
+    // The answer to a request of the administrator. Errors: out of memory.
+    fn obey(&self, asked: &Asked) -> Result<Given, AllocError> {
         let alloc = self.office.alloc;
         let Ok(mut panel) = self.office.panel.try_borrow_mut() else {
             return Err(AllocError);
@@ -172,12 +192,12 @@ impl<P: Panel> Answers for Administrators<P> {
     fn note_answer(&self) {}
 }
 
-/// Serves administration on the calling thread, at this port of 127.0.0.1 and nowhere else, until
-/// `stop` is ready or its other end is dropped. `bound` is told the address once the socket is
-/// bound. An error is the socket's or the event loop's.
+/// Serves administration on the calling thread, on this port of 127.0.0.1 only, until `stop` is ready or its sender is dropped.
+/// Sends the address to `bound` once the socket is bound. Errors: the socket or the event loop failed.
 ///
-/// PUT, GET and DELETE of `/filter/icp`, `/filter/htcp` and `/filter/neighbour/<n>` for each
-/// neighbour, and GET of `/stats` and `/stats/neighbours`; all else is 404. A content of more than `limits.content` octets is 413.
+/// Answers PUT, GET and DELETE of `/filter/icp`, `/filter/htcp` and `/filter/neighbour/<n>` for each neighbour, and GET of
+/// `/stats` and `/stats/neighbours`. A request that `panel` does not admit gets 403; every other request gets 404, and content of
+/// more than `limits.content` octets gets 413.
 pub fn serve_admin<R, P>(
     rt: R,
     port: u16,

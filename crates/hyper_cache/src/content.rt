@@ -1,4 +1,4 @@
-//! The content of a message, whole and within a limit.
+//! Reads the whole content of a message, up to a limit.
 ghost use Rattle.std.specs.Prelude.{IsSome};
 
 use bytes::{Buf, Bytes};
@@ -10,17 +10,20 @@ use http_body_util::{BodyExt, Collected, Limited};
 use hyper::body::Incoming;
 use std::alloc::{AllocError, Global};
 
-/// Starts to read a body.
+/// Starts reading a body.
 pub trait Read: Drop {
+    /// The body to be read.
     type Body: Drop;
 
+    /// The future of the content. Its output is `None` if the body is too long or broken, or if out of memory.
     type Reading: Future<Output = Option<Collected>>;
 
+    /// Starts reading this body.
     fn read(&self, body: Self::Body) -> Self::Reading
         ensures { Self.Reading.can_poll result };
 }
 
-/// Reads at most so many octets.
+/// Reads bodies of at most `limit` octets.
 #[derive(Drop)]
 pub struct AtMost<I> {
     alloc: Global,
@@ -29,6 +32,7 @@ pub struct AtMost<I> {
 }
 
 impl<I: Drop> AtMost<I> {
+    /// A reader with this limit, in octets.
     pub fn new(alloc: Global, limit: usize) -> AtMost<I> {
         AtMost {
             alloc,
@@ -50,7 +54,7 @@ impl<I: Drop> Read for AtMost<I> {
     }
 }
 
-/// What `collect` gives, with no word of its error.
+/// The output of `collect`, with its error dropped.
 #[derive(Drop)]
 pub struct Gathered<B: Body> {
     inner: Collect<B>,

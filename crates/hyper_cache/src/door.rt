@@ -1,4 +1,4 @@
-//! What stands between hyper's server and those who answer.
+//! The hyper service of one connection.
 ghost use Rattle.std.specs.Prelude.{IfSome, IfOk};
 
 use crate::content::{AtMost, Read};
@@ -17,18 +17,18 @@ use object_body::Portions;
 use std::alloc::Global;
 use std::convert::Infallible;
 
-/// Answers the requests of one connection.
+/// Passes the requests of one connection to `answers`, which is shared by all connections.
 #[derive(Drop)]
 pub(crate) struct Door<H> {
     pub(crate) alloc: Global,
     pub(crate) answers: H,
     pub(crate) stage: SharedStage,
-    /// The most octets of a request's content.
+    /// The most octets of a request's content; more is refused with 413, or with 400 if the length was not announced.
     pub(crate) limit: usize,
 }
 
 impl<H: Answers> Door<H> {
-    // What of a request goes to those who answer, but for the content.
+    // The request to be answered, as yet without its content. Returns `None` if out of memory.
     fn keep(&self, parts: http::request::Parts) -> Option<Asked> {
         Some(Asked {
             method: String::from_str(self.alloc, parts.method.as_str()).ok()?,
@@ -73,7 +73,7 @@ impl<I: Drop, H: Answers> Service<Request<Incoming<I>>> for Door<H> {
     }
 }
 
-/// The future of one answer: the content comes, then the answer.
+/// The future of one response: reads the content, then waits for the answer.
 #[derive(Drop)]
 pub(crate) struct Serving<H: Answers, T: Read> {
     alloc: Global,
@@ -81,14 +81,14 @@ pub(crate) struct Serving<H: Answers, T: Read> {
     is_last: bool,
     answers: Option<H>,
     asked: Option<Asked>,
-    // The status where nobody is asked.
+    // The status if the request is refused without being passed on.
     refusal: u16,
     content: Option<T::Reading>,
     answering: Option<H::Answering>,
 }
 
 impl<H: Answers, T: Read> Serving<H, T> {
-    // The answer as hyper's.
+    // The response, after which the connection is idle again. Status 503 if it cannot be made.
     fn respond(&mut self, given: Given) -> Response<Portions> {
         if let Some(stage) = &self.stage {
             stage.set(Stage::Idle);
@@ -107,7 +107,7 @@ impl<H: Answers, T: Read> Serving<H, T> {
         response
     }
 
-    // The answer where nobody is asked.
+    // The response to a request that is not passed on.
     fn refuse(&mut self) -> Response<Portions> {
         let target = match &self.asked {
             Some(asked) => asked.target.as_bytes(),
@@ -156,7 +156,7 @@ impl<H: Answers, T: Read> Future for Serving<H, T> {
     }
 }
 
-// Hands a whole request over. `None`: there is no memory.
+// Passes on a request whose content is complete. Returns `None` if out of memory.
 fn begin<H: Answers>(
     alloc: Global,
     answers: &Option<H>,
@@ -173,7 +173,7 @@ fn begin<H: Answers>(
     }
 }
 
-// An answer with a status and nothing else.
+// A response with an empty body.
 fn bare(alloc: Global, status: u16) -> Response<Portions> {
     let mut response = Response::new(alloc, Portions::of_text(alloc, Vec::new(alloc)));
     *response.status_mut() = status_of(status);
@@ -184,7 +184,7 @@ fn status_of(status: u16) -> StatusCode {
     StatusCode::from_u16(status).unwrap_or(StatusCode::BAD_GATEWAY)
 }
 
-// The answer as hyper's. `None`: there is no memory, or there are too many fields.
+// The response with this content. Returns `None` if out of memory, or if there are too many fields.
 fn response_of(alloc: Global, given: Given) -> Option<Response<Portions>> {
     match given {
         Given::Object { object, age, told } => {

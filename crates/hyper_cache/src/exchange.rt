@@ -1,4 +1,4 @@
-//! One exchange with a server, over a connection of its own.
+//! One request to a server, over a connection of its own.
 ghost use Rattle.std.specs.Prelude.{IfSome};
 
 use crate::content::{AtMost, Read};
@@ -16,15 +16,17 @@ use std::alloc::Global;
 use tokio::net::{ConnectFuture, TcpStream};
 use tokio::time::Timeout;
 
-/// Begins to talk over a new connection.
+/// Starts an exchange over a new connection.
 pub trait Talk: Drop {
+    /// The future of the page. Its output is `None` if the exchange failed.
     type Talking: Future<Output = Option<Page>>;
 
+    /// Starts the exchange. Returns `None` if the request cannot be made.
     fn talk(&mut self, socket: TcpStream) -> Option<Self::Talking>
         ensures { IfSome result Self.Talking.can_poll };
 }
 
-/// A connection, and then what is said over it. With no connection there is no page.
+/// Connects, then runs the exchange. Returns `None` if either fails.
 #[derive(Drop)]
 pub struct Call<T: Talk> {
     connecting: Option<Timeout<ConnectFuture>>,
@@ -33,6 +35,7 @@ pub struct Call<T: Talk> {
 }
 
 impl<T: Talk> Call<T> {
+    /// A call over this connection attempt; `None` fails.
     pub fn new(connecting: Option<Timeout<ConnectFuture>>, talk: T) -> Call<T>
         ensures { IfSome result.talking T.Talking.can_poll }
     {
@@ -66,7 +69,7 @@ impl<T: Talk> Future for Call<T> {
     }
 }
 
-/// Asks for one page.
+/// A GET request for one page.
 #[derive(Drop)]
 pub struct Get {
     pub alloc: Global,
@@ -74,12 +77,12 @@ pub struct Get {
     pub host: String,
     pub target: String,
     pub fields: Vec<(Vec<u8>, Vec<u8>)>,
-    /// The most octets of a body.
+    /// The most octets of the body.
     pub limit: usize,
 }
 
 impl Get {
-    // What is sent.
+    // The request to be sent. Returns `None` if a part of it is no valid HTTP, or if out of memory.
     fn request(&self) -> Option<Request<Empty<Bytes>>> {
         let mut request = Request::get(self.alloc, self.target.as_str())
             .header(header::HOST, self.host.as_str())
@@ -105,7 +108,7 @@ impl Talk for Get {
     }
 }
 
-/// Gives what `first` gives, and polls `other` beside it, which is dropped at the end.
+/// Polls `other` beside `first`, and returns what `first` returns. `other` is dropped with it, finished or not.
 #[derive(Drop)]
 pub struct Beside<A, B> {
     first: A,
@@ -140,14 +143,14 @@ impl<A: Future, T: Drop, B: Future<Output = T>> Future for Beside<A, B> {
     }
 }
 
-// The head of an answer.
+// The head of a response.
 #[derive(Drop)]
 struct Head {
     status: u16,
     fields: HeaderMap,
 }
 
-/// The head of an answer, and then its body.
+/// Receives the head of a response, then its body.
 #[derive(Drop)]
 pub struct Reply<B: Read> {
     alloc: Global,
@@ -170,7 +173,7 @@ impl<B: Read<Body = Incoming<TcpStream>>> Reply<B> {
         }
     }
 
-    // The page, once its body is there.
+    // The page, once its body has been read.
     fn finish(&mut self, collected: Collected) -> Option<Page> {
         let Head {
             status,
@@ -211,7 +214,7 @@ impl<B: Read<Body = Incoming<TcpStream>>> Future for Reply<B> {
     }
 }
 
-// Whether the body is in a coding other than chunked.
+// Whether the body has a transfer coding other than chunked.
 fn has_foreign_coding(headers: &HeaderMap) -> bool {
     let mut codings = headers.get_all(header::TRANSFER_ENCODING).iter();
     match codings.next() {

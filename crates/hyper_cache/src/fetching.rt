@@ -1,4 +1,4 @@
-//! Fetches from origins and peers, many at the same time on one thread.
+//! Fetches from origin servers and neighbours, many concurrently on one thread.
 ghost use Rattle.std.specs.Prelude.{◌<◌, IfSome};
 ghost use Rattle.tokio.specs.Timers.{timeout_future};
 
@@ -21,33 +21,33 @@ use tokio::net::TcpStream;
 use tokio::runtime::{Handle, LocalRuntime};
 use tokio::time::Timeout;
 
-/// What is to be fetched.
+/// A fetch to be made.
 #[derive(Drop)]
 pub struct Order {
     /// The number of the fetch.
     pub fetch: u32,
-    /// Which of its attempts this is.
+    /// The number of this attempt of the fetch.
     pub attempt: u16,
-    /// The value of the field Host.
+    /// The value of the Host field.
     pub host: String,
-    /// The target of the request: path and query for an origin, the whole URL for a peer.
+    /// The request target: path and query for an origin server, the whole URL for a neighbour.
     pub target: String,
-    /// The other fields of the request.
+    /// The other fields of the request, as names and values.
     pub fields: Vec<(Vec<u8>, Vec<u8>)>,
-    /// When the fetch has failed at the latest.
+    /// When the fetch times out.
     pub deadline: Instant,
-    /// The fetch ends once the other end is dropped.
+    /// Cancels the fetch when its sender is dropped.
     pub wanted: oneshot::Receiver<()>,
 }
 
-/// An order, and the server that it goes to. With none it fails.
+/// An order and the address of its server. Without an address the fetch fails.
 #[derive(Drop)]
 pub struct Job {
     pub server: Option<SocketAddr>,
     pub order: Order,
 }
 
-/// A whole answer as it was received.
+/// A complete response, as received.
 #[derive(Debug, Drop)]
 pub struct Page {
     pub status: u16,
@@ -55,48 +55,30 @@ pub struct Page {
     pub body: Vec<u8>,
 }
 
-/// What became of an order.
+/// The result of an order.
 #[derive(Debug, Drop)]
 pub struct Fetched {
     /// The number of the fetch.
     pub fetch: u32,
-    /// Which of its attempts this was.
+    /// The number of this attempt.
     pub attempt: u16,
-    /// `None` is a failure: no connection, no HTTP, a body that is cut, too large or in a coding
-    /// other than chunked, too late, no longer wanted, or no memory.
+    /// The response, or `None` if the fetch failed: no connection, not HTTP, a body that is cut off, too large or in a transfer
+    /// coding other than chunked, timed out, cancelled, or out of memory.
     pub page: Option<Page>,
 }
 
-/// How long and how much a fetch may take, and how many of a thread run at the same time.
+/// Limits of the fetches of one thread.
 #[derive(Clone, Copy)]
 pub struct FetchLimits {
     /// The most octets of a body.
     pub octets: usize,
-    /// For a connection to be made.
+    /// Time to connect.
     pub connecting: Duration,
-    /// The most fetches at the same time.
+    /// The most concurrent fetches.
     pub at_once: usize,
 }
 
-impl FetchLimits {
-    /// Bodies of at most so many octets, 5 s for a connection, and 64 fetches at the same time.
-    pub fn for_bodies(octets: usize) -> FetchLimits
-        ensures { 0 < result.at_once }
-    {
-        FetchLimits {
-            octets,
-            connecting: Duration::from_secs(5),
-            at_once: 64,
-        }
-    }
-}
-
-/// How long a fetch may take in all, from the moment that its order was made: 30 s.
-pub fn patience() -> Duration {
-    Duration::from_secs(30)
-}
-
-// Begins fetches.
+// Starts fetches.
 #[derive(Drop)]
 struct Getter<R> {
     rt: R,
@@ -107,7 +89,7 @@ struct Getter<R> {
 }
 
 impl<R: Net + Clock + Drop> Getter<R> {
-    // A connection to the server within its time.
+    // Connects to the server, with a timeout. Returns `None` without a server, or if out of memory.
     fn connect(&self, server: Option<SocketAddr>) -> Option<Timeout<tokio::net::ConnectFuture>> {
         let connecting = TcpStream::connect(&self.rt, server?, self.handle.reactor());
         let time = self.handle.time();
@@ -153,7 +135,7 @@ impl<R: Net + Clock + Drop> Begin for Getter<R> {
     }
 }
 
-// One fetch under way.
+// A fetch in progress.
 #[derive(Drop)]
 struct Fetch<T: Talk> {
     fetch: u32,
@@ -186,8 +168,8 @@ impl<T: Talk> Future for Fetch<T> {
     }
 }
 
-/// Fetches what the jobs ask for, until all senders of jobs are gone and the last fetch has ended.
-/// Each fetch has a connection of its own. An error is the event loop's.
+/// Runs the jobs of a channel until all its senders are gone and the last fetch has ended. Each fetch opens a connection of its
+/// own, and passes its result to `seat`. Errors: the event loop failed.
 pub fn run_fetches<R, S>(
     rt: R,
     jobs: UnboundedReceiver<Job>,

@@ -1,9 +1,9 @@
-//! Fields of heads.
+//! Header fields.
 use hyper::HeaderMap;
 use hyper::header::{HeaderName, HeaderValue};
 use std::alloc::Global;
 
-/// Adds a field. `None`: it is no field of HTTP, there are too many, or there is no memory.
+/// Appends a field. Returns `None` if the field is invalid, if there are too many, or if out of memory.
 pub(crate) fn add_field(
     alloc: Global,
     headers: &mut HeaderMap,
@@ -16,7 +16,7 @@ pub(crate) fn add_field(
     Some(())
 }
 
-/// Adds each of the fields, in order.
+/// Appends fields, in order. Returns `None` as `add_field` does.
 pub(crate) fn add_fields(
     alloc: Global,
     headers: &mut HeaderMap,
@@ -28,8 +28,8 @@ pub(crate) fn add_fields(
     Some(())
 }
 
-/// Adds the fields of an object that hold for any copy of it: not those that the framing of this
-/// message decides, and no Age where that is given apart.
+/// Appends the fields of a stored object, without Content-Length and Transfer-Encoding, which depend on how this response is
+/// framed, and without Age if `is_age_apart`. Returns `None` as `add_field` does.
 pub(crate) fn add_object_fields(
     alloc: Global,
     headers: &mut HeaderMap,

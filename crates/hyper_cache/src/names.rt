@@ -1,4 +1,4 @@
-//! Names of servers. They are looked up by threads of their own, since a look-up blocks.
+//! Host names of servers. Lookups block, so threads of their own make them.
 use crate::fetching::{Job, Order};
 use crossbeam_channel::{Receiver, Sender};
 use futures::channel::mpsc::UnboundedSender;
@@ -8,10 +8,10 @@ use std::sync::Wait;
 use std::thread;
 use std::time::{Clock, Duration};
 
-// After how many milliseconds a job is sent again, where there was no memory for it.
+// Milliseconds before a job is sent again after an allocation failure.
 const MILLIS_BETWEEN: u64 = 100;
 
-/// An order for a server whose name is to be looked up.
+/// An order for a server whose name has to be looked up.
 #[derive(Drop)]
 pub struct Wish {
     pub name: String,
@@ -19,15 +19,14 @@ pub struct Wish {
     pub order: Order,
 }
 
-// The lane of a job: the fetch threads take the fetches in turn.
+// The fetch thread of a fetch: the fetch number modulo the number of threads. Returns `None` if there are none.
 fn lane_of<'a>(lanes: &'a [UnboundedSender<Job>], fetch: u32) -> Option<&'a UnboundedSender<Job>> {
     let place = (fetch as usize).checked_rem(lanes.len())?;
     lanes.get(place)
 }
 
-/// Hands an order for the server of this name over: to its fetch thread where the name is an
-/// address in digits, to those that look names up where it is not. The order comes back where there
-/// is no memory, or nobody to take it.
+/// Sends an order to its fetch thread if `name` is an IPv4 address in digits, and to the threads that look up names if it is not.
+/// Errors: the order itself, if the channel is closed, if there is no fetch thread, or if out of memory.
 pub fn hand_over<R: Wait>(
     rt: &R,
     wishes: &Sender<Wish, Global>,
@@ -53,9 +52,8 @@ pub fn hand_over<R: Wait>(
     }
 }
 
-/// The life of one thread that looks names up: until all senders of wishes are gone. Several may
-/// share the receiver. Of the addresses of a name it takes the first of IPv4; a name without one
-/// gives a job with no server, which fails.
+/// Looks up names until all senders of `wishes` are gone; several threads may share the receiver. Takes the first IPv4 address of
+/// a name. A name without one becomes a job without a server, which fails.
 pub fn look_up<R: Wait + Net + Clock>(
     rt: &R,
     wishes: &Receiver<Wish, Global>,
@@ -73,8 +71,7 @@ pub fn look_up<R: Wait + Net + Clock>(
     }
 }
 
-// Sends a job, and sends it again for as long as there is no memory for it, so that no fetch is
-// forgotten. A job for a thread that has ended is dropped.
+// Sends a job, again and again while memory runs out, so that no fetch is lost. A job for a thread that has ended is dropped.
 fn send_job<R: Clock>(rt: &R, lane: &UnboundedSender<Job>, job: Job) {
     let mut job = job;
     for _ in 0..u32::MAX {

@@ -1,16 +1,16 @@
-//! What passes between a server and those who answer its requests.
+//! Requests, and what answers them.
 use futures::Future;
 use http_header::HeaderMap;
 use object_store::SharedObject;
 use std::alloc::AllocError;
 use std::net::IpAddr;
 
-/// A request whose content is whole.
+/// A request with its complete content.
 #[derive(Drop)]
 pub struct Asked {
     /// The method, as sent.
     pub method: String,
-    /// The target, as sent, but for a fragment.
+    /// The target, as sent, without a fragment.
     pub target: String,
     /// The fields.
     pub head: HeaderMap,
@@ -18,16 +18,16 @@ pub struct Asked {
     pub content: Vec<u8>,
 }
 
-/// What a request is answered with.
+/// The content of a response.
 #[derive(Drop)]
 pub(crate) enum Given {
-    /// An object, with this Age in place of its own if there is one, and with this Cache-Status.
+    /// An object with this Cache-Status. If `age` is given, it replaces the Age field of the object.
     Object {
         object: SharedObject,
         age: Option<u32>,
         told: Vec<u8>,
     },
-    /// A text of its own, in `text/plain` unless it is `application/json`.
+    /// A text of the proxy itself, as `application/json` or else as `text/plain`.
     Text {
         status: u16,
         text: Vec<u8>,
@@ -37,22 +37,22 @@ pub(crate) enum Given {
 
 /// Answers the requests of a server.
 pub(crate) trait Answers: Drop {
-    /// Becomes an answer.
+    /// An answer in progress.
     type Answering: Future<Output = Given>;
 
-    /// One more of the same, for a connection or a request.
+    /// Another handle to the same state, for a connection or a request.
     fn share(&self) -> Result<Self, AllocError>;
 
-    /// Whether clients of this address may ask.
+    /// Whether clients at this address are admitted.
     fn allows(&self, address: IpAddr) -> bool;
 
-    /// The status of the refusal of this method, before the content is read.
+    /// The status that refuses this method before the content is read, or `None`.
     fn refuses(&self, method: &str) -> Option<u16>;
 
-    /// Begins to answer.
+    /// Starts to answer a request.
     fn begin(&self, asked: Asked) -> Self::Answering
         ensures { Self.Answering.can_poll result };
 
-    /// One more answer was made, whoever made it.
+    /// Called once for each response, including refusals.
     fn note_answer(&self);
 }

@@ -1,8 +1,10 @@
-//! A server on the calling thread.
+//! An HTTP server that runs on the calling thread.
 use crate::door::Door;
 use crate::requests::Answers;
 use crate::texts::forbidden;
-use client_streams::{Accept, Clients, Limits, Patient, Quiet, Refusal, SharedStage};
+use client_streams::{
+    Accept, AcceptedClients, Patient, Quiet, Refusal, SharedStage, StreamTimeouts,
+};
 use crossbeam_channel::Sender;
 use futures::channel::oneshot;
 use futures::future::Either;
@@ -21,49 +23,22 @@ use tokio::net::{TcpListener, TcpStream};
 use tokio::runtime::LocalRuntime;
 use tokio::time::Handle;
 
-/// The numbers of a server.
+/// Limits of a server.
 #[derive(Clone, Copy)]
 pub struct ServeLimits {
-    /// How long a client may be still.
-    pub still: Limits,
-    /// The most connections at a time. Further ones wait in the queue of the socket.
+    /// How long a client may stay silent.
+    pub still: StreamTimeouts,
+    /// The most concurrent connections. Further ones wait in the socket's accept queue.
     pub connections: usize,
-    /// For how long no connection is accepted after one was refused by the system.
+    /// The pause after a failed accept.
     pub rest: Duration,
-    /// How long open connections may go on once the server is told to stop.
+    /// How long open connections may continue after the server is told to stop.
     pub grace: Duration,
     /// The most octets of a request's content.
     pub content: usize,
 }
 
-impl ServeLimits {
-    /// For clients of the proxy: 4,096 at a time, 30 s for a head, 30 s between pieces of content, of
-    /// which there may be 64 KiB, 60 s with nothing said and with nothing taken of an answer.
-    pub fn for_clients() -> ServeLimits {
-        ServeLimits {
-            still: Limits {
-                idle: Duration::from_secs(60),
-                head: Duration::from_secs(30),
-                content: Duration::from_secs(30),
-                taking: Duration::from_secs(60),
-            },
-            connections: 4096,
-            rest: Duration::from_millis(100),
-            grace: Duration::from_secs(5),
-            content: 65_536,
-        }
-    }
-
-    /// For administration: as for clients, but 64 at a time, and 256 KiB of content.
-    pub fn for_administration() -> ServeLimits {
-        let mut limits = ServeLimits::for_clients();
-        limits.connections = 64;
-        limits.content = 262_144;
-        limits
-    }
-}
-
-// HTTP for each client.
+// Makes the HTTP connection of each client.
 #[derive(Drop)]
 struct Http<R, H> {
     rt: R,
@@ -114,7 +89,8 @@ impl<R: Clock + Copy, H: Answers> Accept for Http<R, H> {
     }
 }
 
-/// Serves until `stop` is ready. Connections that are open then have the grace to end.
+/// Serves until `stop` is ready or its sender is dropped. Open connections then have `limits.grace` to end. Sends the address to
+/// `bound` once the socket is bound. Errors: the socket or the event loop failed, or nothing receives the address.
 pub(crate) fn serve<R, H>(
     rt: R,
     address: SocketAddr,
@@ -148,7 +124,7 @@ where
         answers,
     };
     let timers = runtime.handle().time().clone()?;
-    let clients = Clients::new(
+    let clients = AcceptedClients::new(
         rt,
         alloc,
         timers,

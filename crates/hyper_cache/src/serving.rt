@@ -1,5 +1,7 @@
-//! Clients of the proxy.
+//! The server for clients of the proxy.
 ghost use Rattle.std.specs.Prelude.{◌<◌};
+ghost use Rattle.futures.specs.Poll.{OnPending};
+ghost use Rattle.futures.specs.Task.{Covers, Keeps};
 
 use crate::requests::{Answers, Asked, Given};
 use crate::server::{ServeLimits, serve};
@@ -18,102 +20,113 @@ use std::rc::Rc;
 use std::sync::Wait;
 use std::time::Clock;
 
-/// What a client is told.
+/// The answer to a client.
 #[derive(Drop)]
-pub enum Answer {
+pub enum Outcome {
     /// A stored object, and its age in seconds.
     Hit { object: SharedObject, age: u32 },
-    /// An object that was fetched.
+    /// An object fetched for this request.
     Got(SharedObject),
-    /// That there is none: the status to answer.
+    /// No object; answer with this status.
     Fail(u16),
 }
 
-/// How a request that is no hit goes on, as Cache-Status tells it.
+/// How a request that is not a hit is forwarded, as Cache-Status reports it.
 #[derive(Clone, Copy, Debug, PartialEq, Eq)]
 pub enum Forward {
-    /// It has a fetch of its own, which others may join.
+    /// It starts a fetch that others may join.
     Miss,
-    /// It joined the fetch of another.
+    /// It joined a pending fetch.
     Collapsed,
-    /// It has a fetch that nobody joins, and whose result is not stored.
+    /// It starts a private fetch, whose result is not stored.
     Bypass,
 }
 
-/// A request that was taken up.
+/// An accepted request.
 #[derive(Drop)]
 pub struct Asking {
-    /// Its number, unlike that of any other.
+    /// A number that is unique among all requests.
     pub client: u64,
-    /// How it goes on, unless it is a hit.
+    /// How it is forwarded, unless it is a hit.
     pub forward: Forward,
-    /// Gives the answer.
-    pub answer: oneshot::Receiver<Answer>,
+    /// Receives the answer.
+    pub answer: oneshot::Receiver<Outcome>,
 }
 
-/// Takes requests up and has them answered, in the thread that serves.
+/// Accepts requests and has them answered. Called on the thread that serves.
 pub trait Front: Drop {
-    /// Whether clients of this address may come in. Those of 127.0.0.0/8 always may.
+    /// Whether clients at this address are admitted. Not asked for 127.0.0.0/8, which always is.
     fn allows(&mut self, address: Ipv4Addr) -> bool;
 
-    /// Takes a request up. An error is the status to answer, as for a target that is no URL, or
-    /// where there is no memory.
-    fn ask(&mut self, asked: Asked) -> Result<Asking, u16>;
+    /// Accepts a request. Errors: the status to answer, as when the target is not a URL or memory runs out.
+    fn ask(&mut self, asked: &Asked) -> Result<Asking, u16>;
 
-    /// A client went away before its answer.
+    /// Accepts a request once more, to be forwarded as `Forward::Bypass`: by a private fetch, which joins no other and which no
+    /// other joins. Called where the fetch that the request joined brought an object that may not be stored, and so is only for
+    /// the client that started the fetch (RFC 9111, section 4). Errors: the status to answer.
+    fn ask_alone(&mut self, asked: &Asked) -> Result<Asking, u16>;
+
+    /// The client closed its connection before it was answered.
     fn gone(&mut self, client: u64);
 
-    /// One more client was answered, with whatever status.
+    /// Called once for each response, whatever its status.
     fn answered(&mut self);
 }
 
-// What all connections share.
+// State shared by all connections.
 #[derive(Drop)]
-struct House<F> {
+struct ClientContext<F> {
     alloc: Global,
     front: RefCell<F>,
-    // The name of the cache, as it stands in Cache-Status.
+    // The name of the cache, as written in Cache-Status.
     label: Vec<u8>,
 }
 
-// Clients of a front.
+// Answers requests from a shared front.
 #[derive(Drop)]
-struct Clients<F> {
-    house: Rc<House<F>>,
+struct FrontAnswers<F> {
+    context: Rc<ClientContext<F>>,
 }
 
-impl<F: Front> Clients<F> {
-    // The number of a request that was taken up.
-    fn ask(&self, asked: Asked) -> Result<Waits<F>, u16> {
-        let Ok(house) = self.house.clone() else {
-            return Err(503);
-        };
-        let Ok(mut front) = self.house.front.try_borrow_mut() else {
-            return Err(503);
-        };
-        let Asking {
+// Passes a request to the front, with `is_alone` by `Front::ask_alone`. Errors: the status to answer.
+fn submit<F: Front>(
+    context: &Rc<ClientContext<F>>,
+    asked: &Asked,
+    is_alone: bool,
+) -> Result<Waits<F>, u16> {
+    let Ok(owner) = context.clone() else {
+        return Err(503);
+    };
+    let Ok(mut front) = context.front.try_borrow_mut() else {
+        return Err(503);
+    };
+    let accepted = if is_alone {
+        front.ask_alone(asked)
+    } else {
+        front.ask(asked)
+    };
+    let Asking {
+        client,
+        forward,
+        answer,
+    } = accepted?;
+    Ok(Waits {
+        forward,
+        answer,
+        guard: Guard {
+            context: owner,
             client,
-            forward,
-            answer,
-        } = front.ask(asked)?;
-        Ok(Waits {
-            forward,
-            answer,
-            guard: Guard {
-                house,
-                client,
-                is_armed: true,
-            },
-        })
-    }
+            is_armed: true,
+        },
+    })
 }
 
-impl<F: Front> Answers for Clients<F> {
+impl<F: Front> Answers for FrontAnswers<F> {
     type Answering = Waiting<F>;
 
-    fn share(&self) -> Result<Clients<F>, AllocError> {
-        Ok(Clients {
-            house: self.house.clone()?,
+    fn share(&self) -> Result<FrontAnswers<F>, AllocError> {
+        Ok(FrontAnswers {
+            context: self.context.clone()?,
         })
     }
 
@@ -124,7 +137,7 @@ impl<F: Front> Answers for Clients<F> {
         if address.is_loopback() {
             return true;
         }
-        match self.house.front.try_borrow_mut() {
+        match self.context.front.try_borrow_mut() {
             Ok(mut front) => front.allows(address),
             Err(_) => false,
         }
@@ -135,31 +148,31 @@ impl<F: Front> Answers for Clients<F> {
     }
 
     fn begin(&self, asked: Asked) -> Waiting<F> {
-        let alloc = self.house.alloc;
-        let target = asked.target.as_bytes().to_vec(alloc);
-        let target = target.unwrap_or(Vec::new(alloc));
-        let (status, waits) = match self.ask(asked) {
+        let alloc = self.context.alloc;
+        let mut asked = asked;
+        let (status, waits) = match submit(&self.context, &asked, false) {
             Ok(waits) => (503, Some(waits)),
             Err(status) => (status, None),
         };
+        asked.content = Vec::new(alloc);
         Waiting {
             alloc,
-            target,
+            asked,
             status,
             waits,
         }
     }
 
     fn note_answer(&self) {
-        if let Ok(mut front) = self.house.front.try_borrow_mut() {
+        if let Ok(mut front) = self.context.front.try_borrow_mut() {
             front.answered();
         }
     }
 }
 
-// Tells of a client when it is dropped, unless the client was answered.
+// Calls `Front::gone` when dropped, unless the client was answered.
 struct Guard<F: Front> {
-    house: Rc<House<F>>,
+    context: Rc<ClientContext<F>>,
     client: u64,
     is_armed: bool,
 }
@@ -167,50 +180,104 @@ struct Guard<F: Front> {
 impl<F: Front> Drop for Guard<F> {
     fn drop(self) {
         let Guard {
-            house,
+            context,
             client,
             is_armed,
         } = self;
-        if is_armed && let Ok(mut front) = house.front.try_borrow_mut() {
+        if is_armed && let Ok(mut front) = context.front.try_borrow_mut() {
             front.gone(client);
         }
     }
 }
 
-// A request that was taken up.
+// An accepted request that waits for its answer.
 #[derive(Drop)]
 struct Waits<F: Front> {
     forward: Forward,
-    answer: oneshot::Receiver<Answer>,
+    answer: oneshot::Receiver<Outcome>,
     guard: Guard<F>,
 }
 
-// The answer of one request.
+// The future of one answer.
 #[derive(Drop)]
 struct Waiting<F: Front> {
     alloc: Global,
-    target: Vec<u8>,
-    // The status where nothing comes.
+    // The request without its content, which is not forwarded.
+    asked: Asked,
+    // The status if the request was refused or its answer never comes.
     status: u16,
     waits: Option<Waits<F>>,
+}
+
+impl<F: Front> Waiting<F> {
+    // Polls for the front's answer. `None` if the request was refused or its answer never comes.
+    fn poll_front(&mut self, cx: &mut Context<'_>) -> Poll<Option<Outcome>>
+        ensures registered { OnPending result (Covers cx.new (λ _. ⊥)) }
+        ensures kept { Keeps cx.old cx.new }
+    {
+        let Some(waits) = &mut self.waits else {
+            return Poll::Ready(None);
+        };
+        let Ok(answer) = ready!(waits.answer.poll(cx)) else {
+            return Poll::Ready(None);
+        };
+        waits.guard.is_armed = false;
+        Poll::Ready(Some(answer))
+    }
+
+    // Whether the answer is only for another client: the request joined that one's fetch, whose object may not be stored.
+    fn is_for_another(&self, answer: &Option<Outcome>) -> bool {
+        if let Some(waits) = &self.waits
+            && waits.forward == Forward::Collapsed
+            && let Some(Outcome::Got(object)) = answer
+        {
+            return object.get().life() == 0;
+        }
+        false
+    }
+
+    // Replaces the answered request by the same one with a private fetch.
+    fn ask_alone(&mut self) {
+        let Some(waits) = &self.waits else {
+            return;
+        };
+        let accepted = submit(&waits.guard.context, &self.asked, true);
+        match accepted {
+            Ok(waits) => self.waits = Some(waits),
+            Err(status) => {
+                self.status = status;
+                self.waits = None;
+            }
+        }
+    }
+
+    // The content of the response. Errors: the status of a failure.
+    fn content(&self, answer: Option<Outcome>) -> Result<Given, u16> {
+        let Some(waits) = &self.waits else {
+            return Err(self.status);
+        };
+        let Some(answer) = answer else {
+            return Err(self.status);
+        };
+        let label = waits.guard.context.label.as_slice();
+        given_of(self.alloc, label, waits.forward, answer)
+    }
 }
 
 impl<F: Front> Future for Waiting<F> {
     type Output = Given;
 
     fn poll(&mut self, cx: &mut Context<'_>) -> Poll<Given> {
-        let mut status = self.status;
-        if let Some(waits) = &mut self.waits
-            && let Ok(answer) = ready!(waits.answer.poll(cx))
-        {
-            waits.guard.is_armed = false;
-            let label = waits.guard.house.label.as_slice();
-            match given_of(self.alloc, label, waits.forward, answer) {
-                Ok(given) => return Poll::Ready(given),
-                Err(failed) => status = failed,
-            }
+        let mut answer = ready!(self.poll_front(cx));
+        if self.is_for_another(&answer) {
+            self.ask_alone();
+            answer = ready!(self.poll_front(cx));
         }
-        let text = text_of(self.alloc, status, self.target.as_slice());
+        let status = match self.content(answer) {
+            Ok(given) => return Poll::Ready(given),
+            Err(status) => status,
+        };
+        let text = text_of(self.alloc, status, self.asked.target.as_bytes());
         Poll::Ready(Given::Text {
             status,
             text: text.unwrap_or(Vec::new(self.alloc)),
@@ -219,12 +286,12 @@ impl<F: Front> Future for Waiting<F> {
     }
 }
 
-// What a client is given, or the status of its failure.
-fn given_of(alloc: Global, label: &[u8], forward: Forward, answer: Answer) -> Result<Given, u16> {
+// The content of the response. Errors: the status of a failure.
+fn given_of(alloc: Global, label: &[u8], forward: Forward, answer: Outcome) -> Result<Given, u16> {
     let (object, age) = match answer {
-        Answer::Hit { object, age } => (object, Some(age)),
-        Answer::Got(object) => (object, None),
-        Answer::Fail(status) => return Err(status),
+        Outcome::Hit { object, age } => (object, Some(age)),
+        Outcome::Got(object) => (object, None),
+        Outcome::Fail(status) => return Err(status),
     };
     let told = match age {
         Some(age) => told_hit(alloc, label, ttl_of(&object, age)),
@@ -236,14 +303,14 @@ fn given_of(alloc: Global, label: &[u8], forward: Forward, answer: Answer) -> Re
     }
 }
 
-// For how many more seconds a stored object is fresh.
+// The remaining time to live of a stored object, in seconds.
 fn ttl_of(object: &SharedObject, age: u32) -> u64 {
     let object = object.get();
     let end = u64::from(object.life()).saturating_add(u64::from(object.age()));
     end.saturating_sub(u64::from(age))
 }
 
-// The member of Cache-Status (RFC 9211) for a hit.
+// The Cache-Status member (RFC 9211) of a hit.
 fn told_hit(alloc: Global, label: &[u8], ttl: u64) -> Result<Vec<u8>, AllocError> {
     let mut told = label.to_vec(alloc)?;
     told.extend_from_slice(b"; hit; ttl=")?;
@@ -251,7 +318,7 @@ fn told_hit(alloc: Global, label: &[u8], ttl: u64) -> Result<Vec<u8>, AllocError
     Ok(told)
 }
 
-// The member of Cache-Status for what was fetched.
+// The Cache-Status member of a forwarded request.
 fn told_forward(alloc: Global, label: &[u8], forward: Forward) -> Result<Vec<u8>, AllocError> {
     let mut told = label.to_vec(alloc)?;
     let how: &[u8] = match forward {
@@ -263,7 +330,7 @@ fn told_forward(alloc: Global, label: &[u8], forward: Forward) -> Result<Vec<u8>
     Ok(told)
 }
 
-// The name as an item of a structured field (RFC 8941): a token where it is one, else in quotes.
+// The name as an item of a structured field (RFC 8941): a token if it is one, otherwise a quoted string.
 fn label_of(alloc: Global, name: &str) -> Result<Vec<u8>, AllocError> {
     let octets = name.as_bytes();
     if is_token(octets) {
@@ -280,7 +347,7 @@ fn label_of(alloc: Global, name: &str) -> Result<Vec<u8>, AllocError> {
     Ok(label)
 }
 
-// Whether the octets are a token of structured fields.
+// Whether the octets are a token of a structured field.
 fn is_token(octets: &[u8]) -> bool {
     match octets.first() {
         Some(first) => {
@@ -295,14 +362,14 @@ fn is_token_octet(octet: u8) -> bool {
     octet.is_ascii_alphanumeric() || b"!#$%&'*+-.^_`|~:/".contains(&octet)
 }
 
-/// Serves clients on the calling thread, at most `limits.connections` at a time, until `stop` is
-/// ready or its other end is dropped; connections that are open then have the grace to end. `bound`
-/// is told the address once the socket is bound. An error is the socket's or the event loop's.
+/// Serves clients on the calling thread, at most `limits.connections` concurrently, until `stop` is ready or its sender is
+/// dropped; open connections then have `limits.grace` to end. Sends the address to `bound` once the socket is bound. Errors: the
+/// socket or the event loop failed.
 ///
-/// Only GET is served. A client that may not come in is answered 403 before its head is read, one
-/// that is still for too long is closed, and of one that leaves while it waits the front is told.
-/// Answers carry Cache-Status, those from the store their Age, errors a line of text with what is
-/// wrong and a line with the URL.
+/// Only GET is served. A client that is not admitted gets 403 before its head is read, and a client that stays silent for too
+/// long is disconnected. If a client disconnects while it waits, `Front::gone` is called. A client that joined a fetch whose
+/// object may not be stored is not given it: its request is passed on once more, by `Front::ask_alone`. Responses with an object
+/// carry Cache-Status, and stored ones their Age; errors carry a line with the reason and a line with the URL.
 pub fn serve_clients<R, F>(
     rt: R,
     address: SocketAddr,
@@ -317,13 +384,13 @@ where
     F: Front,
 {
     let alloc = rt.alloc();
-    let house = House {
+    let context = ClientContext {
         alloc,
         front: RefCell::new(front),
         label: label_of(alloc, name)?,
     };
-    let clients = Clients {
-        house: Rc::new(alloc, house)?,
+    let clients = FrontAnswers {
+        context: Rc::new(alloc, context)?,
     };
     serve(rt, address, clients, bound, stop, limits)
 }

@@ -1,10 +1,10 @@
-//! What answers of the program's own say.
+//! Texts of the proxy's own responses.
 use std::alloc::{AllocError, Global};
 
-// The most octets of a target that a text repeats.
+// The most octets of a target that a text quotes.
 const MOST_SHOWN: usize = 1024;
 
-/// What a status of the program's own means.
+/// The reason that a status of the proxy itself stands for.
 pub(crate) fn reason(status: u16) -> &'static str {
     match status {
         400 => "Bad Request: the target is not an http URL, or the content is broken",
@@ -19,7 +19,7 @@ pub(crate) fn reason(status: u16) -> &'static str {
     }
 }
 
-/// A line with the status and what it means, and a line with the target.
+/// A line with the status and its reason, then a line with the target, cut to 1,024 octets. No second line for an empty target.
 pub(crate) fn text_of(alloc: Global, status: u16, target: &[u8]) -> Result<Vec<u8>, AllocError> {
     let line = format!(in alloc; "{} {}\n", status, reason(status))?;
     let mut text = line.into_bytes();
@@ -32,7 +32,13 @@ pub(crate) fn text_of(alloc: Global, status: u16, target: &[u8]) -> Result<Vec<u
     Ok(text)
 }
 
-/// A whole message that refuses a client that may not ask.
+/// Why a request to the administration is not answered.
+pub(crate) fn not_administrator(alloc: Global) -> Result<Vec<u8>, AllocError> {
+    b"403 Forbidden: Host has to be 127.0.0.1 or localhost with this port, without Via and without an Origin of elsewhere\n"
+        .to_vec(alloc)
+}
+
+/// A complete 403 response, for a client that is not admitted.
 pub(crate) fn forbidden(alloc: Global) -> Result<Vec<u8>, AllocError> {
     let body = format!(in alloc; "403 {}\n", reason(403))?;
     let text = format!(in alloc;

@@ -1,4 +1,4 @@
--- Octets that spell a message have no fault, and the first fault of those that spell none.
+-- Octets that encode a message have no fault; other octets have a first fault.
 use Rattle.std.proofs.Common.{◌≡◌, ℕ, ◌<◌, ◌^◌, List, length, drop, Option, Some, None, Result, Ok, Err, refl, sym, ap, subst, ◌∙◌, inl, inr, arith}
 use Rattle.std.specs.Prelude.{MatchResult, IsOkAnd}
 use Rattle.std.proofs.lemmas.List.{length-drop}
@@ -31,7 +31,7 @@ no_fault octets m s faults.Object bad =
     let small : length (payload m.body) < 2 ^ 16 = omega (arith, s.within, ap length same, length-drop 20 octets) in
     no_object_fault m.op m.body s.message.body small (subst (HasObjectFault m.op) same (subst (λ (o : Opcode). HasObjectFault o (drop 20 octets)) op-is bad.2))
 
--- what is read or has a fault is read where it spells a message
+-- a decoder that returns a message or a fault returns the message if the octets encode one
 pub read_again : (octets : List ℕ) (r : Result IcpView IcpFault) → MatchResult r (λ view. Spells octets (shown view)) (λ fault. IsFaultOf octets fault) → (m : Message) → Spells octets m → IsOkAnd r (λ view. shown view ≡ m)
 read_again octets (Ok view) h m s = one_message octets (shown view) m h s
 read_again octets (Err fault) h m s = absurd (no_fault octets m s fault h.holds)
@@ -40,12 +40,12 @@ none_at : (o : Option Message) → ((m : Message) → o ≡ Some m → ⊥) → 
 none_at None h = refl
 none_at (Some m) h = absurd (h m refl)
 
--- what is read or has a fault is what the function of the octets gives, or nothing
+-- and then agrees with the decoding function
 pub reads_same : (octets : List ℕ) (r : Result IcpView IcpFault) → MatchResult r (λ view. Spells octets (shown view)) (λ fault. IsFaultOf octets fault) → MatchResult r (λ view. message_of octets ≡ Some (shown view)) (λ _. message_of octets ≡ None)
 reads_same octets (Ok view) h = message_of-is octets (shown view) h
 reads_same octets (Err fault) h = none_at (message_of octets) (λ m e. no_fault octets m (is_spelled octets m e) fault h.holds)
 
--- a whole header has no fault of the first four
+-- a valid header has none of the first four faults
 no_header_fault : (octets : List ℕ) (op : Opcode) → IsHeader octets op → (fault : IcpFault) → place fault < 5 → HasFault fault octets → ⊥
 no_header_fault octets op h faults.Short lt bad = omega (arith, h.whole)
 no_header_fault octets op h faults.Version lt bad = bad h.version

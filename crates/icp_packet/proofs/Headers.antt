@@ -1,4 +1,4 @@
--- The fields of a header, as they are read and as they are spelled.
+-- Header fields, decoded and encoded.
 use Rattle.std.proofs.Common.{◌≡◌, ℕ, ◌≤◌, List, [], ◌∷◌, ◌++◌, length, take, drop, get_or, refl, sym, ap, ◌∙◌, arith}
 use Rattle.std.specs.Prelude.{slice_index}
 use Rattle.std.proofs.lemmas.List.{take_at, drop_at, drop_more, get_or-drop, length-drop, length-append}
@@ -16,7 +16,7 @@ four_cells (a ∷ b ∷ []) le = absurd (omega arith)
 four_cells (a ∷ b ∷ c ∷ []) le = absurd (omega arith)
 four_cells (a ∷ b ∷ c ∷ d ∷ xs) le = refl
 
--- what a reader took from the header, beside its opcode
+-- the fields that the decoder read from the header, except the opcode
 pub record AreFields (octets : List ℕ) (m : Message) : Type 0 where
   pub number : m.number ≡ big_number 4 (drop 4 octets)
   pub options : m.options ≡ big_number 4 (drop 8 octets)
@@ -27,7 +27,7 @@ pub record AreFields (octets : List ℕ) (m : Message) : Type 0 where
 pub sender_cells : (octets : List ℕ) → 20 ≤ length octets → get_or octets 16 0 ∷ get_or octets 17 0 ∷ get_or octets 18 0 ∷ get_or octets 19 0 ∷ [] ≡ take 4 (drop 16 octets)
 sender_cells octets le = sym (four_cells (drop 16 octets) (omega (arith, length-drop 16 octets)) ∙ rw (get_or-drop 16 octets 0 0, get_or-drop 16 octets 1 0, get_or-drop 16 octets 2 0, get_or-drop 16 octets 3 0) refl)
 
--- the octets of a whole header and payload are the spelling
+-- a valid header and payload together are the encoding of the message
 pub spelled_from_fields : (octets : List ℕ) (m : Message) → IsOctets octets → IsHeader octets m.op → AreFields octets m → octets ≡ spelling m
 spelled_from_fields octets m fits h f =
     let le : 20 ≤ length octets = h.whole in
@@ -41,7 +41,7 @@ spelled_from_fields octets m fits h f =
     let e0 : octets ≡ code m.op ∷ drop 1 octets = drop_more octets 0 0 (omega arith) ∙ ap (λ (v : ℕ). v ∷ drop 1 octets) h.opcode in
     e0 ∙ ap (λ (r : List ℕ). code m.op ∷ r) (e1 ∙ ap (λ (r : List ℕ). 2 ∷ r) (e2 ∙ ap (λ (r : List ℕ). big_bytes 2 (spelled_length m) ++ r) (e4 ∙ ap (λ (r : List ℕ). big_bytes 4 m.number ++ r) (e8 ∙ ap (λ (r : List ℕ). big_bytes 4 m.options ++ r) e12))))
 
--- ---- what the octets of a message read as
+-- ---- the fields read from an encoded message
 
 pub length-spelling : (m : Message) → length m.sender ≡ 4 → length (spelling m) ≡ spelled_length m
 length-spelling m four = omega (arith, length-append m.sender (payload m.body))

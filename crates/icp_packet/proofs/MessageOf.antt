@@ -1,4 +1,4 @@
--- The message that octets spell is the one that stands in them, so there is at most one.
+-- The message that octets encode is the one read from them, hence unique.
 use Rattle.std.proofs.Common.{◌≡◌, ℕ, zero, suc, ◌+◌, ◌<◌, ◌≤◌, ◌^◌, ◌%◌, List, [], ◌∷◌, ◌++◌, length, take, drop, Option, Some, None, true, false, refl, sym, ap, subst, ◌∙◌, arith, Bool, cond}
 use Rattle.std.proofs.Math.Nat.{mod-lt}
 use Rattle.std.specs.Prelude.{slice_index, nat_lt}
@@ -16,7 +16,7 @@ use Rattle.icp_packet.specs.Reading.{opcode_of, before_zero, body_at, message_at
 use Rattle.icp_packet.proofs.Texts.{HasNoZero-rest}
 use Rattle.icp_packet.proofs.Headers.{header_is, fields_are}
 
--- ---- what is spelled is read
+-- ---- completeness: an encoded message is read
 
 found : (op : Opcode) → opcode_of (code op) ≡ Some op
 found Query = refl
@@ -40,7 +40,7 @@ before_zero-is (zero ∷ xs) rest h = absurd (h 0 (omega arith) refl)
 before_zero-is (suc x ∷ xs) rest h =
     ap (λ (r : List ℕ). suc x ∷ r) (before_zero-is xs rest (HasNoZero-rest (suc x) xs h))
 
--- the octets behind a text, its zero octet and two more
+-- the octets after a text, its zero octet and two more
 behind_size : (url : List ℕ) (a b : ℕ) (rest : List ℕ) → drop (length url + 3) (url ++ (0 ∷ a ∷ b ∷ rest)) ≡ rest
 behind_size url a b rest =
     sym (drop-drop 3 (length url) (url ++ (0 ∷ a ∷ b ∷ rest))) ∙ ap (drop 3) (drop_at url (0 ∷ a ∷ b ∷ rest) (length url) refl)
@@ -91,7 +91,7 @@ one_message octets m n s t =
     let same : Some m ≡ Some n = sym (message_of-is octets m s) ∙ message_of-is octets n t in
     cc
 
--- ---- what is read is spelled
+-- ---- soundness: a message that is read is encoded
 
 HasNoZero-before : (xs : List ℕ) → HasNoZero (before_zero xs)
 HasNoZero-before [] k lt e = omega arith
@@ -104,7 +104,7 @@ length-before_zero [] = omega arith
 length-before_zero (zero ∷ xs) = omega arith
 length-before_zero (suc x ∷ xs) = let h = length-before_zero xs in omega arith
 
--- a number whose octets stand where it was read has four octets
+-- a number that is read back from its four octets is under 2 ^ 32
 in_range : (x : ℕ) (at rest : List ℕ) → x ≡ big_number 4 at → at ≡ big_bytes 4 x ++ rest → x < 2 ^ 32
 in_range x at rest read spelled =
     let same : x ≡ x % 256 ^ 4 = read ∙ ap (big_number 4) spelled ∙ big_from-bytes 4 x rest in

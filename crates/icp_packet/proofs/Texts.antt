@@ -1,4 +1,4 @@
--- Texts that end at their first zero octet, and what stands behind.
+-- Texts terminated by their first zero octet, and what follows.
 use Rattle.std.proofs.Common.{◌≡◌, ℕ, suc, ◌+◌, ◌<◌, ◌^◌, List, [], ◌∷◌, ◌++◌, length, refl, sym, ap, ◌∙◌, subst, inl, inr, arith}
 use Rattle.std.specs.Prelude.{slice_index}
 use Rattle.std.proofs.lemmas.List.{get_or_at, get_or_append_left, drop_at, length-append}
@@ -9,7 +9,7 @@ use Rattle.icp_packet.specs.declared.message.Opcode.TheVariants.{Query, HitObjec
 use Rattle.icp_packet.specs.Message.{Body, query, url_only, object, HasNoZero, FitsOpcode, payload}
 use Rattle.icp_packet.specs.Fault.{IsNotEnded, IsNotSized, HasUrlFault, HasObjectFault}
 
--- octets behind the first zero octet
+-- the octets after the first zero octet
 pub ended_early : (text url rest : List ℕ) → text ≡ url ++ 0 ∷ rest → 0 < length rest → IsNotEnded text
 ended_early text url rest parts more =
     inr (length url, omega (arith, ap length parts, length-append url (0 ∷ rest)), rw parts (get_or_at url 0 rest 0 (length url) refl))
@@ -17,7 +17,7 @@ ended_early text url rest parts more =
 pub HasNoZero-rest : (x : ℕ) (xs : List ℕ) → HasNoZero (x ∷ xs) → HasNoZero xs
 HasNoZero-rest x xs h k lt = h (suc k) (omega arith)
 
--- a text has one first zero octet
+-- the first zero octet is unique
 pub one_split : (a b : List ℕ) (x y : List ℕ) → HasNoZero a → HasNoZero b → a ++ 0 ∷ x ≡ b ++ 0 ∷ y → (a ≡ b) × (x ≡ y)
 one_split [] [] x y ha hb e = (refl, cc)
 one_split [] (b ∷ bs) x y ha hb e = absurd (hb 0 (omega arith) cc)
@@ -45,12 +45,12 @@ is_sized url octets h small bad =
     let size : big_number 2 bad.rest ≡ length octets = ap (big_number 2) (sym same.1) ∙ big_number-reads_back 2 (length octets) octets small in
     elim bad.wrong [ inl short ↦ omega arith | inr other ↦ other (omega arith) ]
 
--- an object's fault comes only where the URL has none
+-- an object fault is reported only if the URL has none
 pub url_before_object : (op : Opcode) (octets : List ℕ) → HasObjectFault op octets → HasUrlFault op octets → ⊥
 url_before_object HitObject octets bad none = has_zero bad.url bad.rest (subst HasNoZero bad.parts none)
 url_before_object op octets bad none = bad
 
--- a payload that is spelled has no fault
+-- an encoded payload has no fault
 pub no_url_fault : (op : Opcode) (body : Body) → FitsOpcode op body → HasUrlFault op (payload body) → ⊥
 no_url_fault Query (query requester url) fits (inl short) = omega (arith, fits.0, length-append requester (url ++ 0 ∷ []))
 no_url_fault Query (query requester url) fits (inr bad) = is_ended url fits.1 (subst IsNotEnded (drop_at requester (url ++ 0 ∷ []) 4 fits.0) bad)

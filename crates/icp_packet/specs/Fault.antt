@@ -1,4 +1,4 @@
--- What is wrong with octets that spell no message. Each condition is of the octets alone.
+-- Decoding faults. Each condition refers to the octets alone.
 use Rattle.std.specs.Prelude.{◌≡◌, ◌≢◌, ℕ, ◌+◌, ◌<◌, ◌⊎◌, List, ◌∷◌, ◌++◌, length, drop, slice_index}
 use Rattle.byteorder.specs.Endian.{big_number}
 use Rattle.icp_packet.specs.declared.message.Opcode.{Opcode}
@@ -7,21 +7,21 @@ use Rattle.icp_packet.specs.declared.fault.IcpFault.{IcpFault}
 use Rattle.icp_packet.specs.declared.fault.IcpFault.TheVariants as faults
 use Rattle.icp_packet.specs.Message.{code, HasNoZero}
 
--- the text doesn't end at its first zero octet
+-- the text has no zero octet, or one before its last octet
 abbrev pub IsNotEnded : List ℕ → Type 0
 IsNotEnded text = HasNoZero text ⊎ ((k : ℕ) × (k + 1 < length text) × (slice_index text k ≡ 0))
 
--- what is wrong with the URL in the payload of a message with this opcode
+-- the URL in the payload of a message with this opcode is malformed
 abbrev pub HasUrlFault : Opcode → List ℕ → Type 0
 HasUrlFault Query payload = (length payload < 4) ⊎ IsNotEnded (drop 4 payload)
 HasUrlFault HitObject payload = HasNoZero payload
 HasUrlFault op payload = IsNotEnded payload
 
--- the size isn't whole, or isn't that of the octets left
+-- the size field is truncated, or differs from the number of octets after it
 abbrev pub IsWrongSize : List ℕ → Type 0
 IsWrongSize rest = (length rest < 2) ⊎ (big_number 2 rest + 2 ≢ length rest)
 
--- the size behind the first zero octet is wrong
+-- the size field after the URL is wrong
 pub record IsNotSized (payload : List ℕ) : Type 0 where
   pub url : List ℕ
   pub rest : List ℕ
@@ -29,7 +29,7 @@ pub record IsNotSized (payload : List ℕ) : Type 0 where
   pub parts : payload ≡ url ++ 0 ∷ rest
   pub wrong : IsWrongSize rest
 
--- what is wrong with the object in the payload of a message with this opcode
+-- the object in the payload of a message with this opcode is malformed
 abbrev pub HasObjectFault : Opcode → List ℕ → Type 0
 HasObjectFault HitObject payload = IsNotSized payload
 HasObjectFault op payload = ⊥
@@ -43,7 +43,7 @@ HasFault faults.Length octets = (big_number 2 (drop 2 octets) ≢ length octets)
 HasFault faults.Url octets = (op : Opcode) × (slice_index octets 0 ≡ code op) × HasUrlFault op (drop 20 octets)
 HasFault faults.Object octets = (op : Opcode) × (slice_index octets 0 ≡ code op) × HasObjectFault op (drop 20 octets)
 
--- the places of the faults in their order
+-- the order in which faults are tested
 abbrev pub place : IcpFault → ℕ
 place faults.Short = 1
 place faults.Version = 2
@@ -52,7 +52,7 @@ place faults.Length = 4
 place faults.Url = 5
 place faults.Object = 6
 
--- the fault of the octets: the first whose condition holds
+-- the fault that is reported: the first whose condition holds
 pub record IsFaultOf (octets : List ℕ) (fault : IcpFault) : Type 0 where
   pub holds : HasFault fault octets
   pub first : (other : IcpFault) → place other < place fault → HasFault other octets → ⊥

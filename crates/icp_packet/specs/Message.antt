@@ -1,16 +1,16 @@
--- ICP version 2 (RFC 2186): what a message is, and its one spelling.
+-- ICP version 2 (RFC 2186): messages and their encoding.
 use Rattle.std.specs.Prelude.{◌≡◌, ◌≢◌, ℕ, ◌+◌, ◌<◌, ◌≤◌, ◌^◌, List, [], ◌∷◌, ◌++◌, length, slice_index}
 use Rattle.byteorder.specs.Endian.{big_bytes}
 use Rattle.icp_packet.specs.declared.message.Opcode.{Opcode}
 use Rattle.icp_packet.specs.declared.message.Opcode.TheVariants.{Query, Hit, Miss, Error, Secho, Decho, MissNoFetch, Denied, HitObject}
 
--- what a message carries behind its header
+-- the payload
 pub data Body : Type 0 where
   query : List ℕ → List ℕ → Body
   url_only : List ℕ → Body
   object : List ℕ → List ℕ → Body
 
--- a message, its addresses and texts as lists of octets
+-- a message; addresses and texts are lists of octets
 pub record Message : Type 0 where
   pub op : Opcode
   pub number : ℕ
@@ -19,7 +19,7 @@ pub record Message : Type 0 where
   pub sender : List ℕ
   pub body : Body
 
--- the octet of an opcode
+-- the opcode as an octet
 abbrev pub code : Opcode → ℕ
 code Query = 1
 code Hit = 2
@@ -35,7 +35,7 @@ code HitObject = 23
 abbrev pub HasNoZero : List ℕ → Type 0
 HasNoZero octets = (k : ℕ) → k < length octets → slice_index octets k ≢ 0
 
--- a query's payload is the requester and the URL, a hit object's the URL and the object, any other's the URL
+-- the body matches the opcode: requester and URL of a query, URL and object of a hit object, a URL of every other
 abbrev pub FitsOpcode : Opcode → Body → Type 0
 FitsOpcode Query (query requester url) = (length requester ≡ 4) × HasNoZero url
 FitsOpcode Query body = ⊥
@@ -44,26 +44,26 @@ FitsOpcode HitObject body = ⊥
 FitsOpcode op (url_only url) = HasNoZero url
 FitsOpcode op body = ⊥
 
--- the octets behind the header: a text ends with a zero octet, an object has its size in front
+-- the encoded payload: a URL is terminated by a zero octet, an object preceded by its two-octet size
 abbrev pub payload : Body → List ℕ
 payload (query requester url) = requester ++ (url ++ 0 ∷ [])
 payload (url_only url) = url ++ 0 ∷ []
 payload (object url octets) = url ++ (0 ∷ big_bytes 2 (length octets) ++ octets)
 
--- the first 20 octets of a message of this many octets
+-- the 20-octet header of a message of this length
 abbrev pub header : Message → ℕ → List ℕ
 header m len =
     code m.op ∷ 2 ∷ big_bytes 2 len ++ big_bytes 4 m.number ++ big_bytes 4 m.options ++ big_bytes 4 m.option_data ++ m.sender
 
--- how many octets a message has
+-- the length of the encoded message
 abbrev pub spelled_length : Message → ℕ
 spelled_length m = 20 + length (payload m.body)
 
--- the octets of a message
+-- the encoded message
 abbrev pub spelling : Message → List ℕ
 spelling m = header m (spelled_length m) ++ payload m.body
 
--- a message: its numbers and its address are in range, and its body is its opcode's
+-- a well-formed message: numbers and address are in range, and the body matches the opcode
 pub record IsMessage (m : Message) : Type 0 where
   pub number : m.number < 2 ^ 32
   pub options : m.options < 2 ^ 32
@@ -71,7 +71,7 @@ pub record IsMessage (m : Message) : Type 0 where
   pub sender : length m.sender ≡ 4
   pub body : FitsOpcode m.op m.body
 
--- the octets spell the message
+-- the octets are the encoding of a well-formed message, within 16,384 octets
 pub record Spells (octets : List ℕ) (m : Message) : Type 0 where
   pub message : IsMessage m
   pub spelled : octets ≡ spelling m

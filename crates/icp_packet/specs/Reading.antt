@@ -1,5 +1,5 @@
--- The message that octets spell, as a function of them: each field is taken from its place, and there is a message exactly
--- where its spelling is these octets again.
+-- Decoding as a function: each field is read at its offset, and the result is a message exactly if encoding it gives the
+-- same octets again.
 use Rattle.std.specs.Prelude.{ℕ, zero, suc, ◌+◌, ◌==◌, nat_lt, if◌then◌else◌, List, [], ◌∷◌, length, take, drop, slice_index, Option, Some, None}
 use Rattle.std.specs.List.{find}
 use Rattle.std.specs.Option.{option_and_then}
@@ -9,24 +9,24 @@ use Rattle.icp_packet.specs.declared.message.Opcode.{Opcode}
 use Rattle.icp_packet.specs.declared.message.Opcode.TheVariants.{Query, Hit, Miss, Error, Secho, Decho, MissNoFetch, Denied, HitObject}
 use Rattle.icp_packet.specs.Message.{Body, query, url_only, object, Message, code, spelling}
 
--- the opcode of an octet
+-- the opcode for an octet
 abbrev pub opcode_of : ℕ → Option Opcode
 opcode_of octet =
     find (λ op. code op == octet) (Query ∷ Hit ∷ Miss ∷ Error ∷ Secho ∷ Decho ∷ MissNoFetch ∷ Denied ∷ HitObject ∷ [])
 
--- the octets in front of the first zero octet
+-- the octets before the first zero octet
 abbrev pub before_zero : List ℕ → List ℕ
 before_zero [] = []
 before_zero (zero ∷ xs) = []
 before_zero (suc n ∷ xs) = suc n ∷ before_zero xs
 
--- the body whose parts stand at their places: an object begins behind the URL's zero octet and a size of two octets
+-- the body read from a payload; an object starts after the zero octet of the URL and two octets of size
 abbrev pub body_at : Opcode → List ℕ → Body
 body_at Query payload = query (take 4 payload) (before_zero (drop 4 payload))
 body_at HitObject payload = object (before_zero payload) (drop (length (before_zero payload) + 3) payload)
 body_at op payload = url_only (before_zero payload)
 
--- the message of this opcode whose fields stand at their places
+-- the message with this opcode, its fields read at their offsets
 abbrev pub message_at : Opcode → List ℕ → Message
 message_at op octets = record {
   op = op;
@@ -37,10 +37,10 @@ message_at op octets = record {
   body = body_at op (drop 20 octets);
 }
 
--- the message, where these octets are its spelling and not over 16384
+-- the message, if these octets are its encoding and at most 16,384
 abbrev pub if_spelled : List ℕ → Message → Option Message
 if_spelled octets m = if nat_lt 16384 (length octets) then None else (if bytes_eq octets (spelling m) then Some m else None)
 
--- the message that the octets spell, if they spell one
+-- the message that the octets encode, if any
 unfoldable pub message_of : List ℕ → Option Message
 message_of octets = option_and_then (λ op. if_spelled octets (message_at op octets)) (opcode_of (slice_index octets 0))

@@ -1,57 +1,26 @@
-//! Why a message could not be read or written.
+//! Decoding errors.
 
-ghost use Rattle.std.specs.Prelude.{◌≡◌};
-ghost use Rattle.icp_packet.specs.declared.fault.EncodeFault.TheVariants.{NoMemory};
-
-use std::alloc::{AllocError, AllocFailed};
 use thiserror::Error;
 
-/// What is wrong with a datagram that is no message: the first of these that applies.
+/// Why a datagram is not an ICP message. Faults are tested in this order, and the first that applies is reported.
 #[derive(Clone, Copy, Debug, PartialEq, Eq, Error)]
 pub enum IcpFault {
-    /// It has fewer octets than a header.
+    /// Shorter than the header, which has 20 octets.
     #[error("under 20 octets")]
     Short,
-    /// Its version is another one.
+    /// The version is not 2.
     #[error("not version 2")]
     Version,
-    /// No opcode has its first octet.
+    /// The first octet is not an opcode.
     #[error("unknown opcode")]
     Opcode,
-    /// Its length field isn't the number of its octets, or there are more than 16,384.
+    /// The length field differs from the length of the datagram, or the datagram is longer than 16,384 octets.
     #[error("the length field differs from the octets, or is over 16384")]
     Length,
-    /// The requester's address isn't whole, or the URL doesn't end with a zero octet where it has to.
+    /// The requester address is truncated, or the URL is not terminated by a zero octet where it must be.
     #[error("the URL is not whole")]
     Url,
-    /// The object's size isn't whole, or isn't the number of the octets that are left.
+    /// The object size is truncated, or differs from the number of remaining octets.
     #[error("the object is not whole")]
     Object,
-}
-
-/// Why a message was not written.
-#[derive(Clone, Copy, Debug, PartialEq, Eq, Error)]
-pub enum EncodeFault {
-    /// It would have more than 16,384 octets.
-    #[error("over 16384 octets")]
-    TooLong,
-    /// Memory for its octets was refused.
-    #[error("out of memory")]
-    NoMemory,
-}
-
-impl From<AllocError> for EncodeFault {
-    ghost from_gives = { λ _ e. e ≡ NoMemory };
-
-    fn from(_e: AllocError) -> EncodeFault {
-        EncodeFault::NoMemory
-    }
-}
-
-impl<T: Drop> From<AllocFailed<T>> for EncodeFault {
-    ghost from_gives = { λ _ e. e ≡ NoMemory };
-
-    fn from(_e: AllocFailed<T>) -> EncodeFault {
-        EncodeFault::NoMemory
-    }
 }

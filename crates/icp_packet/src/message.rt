@@ -1,33 +1,33 @@
-//! Messages, borrowed from the datagram that spells them.
+//! Message types, borrowed from the datagram.
 
 ghost use Rattle.std.specs.Prelude.{◌≡◌, ◌≢◌, MatchOption};
 ghost use Rattle.icp_packet.specs.Message.{code};
 
-/// What a message asks or answers (RFC 2186, "ICP Opcodes").
+/// ICP opcodes (RFC 2186, "ICP Opcodes").
 #[derive(Clone, Copy, Debug, PartialEq, Eq)]
 pub enum Opcode {
-    /// Asks whether the object of a URL is stored.
+    /// Query: is the object with this URL stored?
     Query,
-    /// The object is stored.
+    /// Reply: the object is stored.
     Hit,
-    /// The object isn't stored, and may be fetched through the one who answers.
+    /// Reply: the object is not stored, but may be fetched through the replying cache.
     Miss,
-    /// The query could not be read or handled.
+    /// Reply: the query could not be parsed or processed.
     Error,
-    /// Stands for a query to an origin server, and comes back from its echo port.
+    /// Simulated query to an origin server, returned by its UDP echo port.
     Secho,
-    /// The same, for a cache that doesn't speak ICP.
+    /// Simulated query to a cache that does not support ICP, returned by its UDP echo port.
     Decho,
-    /// The object isn't stored, and may not be fetched through the one who answers.
+    /// Reply: the object is not stored, and must not be fetched through the replying cache.
     MissNoFetch,
-    /// The one who asks is not allowed to.
+    /// Reply: the querying host may not retrieve the object from this cache.
     Denied,
-    /// The object is stored, and stands in the message.
+    /// Reply: the object is stored, and is included in the message.
     HitObject,
 }
 
 impl Opcode {
-    /// The octet of the opcode.
+    /// The opcode as an octet.
     pub fn code(self) -> u8
         ensures { result ≡ code self }
     {
@@ -44,7 +44,7 @@ impl Opcode {
         }
     }
 
-    /// The opcode with this octet.
+    /// Returns the opcode for an octet, or `None` if there is none.
     pub fn from_code(octet: u8) -> Option<Opcode>
         ensures { MatchOption result ((op : Opcode) → octet ≢ code op) (λ op. octet ≡ code op) }
     {
@@ -63,23 +63,23 @@ impl Opcode {
     }
 }
 
-/// What a message carries behind its header. A URL is without the zero octet that ends it.
+/// The payload, which follows the header. A URL is given without its terminating zero octet.
 #[derive(Clone, Copy, Debug, PartialEq, Eq)]
 pub enum IcpBody<'a> {
-    /// A query: the address of the client that it is for, and a URL.
+    /// Of a query: the address of the requesting client, and a URL.
     Query {
-        /// The four octets of the address.
+        /// IPv4 address of the client that the query is for.
         requester: [u8; 4],
-        /// The octets of the URL.
+        /// URL.
         url: &'a [u8],
     },
-    /// The octets of a URL.
+    /// Of every opcode but `Query` and `HitObject`: a URL.
     Url(&'a [u8]),
-    /// A stored object and its URL.
+    /// Of `HitObject`: a URL and the stored object.
     Object {
-        /// The octets of the URL.
+        /// URL.
         url: &'a [u8],
-        /// The octets of the object.
+        /// Object data.
         object: &'a [u8],
     },
 }
@@ -87,16 +87,16 @@ pub enum IcpBody<'a> {
 /// A message of ICP version 2 (RFC 2186, "ICP Message Format").
 #[derive(Clone, Copy, Debug, PartialEq, Eq)]
 pub struct IcpView<'a> {
-    /// What it asks or answers.
+    /// Opcode.
     pub op: Opcode,
-    /// The number that an answer copies from its query.
+    /// Request number. A reply repeats the number of its query.
     pub number: u32,
-    /// The flags of its options.
+    /// Option flags.
     pub options: u32,
-    /// What belongs to its options.
+    /// Option data.
     pub option_data: u32,
-    /// The four octets of the sender's address, as the sender says.
+    /// Sender host address field: an IPv4 address as claimed by the sender, not verified.
     pub sender: [u8; 4],
-    /// What stands behind the header.
+    /// Payload. It must match the opcode.
     pub body: IcpBody<'a>,
 }

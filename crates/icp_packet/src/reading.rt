@@ -1,4 +1,4 @@
-//! Messages from octets.
+//! Decoder.
 
 ghost use Rattle.std.specs.Prelude.{◌≡◌, [], ◌<◌, ◌≤◌, ◌∷◌, ◌++◌, length, drop, take, slice_index, MatchOption, MatchResult, IfOk, IfErr, IsOkAnd};
 ghost use Rattle.byteorder.specs.Endian.{big_bytes};
@@ -13,16 +13,16 @@ use crate::message::{IcpBody, IcpView, Opcode};
 use byteorder::{BigEndian, ByteOrder};
 use wire_octets::split_u16;
 
-/// The octets of a header.
+/// Header length in octets.
 pub(crate) const HEADER_LEN: usize = 20;
 
-/// The most octets of a message.
+/// Maximum message length in octets.
 pub(crate) const MAX_LEN: usize = 16_384;
 
-/// The version in the second octet.
+/// Protocol version, the second octet of a message.
 pub(crate) const VERSION: u8 = 2;
 
-// What is in front of the first zero octet, and what is behind it.
+// Splits at the first zero octet, which belongs to neither part. Errors: `Url` if there is none.
 #[inline]
 fn split_url(text: &[u8]) -> Result<(&[u8], &[u8]), IcpFault>
     ensures { MatchResult result (λ x. HasNoZero x.0.now × (text.now ≡ x.0.now ++ 0 ∷ x.1.now)) (λ fault. (fault ≡ IcpFault.Url) × HasNoZero text.now) }
@@ -34,7 +34,7 @@ fn split_url(text: &[u8]) -> Result<(&[u8], &[u8]), IcpFault>
     Ok((&text[..end], &text[end + 1..]))
 }
 
-// The URL of a text that ends at its first zero octet.
+// The URL in a payload part whose only zero octet is the last. Errors: `Url` otherwise.
 #[inline]
 fn url_of(text: &[u8]) -> Result<&[u8], IcpFault>
     ensures { MatchResult result (λ url. HasNoZero url.now × (text.now ≡ url.now ++ 0 ∷ [])) (λ fault. (fault ≡ IcpFault.Url) × IsNotEnded text.now) }
@@ -46,7 +46,7 @@ fn url_of(text: &[u8]) -> Result<&[u8], IcpFault>
     Ok(url)
 }
 
-// The object behind its size, which is that of all octets left.
+// The object after its two-octet size, which must be the number of remaining octets. Errors: `Object` otherwise.
 #[inline]
 fn object_of(rest: &[u8]) -> Result<&[u8], IcpFault>
     ensures { MatchResult result (λ object. rest.now ≡ big_bytes 2 (length object.now) ++ object.now) (λ fault. (fault ≡ IcpFault.Object) × IsWrongSize rest.now) }
@@ -60,7 +60,7 @@ fn object_of(rest: &[u8]) -> Result<&[u8], IcpFault>
     Ok(object)
 }
 
-// The body of a message with this opcode.
+// Decodes the payload of a message with this opcode.
 fn body_of(op: Opcode, octets: &[u8]) -> Result<IcpBody<'_>, IcpFault>
     ensures { MatchResult result (λ body. FitsOpcode op (shown_body body) × (octets.now ≡ payload (shown_body body))) (λ fault. HasBodyFault fault op octets.now) }
 {
@@ -82,7 +82,7 @@ fn body_of(op: Opcode, octets: &[u8]) -> Result<IcpBody<'_>, IcpFault>
     }
 }
 
-// The opcode of a message whose header has no fault.
+// Checks the header fields that can be at fault, and returns the opcode.
 #[inline]
 fn opcode_of(datagram: &[u8]) -> Result<Opcode, IcpFault>
     ensures { MatchResult result (λ op. IsHeader datagram.now op) (λ fault. IsFaultOf datagram.now fault) }
@@ -100,7 +100,7 @@ fn opcode_of(datagram: &[u8]) -> Result<Opcode, IcpFault>
     Ok(op)
 }
 
-// The message, or the first fault.
+// Decodes the message, or returns the first fault.
 #[inline]
 fn read(datagram: &[u8]) -> Result<IcpView<'_>, IcpFault>
     ensures { MatchResult result (λ view. Spells datagram.now (shown view)) (λ fault. IsFaultOf datagram.now fault) }
@@ -117,18 +117,18 @@ fn read(datagram: &[u8]) -> Result<IcpView<'_>, IcpFault>
     })
 }
 
-/// The message that a datagram spells, borrowed from it. No memory is asked for.
+/// Decodes a datagram. The view borrows from it; nothing is allocated.
 ///
 /// # Errors
-/// The first fault of a datagram that spells none.
+/// The first fault that applies, in the order of `IcpFault`, if the datagram is not a message.
 pub fn decode(datagram: &[u8]) -> Result<IcpView<'_>, IcpFault>
-    // What is read is spelled so.
+    // Sound: the datagram encodes the returned message.
     ensures found { IfOk result (λ view. Spells datagram.now (shown view)) }
-    // What is spelled so is read.
+    // Complete: an encoded message is returned.
     ensures only { (m : Message) → Spells datagram.now m → IsOkAnd result (λ view. shown view ≡ m) }
-    // Anything else has a fault, and it is the first.
+    // The returned fault is the first that applies.
     ensures fault { IfErr result (λ fault. IsFaultOf datagram.now fault) }
-    // The same, by the function that reads octets.
+    // The same, in terms of the decoding function of the specification.
     ensures reading { MatchResult result (λ view. message_of datagram.now ≡ Some (shown view)) (λ _. message_of datagram.now ≡ None) }
 {
     read(datagram)

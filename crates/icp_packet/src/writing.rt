@@ -1,17 +1,16 @@
-//! Octets from messages.
+//! Encoder.
 
 ghost use Rattle.std.specs.Prelude.{◌≡◌, ◌+◌, ◌-◌, ◌^◌, ◌<◌, ◌≤◌, ◌++◌, ◌↔◌, length, min, OnOk, IfOk};
 ghost use Rattle.icp_packet.specs.Message.{FitsOpcode, Spells, header, payload, query, spelling};
 ghost use Rattle.icp_packet.specs.View.{shown, shown_body};
 
-use crate::fault::EncodeFault;
 use crate::message::{IcpBody, IcpView};
 use crate::reading::{HEADER_LEN, MAX_LEN, VERSION};
 use byteorder::{BigEndian, ByteOrder};
 use std::alloc::{AllocError, Global};
-use wire_octets::put_u16;
+use wire_octets::{EncodeFault, put_u16};
 
-// The header of a message of this many octets.
+// The header of a message of `len` octets.
 #[inline]
 fn header_of(view: &IcpView<'_>, len: u16) -> [u8; HEADER_LEN]
     ensures { result ≡ header (shown view.now) len }
@@ -27,7 +26,7 @@ fn header_of(view: &IcpView<'_>, len: u16) -> [u8; HEADER_LEN]
     octets
 }
 
-// Appends what stands behind the header.
+// Appends the payload.
 #[inline]
 fn put_payload(out: &mut Vec<u8>, body: &IcpBody<'_>) -> Result<(), AllocError>
     requires { length (payload (shown_body body.now)) < 65536 }
@@ -53,14 +52,14 @@ fn put_payload(out: &mut Vec<u8>, body: &IcpBody<'_>) -> Result<(), AllocError>
     Ok(())
 }
 
-// How long the payload of a query is.
+// Length of the payload of a query.
 fn query_len(requester: [u8; 4], url: &[u8]) -> usize
     ensures { result ≡ length (payload (query requester url.now)) }
 {
     requester.len() + url.len() + 1
 }
 
-// How long the payload is. A length that no memory has counts as the greatest.
+// Length of the payload, saturating at the maximum of `usize`.
 #[inline]
 fn payload_len(body: &IcpBody<'_>) -> usize
     ensures { result ≡ min (length (payload (shown_body body.now))) (2 ^ 64 - 1) }
@@ -72,7 +71,7 @@ fn payload_len(body: &IcpBody<'_>) -> usize
     }
 }
 
-// The octets of a message that isn't too long, in memory that is just large enough.
+// Encodes a message that fits the maximum length, into a buffer of exactly its length.
 fn written(alloc: Global, view: &IcpView<'_>, payload_len: usize) -> Result<Vec<u8>, AllocError>
     requires len { payload_len ≡ length (payload (shown_body view.now.body)) }
     requires within { 20 + payload_len ≤ 16384 }
@@ -85,7 +84,7 @@ fn written(alloc: Global, view: &IcpView<'_>, payload_len: usize) -> Result<Vec<
     Ok(out)
 }
 
-// The fields of a view are in range: what their types say, for the contracts.
+// Publishes the ranges of the fields, which follow from their types, for use in proofs.
 #[inline]
 fn is_in_range(view: &IcpView<'_>)
     ensures number { view.now.number < 2 ^ 32 }
@@ -99,17 +98,16 @@ fn is_in_range(view: &IcpView<'_>)
     let _sender = view.sender;
 }
 
-/// The octets of a message, at most 16,384. Memory is asked for once, for as many octets as there are. The body has
-/// to be the one of the opcode, and its URL free of zero octets.
+/// Encodes a message. Requires that the body matches the opcode and that its URL contains no zero octet. Allocates once,
+/// exactly the length of the message.
 ///
 /// # Errors
-/// `TooLong` exactly where there would be more than 16,384 octets; `NoMemory` where memory was refused.
+/// `TooLong` exactly if the encoding would exceed 16,384 octets; `NoMemory` if the allocation fails.
 pub fn encode(alloc: Global, view: &IcpView<'_>) -> Result<Vec<u8>, EncodeFault>
     requires { FitsOpcode view.now.op (shown_body view.now.body) }
-    // What is written spells the message, and so is its one spelling.
+    // The result is the encoding of the message.
     ensures spelled { IfOk result (λ out. Spells out.items (shown view.now)) }
     ensures octets { IfOk result (λ out. out.items ≡ spelling (shown view.now)) }
-    // Exactly what has more octets than a message may have is too long.
     ensures too_long { (result ≡ Err EncodeFault.TooLong) ↔ (16384 < length (spelling (shown view.now))) }
 {
     is_in_range(view);

@@ -1,4 +1,4 @@
--- One more answer of a wire in memory.
+-- One more result of an in-memory wire.
 use Rattle.std.proofs.Common.{◌≡◌, ◌<◌, ℕ, ◌+◌, length, take, get_or, filter_map, List, [], ◌∷◌, ◌++◌, Option, Some, None, Result, Ok, Err, subst, ap, sym, ◌∙◌}
 use Rattle.std.proofs.lemmas.List.{take_more, append-nil}
 use Rattle.std.proofs.lemmas.List.Elements.{filter_map-append}
@@ -15,7 +15,7 @@ receipts_more answers n answer lt is =
     ap receipts_of (take_more answers n answer lt ∙ ap (λ (a : Answer). take n answers ++ a ∷ []) (sym is))
     ∙ filter_map-append receipt_in (take n answers) (answer ∷ [])
 
--- an answer that is a receipt
+-- a result that is a receipt
 pub receipts_more_ok : (answers shown : List Answer) (n : ℕ) (answer : Answer) (received shared : Received) → shown ≡ answers → n < length shown → answer ≡ get_or shown n answer → answer ≡ Ok received → receipt_of shared ≡ receipt_of received → Some (receipts_of (take (n + 1) answers)) ≡ Some (receipts_of (take n answers) ++ receipt_of shared ∷ [])
 receipts_more_ok answers shown n answer received shared view lt is ok same =
     let P : List Answer → Type 0 = λ xs. Some (receipts_of (take (n + 1) xs)) ≡ Some (receipts_of (take n xs) ++ receipt_of shared ∷ []) in

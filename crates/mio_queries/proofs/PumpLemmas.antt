@@ -14,9 +14,10 @@ use Rattle.mio_queries.specs.declared.pumped.Pumped.{Pumped}
 use Rattle.mio_queries.specs.declared.traffic.Sending.{Sending}
 use Rattle.node_book.specs.Told.{Told, passing}
 use Rattle.mio_queries.specs.Traffic.{Receipt, came, idled, Traffic, grown}
-use Rattle.mio_queries.specs.Pumping.{event_of, is_datagram, sendings, others, joined, Try, tried, gone, failures, Serves, HasServed, Runs, Counts, nothing, Carries, Pumps, CountsAll, Makes, LosesWire, AllButLast, Breaks}
+use Rattle.mio_queries.specs.Pumping.{event_of, is_datagram, sendings, others, joined, Try, attempted, gone, failures, Serves, HasServed, Runs, Counts, nothing, Carries, Pumps, CountsAll, Makes, LosesWire, AllButLast, Breaks}
+use Rattle.plain_node.specs.Bounds.{most_actions}
 
--- what a whole list does is what its parts do, one after the other
+-- definitions over a concatenation are those over its parts
 abbrev pub Appends : Type 0
 Appends = (old mid new : State) (events more : List Happening) (outs lists : List (List Action)) → HasTaken old mid events outs → HasTaken mid new more lists → HasTaken old new (events ++ more) (outs ++ lists)
 
@@ -54,11 +55,11 @@ joined-append : (xs ys : List (List Action)) → joined (xs ++ ys) ≡ joined xs
 joined-append [] ys = refl
 joined-append (x ∷ xs) ys = ap (λ l. x ++ l) (joined-append xs ys) ∙ sym (append_assoc x (joined xs) (joined ys))
 
-tried-append : (xs ys : List Try) → tried (xs ++ ys) ≡ tried xs ++ tried ys
-tried-append xs ys = map-append (λ (t : Try). t.sending) xs ys
+attempted-append : (xs ys : List Try) → attempted (xs ++ ys) ≡ attempted xs ++ attempted ys
+attempted-append xs ys = map-append (λ (t : Try). t.sending) xs ys
 
 gone-append : (xs ys : List Try) → gone (xs ++ ys) ≡ gone xs ++ gone ys
-gone-append xs ys = ap tried (filter-append (λ (t : Try). t.went) xs ys) ∙ tried-append (filter (λ (t : Try). t.went) xs) (filter (λ (t : Try). t.went) ys)
+gone-append xs ys = ap attempted (filter-append (λ (t : Try). t.went) xs ys) ∙ attempted-append (filter (λ (t : Try). t.went) xs) (filter (λ (t : Try). t.went) ys)
 
 length-filter-append : {A : Type 0} (test : A → Bool) (xs ys : List A) → length (filter test (xs ++ ys)) ≡ length (filter test xs) + length (filter test ys)
 length-filter-append test xs ys = ap length (filter-append test xs ys) ∙ length-append (filter test xs) (filter test ys)
@@ -66,8 +67,8 @@ length-filter-append test xs ys = ap length (filter-append test xs ys) ∙ lengt
 failures-append : (xs ys : List Try) → failures (xs ++ ys) ≡ failures xs + failures ys
 failures-append xs ys = length-filter-append (λ (t : Try). not t.went) xs ys
 
-sends-twice : (xs ys : List Try) (a b : List Action) → tried xs ≡ sendings a → tried ys ≡ sendings b → tried (xs ++ ys) ≡ sendings (a ++ b)
-sends-twice xs ys a b p q = tried-append xs ys ∙ ap (λ (l : List Sending). l ++ tried ys) p ∙ ap (λ (l : List Sending). sendings a ++ l) q ∙ sym (sendings-append a b)
+sends-twice : (xs ys : List Try) (a b : List Action) → attempted xs ≡ sendings a → attempted ys ≡ sendings b → attempted (xs ++ ys) ≡ sendings (a ++ b)
+sends-twice xs ys a b p q = attempted-append xs ys ∙ ap (λ (l : List Sending). l ++ attempted ys) p ∙ ap (λ (l : List Sending). sendings a ++ l) q ∙ sym (sendings-append a b)
 
 sent-twice : (a b c : Option (List Sending)) (xs ys : List Try) → b ≡ grown a (gone xs) → c ≡ grown b (gone ys) → c ≡ grown a (gone (xs ++ ys))
 sent-twice a b c xs ys p q = grown-twice a b c (gone xs) (gone ys) p q ∙ ap (λ (l : List Sending). grown a l) (sym (gone-append xs ys))
@@ -108,7 +109,7 @@ carries-append a b c d e f g h i xs ys p q = record {
   counts = counts-append g h i [] [] p.tries q.tries p.counts q.counts;
 }
 
--- a front with one more
+-- a prefix with one more
 pub carries-more : (a b c : Traffic) (d e f : Option Told) (g h i : Pumped) (actions : List Action) (action : Action) (n : ℕ) → n < length actions → action ≡ get_or actions n action → Carries a b d e g h (take n actions) → Carries b c e f h i (action ∷ []) → Carries a c d f g i (take (n + 1) actions)
 carries-more a b c d e f g h i actions action n lt is p q =
     let front : take (n + 1) actions ≡ take n actions ++ action ∷ [] = take_more actions n action lt ∙ ap (λ (x : Action). take n actions ++ x ∷ []) (sym is) in
@@ -186,15 +187,15 @@ sendings-few (Send socket to payload ∷ actions) = omega (arith, sendings-few a
 sendings-few (Fetch fetch attempt source only_if_cached owner ∷ actions) = omega (arith, sendings-few actions)
 sendings-few (Serve client answer ∷ actions) = omega (arith, sendings-few actions)
 
-tries-few : (tries : List Try) (actions : List Action) → tried tries ≡ sendings actions → length actions ≤ 1344 → length tries ≤ 1 * 1344
+tries-few : (tries : List Try) (actions : List Action) → attempted tries ≡ sendings actions → length actions ≤ most_actions → length tries ≤ 1 * most_actions
 tries-few tries actions p few =
-    let same : length (tried tries) ≡ length tries = length-map tries (λ (t : Try). t.sending) in
-    let sent : length (tried tries) ≡ length (sendings actions) = ap length p in
+    let same : length (attempted tries) ≡ length tries = length-map tries (λ (t : Try). t.sending) in
+    let sent : length (attempted tries) ≡ length (sendings actions) = ap length p in
     omega (arith, same, sent, sendings-few actions, few)
 
 turn-made-of : (old mid new : Traffic) (a b c : Option Told) (from via to : Pumped) (receipt : Receipt) (actions : List Action)
     → mid.received ≡ grown old.received (receipt ∷ []) → mid.sent ≡ old.sent → mid.faults ≡ old.faults → Counts from via (receipt ∷ []) []
-    → HasServed a b (event_of receipt ∷ []) (actions ∷ []) [] → length actions ≤ 1344 → Carries mid new b c via to actions → Pumps old new a c from to 1
+    → HasServed a b (event_of receipt ∷ []) (actions ∷ []) [] → length actions ≤ most_actions → Carries mid new b c via to actions → Pumps old new a c from to 1
 turn-made-of old mid new a b c from via to receipt actions p q r k s few t =
     let none : failures t.tries ≡ failures t.tries + 0 = omega arith in
     record {
@@ -215,7 +216,7 @@ turn-made-of old mid new a b c from via to receipt actions p q r k s few t =
 
 pub turn-made : (old mid new : Traffic) (a b c : Option Told) (from via to : Pumped) (receipt : Receipt) (actions shown : List Action)
     → mid.received ≡ grown old.received (receipt ∷ []) → mid.sent ≡ old.sent → mid.faults ≡ old.faults → Counts from via (receipt ∷ []) []
-    → HasServed a b (event_of receipt ∷ []) (actions ∷ []) [] → length actions ≤ 1344 → shown ≡ actions → Carries mid new b c via to shown → Pumps old new a c from to 1
+    → HasServed a b (event_of receipt ∷ []) (actions ∷ []) [] → length actions ≤ most_actions → shown ≡ actions → Carries mid new b c via to shown → Pumps old new a c from to 1
 turn-made old mid new a b c from via to receipt actions shown p q r k s few view t =
     let P : List Action → Type 0 = λ l. Carries mid new b c via to l in
     turn-made-of old mid new a b c from via to receipt actions p q r k s few (subst P view t)
@@ -382,7 +383,7 @@ turns-counted old new before after pumped made turns all lt p =
     let idles = p.counts.idles ∙ plus-small (length (filter (λ r. not (is_datagram r)) p.receipts)) (omega (arith, both, p.made, lt, all)) in
     omega (arith, datagrams, idles, both, p.made, all)
 
--- each try went or failed
+-- each send was taken or failed
 tries-both : (tries : List Try) → length (gone tries) + failures tries ≡ length tries
 tries-both tries =
     let same : length (gone tries) ≡ length (filter (λ (t : Try). t.went) tries) = length-map (filter (λ (t : Try). t.went) tries) (λ (t : Try). t.sending) in

@@ -1,4 +1,4 @@
--- What a wire in memory received, of the answers that it gave.
+-- What an in-memory wire received, from the results that it returned.
 use Rattle.std.specs.Prelude.{List, filter_map, Option, Some, None, Result, Ok, Err}
 use Rattle.mio_queries.specs.declared.traffic.Received.{Received}
 use Rattle.mio_queries.specs.declared.traffic.WireFault.{WireFault}
@@ -8,6 +8,6 @@ abbrev pub receipt_in : Result Received WireFault → Option Receipt
 receipt_in (Ok received) = Some (receipt_of received)
 receipt_in (Err fault) = None
 
--- those that are receipts
+-- the results that are no errors
 abbrev pub receipts_of : List (Result Received WireFault) → List Receipt
 receipts_of answers = filter_map receipt_in answers

@@ -1,4 +1,4 @@
--- What it is to pump: to take what a wire receives to a clerk, and to carry out what the node answers.
+-- Pumping: submitting what a wire receives to a clerk, and carrying out the actions of its node.
 use Rattle.std.specs.Prelude.{◌≡◌, ◌≤◌, ◌⊎◌, ℕ, ◌+◌, ◌*◌, Bool, true, false, not, length, map, filter, take, List, [], ◌∷◌, ◌++◌, Option, Some, None}
 use Rattle.std.specs.Option.{option_map}
 use Rattle.plain_node.specs.declared.action.Action.{Action}
@@ -11,8 +11,9 @@ use Rattle.mio_queries.specs.declared.pumped.Pumped.{Pumped}
 use Rattle.mio_queries.specs.declared.traffic.Sending.{Sending}
 use Rattle.node_book.specs.Told.{Told, passing}
 use Rattle.mio_queries.specs.Traffic.{Receipt, came, idled, Traffic, grown}
+use Rattle.plain_node.specs.Bounds.{most_actions}
 
--- the event of a receipt: a datagram arrives as it came, and when none came, time goes by
+-- the event of a receipt: the datagram's arrival, or a timer event if none came
 abbrev pub event_of : Receipt → Happening
 event_of (came datagram now) = arrives datagram now
 event_of (idled now) = ticks now
@@ -21,7 +22,7 @@ abbrev pub is_datagram : Receipt → Bool
 is_datagram (came datagram now) = true
 is_datagram (idled now) = false
 
--- the datagrams that the actions want sent, in order
+-- the datagrams that the actions ask to send, in order
 abbrev pub sendings : List Action → List Sending
 sendings [] = []
 sendings (Send socket to payload ∷ actions) = record { socket = socket; to = to; payload = payload } ∷ sendings actions
@@ -32,7 +33,7 @@ sendings (Serve client answer ∷ actions) = sendings actions
 abbrev pub others : List Action → List Action
 others actions = filter is_no_send actions
 
--- the lists of actions one after another
+-- the concatenated lists of actions
 abbrev pub joined : List (List Action) → List Action
 joined [] = []
 joined (actions ∷ outs) = actions ++ joined outs
@@ -42,15 +43,15 @@ pub record Try : Type 0 where
   pub sending : Sending
   pub went : Bool
 
--- what was tried
-abbrev pub tried : List Try → List Sending
-tried tries = map (λ (t : Try). t.sending) tries
+-- the sends tried
+abbrev pub attempted : List Try → List Sending
+attempted tries = map (λ (t : Try). t.sending) tries
 
--- what the wire took
+-- the sends that the wire took
 abbrev pub gone : List Try → List Sending
-gone tries = tried (filter (λ (t : Try). t.went) tries)
+gone tries = attempted (filter (λ (t : Try). t.went) tries)
 
--- how many the wire refused
+-- the number of sends that failed
 abbrev pub failures : List Try → ℕ
 failures tries = length (filter (λ (t : Try). not t.went) tries)
 
@@ -60,46 +61,46 @@ pub record Serves (old new : Told) (events : List Happening) (outs : List (List 
   pub passed : new.passed ≡ old.passed ++ actions
   pub next : new.next ≡ old.next + length events
 
--- the same, where the clerk tells
+-- the same, as far as the node is known: not at all if other threads submit to it
 abbrev pub HasServed : Option Told → Option Told → List Happening → List (List Action) → List Action → Type 0
 HasServed (Some old) (Some new) events outs actions = Serves old new events outs actions
 HasServed (Some old) None events outs actions = ⊥
 HasServed None (Some new) events outs actions = ⊥
 HasServed None None events outs actions = Unit {0}
 
--- The wire gave the receipts, and the clerk took the events of the first `taken` of them, with the lists of actions in `outs`. The actions
--- `done` were carried out, in order: each Send among them was tried once, the sent ones are those that the wire took, and its count of
--- faults grew by those that it refused, and by `faults` besides; each other action was passed on.
+-- The wire returned the receipts, and the clerk took the events of those in `taken`, with the lists of actions in `outs`. The
+-- actions `done` were carried out, in order: each Send among them was tried once, the wire sent those that it took, and its
+-- number of failures grew by those that failed, and by `faults` besides; each other action was passed on.
 pub record Runs (old new : Traffic) (before after : Option Told) (receipts taken : List Receipt) (outs : List (List Action)) (done : List Action) (tries : List Try) (faults : ℕ) : Type 0 where
   pub received : new.received ≡ grown old.received receipts
   pub served : HasServed before after (map event_of taken) outs (others done)
-  pub sends : tried tries ≡ sendings done
+  pub sends : attempted tries ≡ sendings done
   pub sent : new.sent ≡ grown old.sent (gone tries)
   pub counted : new.faults ≡ plus old.faults (failures tries + faults)
 
--- what was counted; each count stays at its greatest number
+-- the counts grew by these receipts and sends, saturating
 pub record Counts (old new : Pumped) (receipts : List Receipt) (tries : List Try) : Type 0 where
   pub datagrams : new.received ≡ plus old.received (length (filter is_datagram receipts))
   pub idles : new.idle ≡ plus old.idle (length (filter (λ r. not (is_datagram r)) receipts))
   pub sends : new.sent ≡ plus old.sent (length (gone tries))
   pub fails : new.failed ≡ plus old.failed (failures tries)
 
--- nothing counted
+-- all counts at 0
 abbrev pub nothing : Pumped
 nothing = record { received = 0; idle = 0; sent = 0; failed = 0 }
 
--- these actions were carried out, in order: each Send among them was tried once, the sent ones are those that the wire took, and its count of
--- faults grew by those that it refused; each other action was passed on
+-- these actions were carried out, in order: each Send among them was tried once, the wire sent those that it took, and its number
+-- of failures grew by those that failed; each other action was passed on
 pub record Carries (old new : Traffic) (before after : Option Told) (from to : Pumped) (actions : List Action) : Type 0 where
   pub tries : List Try
-  pub sends : tried tries ≡ sendings actions
+  pub sends : attempted tries ≡ sendings actions
   pub received : new.received ≡ old.received
   pub sent : new.sent ≡ grown old.sent (gone tries)
   pub counted : new.faults ≡ plus old.faults (failures tries)
   pub passed : after ≡ option_map (passing (others actions)) before
   pub counts : Counts from to [] tries
 
--- so many turns were made: all events were taken, and all their actions were carried out; at most 1,344 sends were tried in each
+-- this many turns were made: all events were taken and all their actions carried out, with at most 1,344 sends tried per turn
 pub record Pumps (old new : Traffic) (before after : Option Told) (from to : Pumped) (turns : ℕ) : Type 0 where
   pub receipts : List Receipt
   pub outs : List (List Action)
@@ -107,20 +108,20 @@ pub record Pumps (old new : Traffic) (before after : Option Told) (from to : Pum
   pub runs : Runs old new before after receipts receipts outs (joined outs) tries 0
   pub made : length receipts ≡ turns
   pub counts : Counts from to receipts tries
-  pub few : length tries ≤ turns * 1344
+  pub few : length tries ≤ turns * most_actions
 
--- what was counted from nothing on: no count stays at its greatest number
+-- the counts of a run that starts at 0: exact, none has saturated
 pub record CountsAll (pumped : Pumped) (receipts : List Receipt) (tries : List Try) : Type 0 where
   pub datagrams : pumped.received ≡ length (filter is_datagram receipts)
   pub idles : pumped.idle ≡ length (filter (λ r. not (is_datagram r)) receipts)
   pub sends : pumped.sent ≡ length (gone tries)
   pub fails : pumped.failed ≡ failures tries
 
--- so many turns were made, and all that was done in them was counted
+-- this many turns were made, and everything done in them was counted
 abbrev pub Makes : (old new : Traffic) (before after : Option Told) (pumped : Pumped) (turns : ℕ) → Type 0
 Makes old new before after pumped turns = (p : Pumps old new before after nothing pumped turns) × CountsAll pumped p.receipts p.tries
 
--- the wire failed to receive, after fewer turns: all events before were taken, and all their actions were carried out
+-- the wire failed to receive, after fewer turns: all events before were taken and all their actions carried out
 pub record LosesWire (old new : Traffic) (before after : Option Told) (turns : ℕ) : Type 0 where
   pub receipts : List Receipt
   pub outs : List (List Action)
@@ -132,7 +133,7 @@ pub record LosesWire (old new : Traffic) (before after : Option Told) (turns : �
 abbrev pub AllButLast : List Receipt → List Receipt → Type 0
 AllButLast receipts taken = (receipts ≡ taken) ⊎ ((last : Receipt) × (receipts ≡ taken ++ last ∷ []))
 
--- it ended early: a front of the actions of the events taken was carried out
+-- pumping ended early: a prefix of the actions of the events taken was carried out
 pub record Breaks (old new : Traffic) (before after : Option Told) (turns : ℕ) : Type 0 where
   pub receipts : List Receipt
   pub taken : List Receipt

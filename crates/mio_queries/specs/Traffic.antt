@@ -1,4 +1,4 @@
--- What goes through a wire, and what a wire tells of it.
+-- What a wire receives and sends, and how much of it is known.
 use Rattle.std.specs.Prelude.{ℕ, List, ◌++◌, Option, Result, Ok, Err}
 use Rattle.std.specs.Option.{option_map}
 use Rattle.std.specs.Arc.{arc_value}
@@ -10,7 +10,7 @@ use Rattle.mio_queries.specs.declared.traffic.Sending.{Sending}
 use Rattle.mio_queries.specs.declared.traffic.WireFault.{WireFault}
 use Rattle.mio_queries.specs.declared.traffic.WireFault.TheVariants.{Io, NoMemory}
 
--- at a moment a datagram came, or none did
+-- the result of receiving, with its time: a datagram came, or none did
 pub data Receipt : Type 0 where
   came : (datagram : DatagramFields) (now : ℕ) → Receipt
   idled : (now : ℕ) → Receipt
@@ -20,17 +20,17 @@ abbrev pub receipt_of : Received → Receipt
 receipt_of (received.Datagram datagram now) = came (arc_value datagram) now
 receipt_of (received.Idle now) = idled now
 
--- all that was received and all that was sent, in order, where the wire tells it; and how many calls failed
+-- everything received and everything sent, in order, if the wire reports it; and the number of calls that failed
 pub record Traffic : Type 0 where
   pub received : Option (List Receipt)
   pub sent : Option (List Sending)
   pub faults : ℕ
 
--- a list that is told, with more at its end
+-- a reported list with more appended
 abbrev pub grown : {A : Type 0} → Option (List A) → List A → Option (List A)
 grown list more = option_map (λ xs. xs ++ more) list
 
--- the count of faults after a call: one more where it failed, but want of memory is no fault of the wire
+-- the number of failures after a call: one more if the wire failed; an allocation failure is not counted
 abbrev pub faults_after : {A : Type 0} → ℕ → Result A WireFault → ℕ
 faults_after faults (Ok answer) = faults
 faults_after faults (Err Io) = plus faults 1

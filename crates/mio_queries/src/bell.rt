@@ -5,7 +5,8 @@ use mio::{Registry, Token, Waker};
 use std::alloc::Global;
 use std::sync::Arc;
 
-/// Wakes the receive of a wire, from any thread: the one that waits, or else the next one that would wait. It is shared.
+/// Wakes a wire's `receive` from any thread: the call that is blocked, or else the next one that would block.
+/// Reference-counted.
 #[derive(Drop)]
 pub struct Bell {
     waker: Arc<Waker>,
@@ -22,12 +23,12 @@ impl Bell {
         }
     }
 
-    /// Wakes the receive. It doesn't wait. Where the system refuses, the receive ends by itself within 100 milliseconds.
+    /// Wakes `receive`. Doesn't block. If the system call fails, `receive` returns by itself within 100 milliseconds.
     pub fn ring(&self) {
         let _ = self.waker.wake();
     }
 
-    /// The same bell once more. It requests no memory, and is refused only where there are too many.
+    /// Another handle to the same bell. Doesn't allocate. Errors: the reference count is at its maximum.
     pub fn share(&self) -> Result<Bell, NoMemory> {
         Ok(Bell {
             waker: Arc::try_clone(&self.waker)?,

@@ -1,4 +1,9 @@
-//! The query sockets: datagrams come in by a wire, go to a node by a clerk, and what the node wants sent goes out again.
+//! The query loop: datagrams are received from a wire (the two UDP query sockets) and submitted to a node through a clerk, and
+//! the datagrams that the node wants sent go out by the wire.
+//! Contracts see the traffic of a wire: what was received and sent, in order, if the wire reports it, and the number of its
+//! failures. `pump` submits exactly what such a wire received, tries each send once and passes every other action on. `MioWire`,
+//! over the system's sockets, reports only its number of failures.
+//! Tested by: crates/test_loop, crates/test_judging, more-edits.
 #![tactic(auto)]
 
 mod bell;

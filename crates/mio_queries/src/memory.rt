@@ -1,4 +1,4 @@
-//! A wire in memory.
+//! An in-memory wire, for tests.
 ghost use Rattle.std.specs.Prelude.{◌≡◌, Some, take, IfOk, OnOk, OnErr, [], ◌∷◌, ◌++◌};
 ghost use Rattle.mio_queries.specs.Traffic.{Traffic, receipt_of};
 ghost use Rattle.mio_queries.specs.Memory.{receipts_of};
@@ -11,7 +11,7 @@ use node_core::Payload;
 use std::alloc::Global;
 use std::sync::Arc;
 
-/// A wire in memory: it receives what it was given, then fails; and it keeps what it sent.
+/// An in-memory wire: it receives the given results, then fails, and it records what it sends.
 #[derive(Drop)]
 pub struct MemoryWire {
     alloc: Global,
@@ -24,8 +24,8 @@ pub struct MemoryWire {
 }
 
 impl MemoryWire {
-    /// A wire that answers these one after another, and then fails. Of its sends those fail for which `failing` says so, in
-    /// order, and those for which there is no memory.
+    /// A wire whose `receive` returns `answers` in order, then fails. The n-th send fails if the n-th of `failing` is true, and
+    /// any send fails on allocation failure.
     pub fn new(
         alloc: Global,
         answers: Vec<Result<Received, WireFault>>,
@@ -46,21 +46,21 @@ impl MemoryWire {
         }
     }
 
-    /// What was sent, in order.
+    /// The datagrams sent, in order.
     pub fn sent(&self) -> &[Sending]
         ensures { result.now ≡ self.now.sent.items }
     {
         self.sent.as_slice()
     }
 
-    /// How many answers were given.
+    /// Number of results that `receive` took from the given ones.
     pub fn taken(&self) -> usize
         ensures { result ≡ self.now.taken }
     {
         self.taken
     }
 
-    /// How often the wire failed.
+    /// Number of failures of the wire.
     pub fn faults(&self) -> u64
         ensures { result ≡ self.now.faults }
     {
@@ -113,7 +113,7 @@ impl Wire for MemoryWire {
 }
 
 impl MemoryWire {
-    /// Adds a datagram to those that were sent.
+    /// Records a sent datagram. Errors: allocation failure.
     fn keep(&mut self, socket: Socket, to: End, payload: &[u8]) -> Result<(), NoMemory>
         ensures sent { OnOk result (self.new.sent.items ≡ self.old.sent.items ++ record { socket = socket; to = to; payload = payload.now } ∷ []) }
         ensures refused { OnErr result (self.new.sent.items ≡ self.old.sent.items) }
@@ -132,7 +132,7 @@ impl MemoryWire {
 }
 
 impl Received {
-    /// The same once more, with one more owner of the datagram.
+    /// A copy that shares the datagram. Errors: a reference count at its maximum.
     fn share(&self) -> Result<Received, NoMemory>
         ensures { IfOk result (λ shared. receipt_of shared ≡ receipt_of self.now) }
     {

@@ -13,11 +13,11 @@ use std::alloc::{AllocGlobal, Global};
 use std::net::Net;
 use std::time::Clock;
 
-/// The two query sockets of a node, non-blocking. It tells no lists, only how often it failed.
+/// The two non-blocking query sockets of a node. To contracts it reports only its number of failures, not its traffic.
 ///
-/// A receive tries the sockets by turns, and waits for at most 100 milliseconds where both would block. At least once in 100
-/// milliseconds of the clock it is idle, however many datagrams wait; and it is idle when its bell rings. A send that would
-/// block fails. Moments are the system's clock, in milliseconds since 1970.
+/// `receive` alternates between the sockets and waits at most 100 milliseconds if both would block. It returns `Idle` at least
+/// once in 100 milliseconds of the system's clock, however many datagrams are waiting, and when its bell rings. A send that
+/// would block fails. Times are the system's clock, in milliseconds since 1970.
 #[derive(Drop)]
 pub struct MioWire<R> {
     sockets: Sockets<R>,
@@ -25,8 +25,8 @@ pub struct MioWire<R> {
 }
 
 impl<R: Net + Clock + AllocGlobal + Drop> MioWire<R> {
-    /// Binds both sockets. At port 0 the system chooses one. Errors: an end can't be had, the system refused, or there was
-    /// no memory.
+    /// Binds both sockets. For port 0 the system chooses a port. Errors: an address can't be bound, another system call failed,
+    /// or allocation failure.
     pub fn bind(rt: R, icp: End, htcp: End) -> Result<MioWire<R>, BindFault>
         ensures { IfOk result (λ wire. wire.faults ≡ 0) }
     {
@@ -36,24 +36,24 @@ impl<R: Net + Clock + AllocGlobal + Drop> MioWire<R> {
         })
     }
 
-    /// The own end of a socket.
+    /// The local address and port of a socket.
     pub fn end(&self, socket: Socket) -> End {
         self.sockets.end(socket)
     }
 
-    /// What wakes a receive, from another thread. An error says that there are too many bells.
+    /// A handle that wakes `receive` from another thread. Errors: the bell's reference count is at its maximum.
     pub fn bell(&self) -> Result<Bell, NoMemory> {
         self.sockets.bell().share()
     }
 
-    /// How often the wire failed.
+    /// Number of failures of the wire.
     pub fn faults(&self) -> u64
         ensures { result ≡ self.now.faults }
     {
         self.faults
     }
 
-    // One more fault.
+    // Counts a failure.
     fn count_fault(&mut self)
         ensures { self.new.faults ≡ plus self.old.faults 1 }
     {

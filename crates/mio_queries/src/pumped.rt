@@ -1,21 +1,21 @@
-//! What pumping gives.
+//! Results and errors of pumping.
 use thiserror::Error;
 
-/// What was done. Each count stays at its greatest number.
+/// Counts of what was done. Saturating.
 #[derive(Clone, Copy, Debug, PartialEq, Eq)]
 pub struct Pumped {
-    /// Turns in which a datagram came.
+    /// Turns in which a datagram was received.
     pub received: u64,
-    /// Turns in which none came.
+    /// Turns in which none was received.
     pub idle: u64,
-    /// Datagrams that were sent.
+    /// Datagrams sent.
     pub sent: u64,
     /// Datagrams that the wire failed to send.
     pub failed: u64,
 }
 
 impl Pumped {
-    /// Nothing was done.
+    /// All counts at 0.
     pub(crate) const ZERO: Pumped = Pumped {
         received: 0,
         idle: 0,
@@ -24,16 +24,16 @@ impl Pumped {
     };
 }
 
-/// Why pumping ended early. What was taken and carried out before stands.
+/// Errors of pumping. What was done before the error stands.
 #[derive(Clone, Copy, Debug, PartialEq, Eq, Error)]
 pub enum PumpFault {
     /// The wire failed to receive.
     #[error("the wire failed")]
     Receive,
-    /// There was no memory.
+    /// Allocation failure, or a reference count at its maximum.
     #[error("no memory")]
     NoMemory,
-    /// The clerk has taken all the events that it can number.
+    /// The clerk has no more event numbers.
     #[error("no event has a number any more")]
     Ended,
 }

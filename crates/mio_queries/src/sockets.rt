@@ -13,7 +13,7 @@ use std::sync::Arc;
 use std::time::{Clock, Duration, SystemTime};
 use thiserror::Error;
 
-/// At least once in so many milliseconds of the clock a receive is idle.
+/// A receive returns `Idle` at least once in this many milliseconds of the system's clock.
 pub const TICK: u64 = 100;
 
 const ICP: Token = Token(0);
@@ -22,19 +22,19 @@ const HTCP: Token = Token(1);
 
 const WAKES: Token = Token(2);
 
-// No datagram over IPv4 has more octets than this.
+// Size of the receive buffer in octets; no IPv4 datagram is larger.
 const ROOM: usize = 65_536;
 
-/// Why the sockets were not bound.
+/// Errors of binding the sockets.
 #[derive(Clone, Copy, Debug, PartialEq, Eq, Error)]
 pub enum BindFault {
-    /// The end of this socket can't be had.
+    /// The address of this socket can't be bound.
     #[error("the end of a query socket can't be bound")]
     End(Socket),
-    /// The system gave no means to wait for datagrams, or can't be asked for the time.
+    /// The sockets can't be polled, or the system's clock can't be read.
     #[error("the query sockets can't be waited for")]
     Io,
-    /// There was no memory.
+    /// Allocation failure.
     #[error("no memory")]
     NoMemory,
 }
@@ -45,7 +45,7 @@ impl From<NoMemory> for BindFault {
     }
 }
 
-// A datagram in the buffer that was not handed over yet.
+// A datagram in the buffer that was not returned yet.
 #[derive(Clone, Copy)]
 struct Held {
     socket: Socket,
@@ -53,7 +53,7 @@ struct Held {
     count: usize,
 }
 
-// Both sockets, bound and non-blocking, with one buffer to receive into.
+// Both sockets, bound and non-blocking, with one receive buffer.
 #[derive(Drop)]
 pub struct Sockets<R> {
     rt: R,
@@ -64,18 +64,18 @@ pub struct Sockets<R> {
     htcp: UdpSocket,
     icp_end: End,
     htcp_end: End,
-    // The socket that is tried first: the one that did not give the last datagram.
+    // The socket to try first: not the one that had the last datagram.
     next: Socket,
-    // When it was found empty while the other gave datagrams.
+    // When that socket was found empty while the other had a datagram.
     empty_at: Option<Moment>,
-    // When a receive was idle the last time.
+    // When a receive last returned `Idle`.
     ticked: Moment,
     buffer: Vec<u8>,
     held: Option<Held>,
 }
 
 impl<R: Net + Clock + AllocGlobal + Drop> Sockets<R> {
-    /// Binds both sockets, and registers them with a bell to be waited for.
+    /// Binds both sockets and registers them and a bell for polling.
     pub fn bind(rt: R, icp: End, htcp: End) -> Result<Sockets<R>, BindFault> {
         let poll = Poll::new(&rt).map_err(|_| BindFault::Io)?;
         let events = Events::with_capacity(rt.alloc(), 4)?;
@@ -101,7 +101,7 @@ impl<R: Net + Clock + AllocGlobal + Drop> Sockets<R> {
         })
     }
 
-    /// The own end of a socket, with the port that it was given.
+    /// The local address of a socket, with the port that it actually has.
     pub fn end(&self, socket: Socket) -> End {
         match socket {
             Socket::Icp => self.icp_end,
@@ -109,13 +109,13 @@ impl<R: Net + Clock + AllocGlobal + Drop> Sockets<R> {
         }
     }
 
-    /// Wakes a receive that waits.
+    /// The bell that wakes a blocked receive.
     pub fn bell(&self) -> &Bell {
         &self.bell
     }
 
-    /// A datagram, or none after 100 milliseconds or when the bell rings. Also while datagrams come without end, at least
-    /// once in 100 milliseconds of the clock it answers that none came.
+    /// Returns a datagram, or `Idle` after at most 100 milliseconds or when the bell rings. Even under a constant stream of
+    /// datagrams it returns `Idle` at least once in 100 milliseconds of the system's clock.
     pub fn receive(&mut self, alloc: Global) -> Result<Received, WireFault> {
         let before = now(&self.rt)?;
         let Some(left) = self.until_tick(before) else {
@@ -132,7 +132,7 @@ impl<R: Net + Clock + AllocGlobal + Drop> Sockets<R> {
         self.hand_over(alloc, after)
     }
 
-    // How many milliseconds are left until a receive has to be idle; none where it has to be now, or the clock was set back.
+    // Milliseconds left until a receive has to return `Idle`; `None` if it has to now, or if the clock was set back.
     fn until_tick(&self, at: Moment) -> Option<u64> {
         let since = at.millis().checked_sub(self.ticked.millis())?;
         TICK.checked_sub(since).filter(|left| *left > 0)
@@ -143,15 +143,15 @@ impl<R: Net + Clock + AllocGlobal + Drop> Sockets<R> {
         Received::Idle(at)
     }
 
-    // Waits until a socket may have a datagram, the bell rings or the time is up. Whether the bell rang.
+    // Waits until a socket may have a datagram, the bell rings or the time is up. Returns whether the bell rang.
     fn wait(&mut self, millis: u64) -> io::Result<bool> {
         self.poll
             .poll(&mut self.events, Some(Duration::from_millis(millis)))?;
         Ok(self.events.iter().any(|event| event.token() == WAKES))
     }
 
-    // Whether there is a datagram in the buffer, after both sockets were tried where there was none. The socket whose turn it
-    // is comes first; but once it was found empty, it is tried again only in another millisecond or when the other is empty.
+    // Receives into the buffer from either socket, unless it holds a datagram. Returns whether it then holds one. The socket
+    // whose turn it is comes first; once found empty, it is tried again only in another millisecond or when the other is empty.
     fn try_both(&mut self, at: Moment) -> io::Result<bool> {
         if self.held.is_some() {
             return Ok(true);
@@ -169,7 +169,7 @@ impl<R: Net + Clock + AllocGlobal + Drop> Sockets<R> {
         Ok(skipped && self.try_one(first)?)
     }
 
-    // Takes a datagram of a socket into the buffer. Whether it had one.
+    // Receives a datagram from a socket into the buffer. Returns whether it had one.
     fn try_one(&mut self, socket: Socket) -> io::Result<bool> {
         for _ in 0..u64::MAX {
             let got = match socket {
@@ -195,7 +195,7 @@ impl<R: Net + Clock + AllocGlobal + Drop> Sockets<R> {
         Ok(false)
     }
 
-    // What is in the buffer. Where there is no memory for it, it stays there.
+    // Returns the datagram in the buffer. On allocation failure it stays there.
     fn hand_over(&mut self, alloc: Global, at: Moment) -> Result<Received, WireFault> {
         match self.held_datagram(alloc)? {
             Some(datagram) => {
@@ -209,7 +209,7 @@ impl<R: Net + Clock + AllocGlobal + Drop> Sockets<R> {
         }
     }
 
-    // A copy of what is in the buffer, as large as it is.
+    // A copy of the datagram in the buffer, of exact size; `None` if there is none or it is no valid `Datagram`.
     fn held_datagram(&self, alloc: Global) -> Result<Option<Arc<Datagram>>, NoMemory> {
         let Some(held) = self.held else {
             return Ok(None);
@@ -224,7 +224,7 @@ impl<R: Net + Clock + AllocGlobal + Drop> Sockets<R> {
         }
     }
 
-    /// Sends a datagram from the own end of a socket.
+    /// Sends a datagram from a socket, trying again while interrupted.
     pub fn send(&mut self, socket: Socket, to: End, payload: &[u8]) -> io::Result<()> {
         let to = address(to);
         for _ in 0..u64::MAX {
@@ -242,7 +242,7 @@ impl<R: Net + Clock + AllocGlobal + Drop> Sockets<R> {
     }
 }
 
-// A bound socket that is waited for.
+// Binds a socket and registers it for polling.
 fn bound(rt: &impl Net, poll: &Poll, socket: Socket, end: End) -> Result<UdpSocket, BindFault> {
     let Ok(mut bound) = UdpSocket::bind(rt, address(end)) else {
         return Err(BindFault::End(socket));
@@ -260,7 +260,7 @@ fn bound(rt: &impl Net, poll: &Poll, socket: Socket, end: End) -> Result<UdpSock
     }
 }
 
-// The end that a socket has, or the one that was asked for.
+// The local address of a socket, or the requested one if the system doesn't tell it.
 fn own_end(socket: &UdpSocket, asked: End) -> End {
     match socket.local_addr() {
         Ok(SocketAddr::V4(addr)) => end_of(addr),
@@ -279,7 +279,7 @@ fn now(rt: &impl Clock) -> io::Result<Moment> {
     }
 }
 
-// Whether an error of receiving says nothing of this wire: the call was interrupted, or what was sent before reached nobody.
+// Whether a receive error is transient: the call was interrupted, or an earlier send didn't reach its destination.
 fn is_passing(kind: ErrorKind) -> bool {
     matches!(
         kind,

@@ -1,4 +1,4 @@
-//! What goes through a wire.
+//! What a wire receives and sends.
 use crate::NoMemory;
 use filter_slots::{Datagram, End, Moment, Socket};
 use node_core::Payload;
@@ -6,16 +6,16 @@ use std::io;
 use std::sync::Arc;
 use thiserror::Error;
 
-/// What a wire answers when it is asked for a datagram.
+/// The result of receiving.
 #[derive(Drop)]
 pub enum Received {
-    /// A datagram came, and at which moment it was taken.
+    /// A datagram, and when it was received.
     Datagram(Arc<Datagram>, Moment),
-    /// None came for a while; the moment.
+    /// No datagram came within the wait; the present time.
     Idle(Moment),
 }
 
-/// A datagram that was sent: from the own end of a socket, to whom, and its octets.
+/// A sent datagram: the socket it was sent from, its destination and its payload.
 #[derive(Drop)]
 pub struct Sending {
     pub socket: Socket,
@@ -23,13 +23,13 @@ pub struct Sending {
     pub payload: Payload,
 }
 
-/// Why a wire refused.
+/// Errors of a wire.
 #[derive(Clone, Copy, Debug, PartialEq, Eq, Error)]
 pub enum WireFault {
-    /// The wire failed. It counts this.
+    /// The wire failed. It counts these failures.
     #[error("the wire failed")]
     Io,
-    /// There was no memory for what was to be received: nothing was taken in.
+    /// Allocation failure in `receive`: nothing was received.
     #[error("no memory")]
     NoMemory,
 }

@@ -16,10 +16,10 @@ use node_core::{Action, Event, Out, Payload, append_law};
 use std::alloc::Global;
 use std::sync::Arc;
 
-/// Makes so many turns. Each receives once, judges the datagram by the clerk's programs and has the clerk take it, or a tick
-/// where none came. Then come the actions, one after the other: a Send goes to the wire, any other to the clerk. A send that
-/// fails is only counted. Errors: the wire failed to receive; there was no memory; the clerk can take no more events. What was
-/// done before stands.
+/// Makes this many turns. A turn receives once, judges the datagram by the clerk's programs and submits it to the clerk, or
+/// submits a timer event if none came. Then it carries out the actions in order: sends by the wire, all others by the clerk. A
+/// failed send is only counted. Errors: the wire failed to receive; allocation failure or a reference count at its maximum; the
+/// clerk has no more event numbers. What was done before an error stands.
 pub fn pump<W: Wire, C: Clerk>(
     alloc: Global,
     wire: &mut W,
@@ -38,7 +38,7 @@ pub fn pump<W: Wire, C: Clerk>(
     pump_with(alloc, wire, clerk, &mut out, turns)
 }
 
-/// Does what `pump` does, with room for the actions that was made before. What is in it is let go.
+/// As `pump`, with a buffer for the actions that the caller supplies. Its contents are discarded.
 pub fn pump_with<W: Wire, C: Clerk>(
     alloc: Global,
     wire: &mut W,
@@ -82,7 +82,7 @@ fn turn<W: Wire, C: Clerk>(
     }
 }
 
-/// Receives once, and counts it.
+/// Receives once and counts it.
 fn receive_one<W: Wire>(
     alloc: Global,
     wire: &mut W,
@@ -117,7 +117,7 @@ fn count_received(pumped: &mut Pumped, received: &Received)
     }
 }
 
-/// Has the clerk take what was received.
+/// Submits what was received to the clerk.
 fn submit_one<C: Clerk>(
     alloc: Global,
     clerk: &mut C,
@@ -140,7 +140,7 @@ fn submit_one<C: Clerk>(
     }
 }
 
-/// Judges a datagram by the clerk's programs, and has the clerk take it.
+/// Judges a datagram by the clerk's programs and submits it.
 fn submit_datagram<C: Clerk>(
     alloc: Global,
     clerk: &mut C,
@@ -156,7 +156,7 @@ fn submit_datagram<C: Clerk>(
     submit_judged(alloc, clerk, &judged, now, out)
 }
 
-/// Has the clerk take a judged datagram.
+/// Submits a judged datagram.
 fn submit_judged<C: Clerk>(
     alloc: Global,
     clerk: &mut C,
@@ -172,7 +172,7 @@ fn submit_judged<C: Clerk>(
     Ok(())
 }
 
-/// Has the clerk take that time went by.
+/// Submits a timer event.
 fn submit_tick<C: Clerk>(
     alloc: Global,
     clerk: &mut C,
@@ -190,7 +190,7 @@ fn submit_tick<C: Clerk>(
     Ok(())
 }
 
-/// Carries out actions in order. An error says that there was no memory to pass one on: a front of them was carried out.
+/// Carries out actions in order. Errors: allocation failure in passing one on; a prefix of them was carried out.
 fn carry_out<W: Wire, C: Clerk>(
     alloc: Global,
     wire: &mut W,
@@ -231,7 +231,7 @@ fn carry_one<W: Wire, C: Clerk>(
     }
 }
 
-/// Tries one send, and counts it. Whether the wire took it.
+/// Tries one send and counts it. Returns whether the wire took it.
 fn send_one<W: Wire>(
     wire: &mut W,
     socket: Socket,

@@ -1,4 +1,4 @@
--- No double is that all are distinct.
+-- There is no duplicate exactly if all are distinct.
 use Rattle.std.proofs.Common.{◌≡◌, ℕ, Bool, true, false, List, [], ◌∷◌, map, refl, ap, sym, ◌∙◌, arith, nat_eq, ◌||◌, ◌&&◌, ◌==◌}
 use Rattle.std.specs.List.{list_any, IsDistinct, AllByRecursion}
 use Rattle.std.specs.Str.{bytes_eq}

@@ -1,4 +1,4 @@
--- What is wrong with a configuration of neighbours and signing keys, and what therefore holds of every table.
+-- Faults of a configuration of neighbours and signing keys, and the invariant of a table.
 use Rattle.std.specs.Prelude.{◌≡◌, ℕ, ◌≤◌, Bool, true, false, not, nat_lt, nat_le, ◌&&◌, ◌||◌, List, [], ◌∷◌, length, All, Option, Some, None, if◌then◌else◌}
 use Rattle.std.specs.List.{list_any, list_all}
 use Rattle.std.specs.Str.{bytes_eq}
@@ -8,34 +8,34 @@ use Rattle.neighbours.specs.declared.fault.ConfigFault.{ConfigFault}
 use Rattle.neighbours.specs.declared.fault.ConfigFault.TheVariants.{Count, DoubleAddress, Weight, KeyName}
 use Rattle.neighbours.specs.Rows.{Rows, IsMark, same_end}
 
--- two neighbours with one end, whatever their protocols
+-- whether two neighbours have the same end, regardless of protocol
 abbrev pub has_double : List Neighbour → Bool
 has_double [] = false
 has_double (first ∷ others) = list_any (λ other. same_end other.end first.end) others || has_double others
 
--- a weight is 1 to 100
+-- whether a weight is 1 to 100
 abbrev pub is_weight : ℕ → Bool
 is_weight weight = nat_le 1 weight && nat_le weight 100
 
--- a key's name has 1 to 255 octets
+-- whether a key name has 1 to 255 octets
 abbrev pub is_name : List ℕ → Bool
 is_name name = nat_le 1 (length name) && nat_le (length name) 255
 
--- a key of this name
+-- whether there is a key with this name
 abbrev pub has_key : List Key → List ℕ → Bool
 has_key keys name = list_any (λ key. bytes_eq key.name name) keys
 
--- two keys of one name
+-- whether two keys have the same name
 abbrev pub has_double_name : List Key → Bool
 has_double_name [] = false
 has_double_name (first ∷ others) = has_key others first.name || has_double_name others
 
--- the neighbour names no key, or one that is there
+-- whether a neighbour refers to no key, or to an existing one
 abbrev pub knows : List Key → Option (List ℕ) → Bool
 knows keys None = true
 knows keys (Some name) = has_key keys name
 
--- each name is one that a key may have, no two keys share one, and each neighbour's key is there
+-- whether key names are valid and distinct, and each neighbour refers to no key or to an existing one
 abbrev pub are_named : List Neighbour → List Key → Bool
 are_named neighbours keys =
     list_all (λ key. is_name key.name) keys
@@ -50,7 +50,7 @@ fault_of neighbours keys =
     else if not (are_named neighbours keys) then Some KeyName
     else None
 
--- what holds of every table: its configuration has no fault, and each neighbour has a mark
+-- the invariant of a table: its configuration has no fault, and each neighbour has a mark
 pub record IsTable (rows : Rows) : Type 0 where
   pub count : length rows.neighbours ≤ 64
   pub apart : has_double rows.neighbours ≡ false

@@ -1,17 +1,17 @@
--- Which of two peers comes first: by smoothed time over weight, compared by products, and of equals the one configured first.
+-- The order of peers: by smoothed time divided by weight, compared by cross multiplication; ties by index.
 use Rattle.std.specs.Prelude.{◌≡◌, ℕ, ◌*◌, ◌<◌, ◌⊎◌, ◌≢◌, Bool, nat_lt, ◌==◌, ◌&&◌, ◌||◌}
 use Rattle.neighbours.specs.declared.rank.Ranked.{Ranked}
 use Rattle.neighbours.specs.Rows.{Rows, weight_at}
 
--- a, of weight u, is before b, of weight v
+-- a, with weight u, precedes b, with weight v
 abbrev pub Before : Ranked → ℕ → Ranked → ℕ → Type 0
 Before a u b v = (a.s * v < b.s * u) ⊎ ((a.s * v ≡ b.s * u) × (a.n < b.n))
 
--- the same as a test
+-- the same as a boolean function
 abbrev pub before : Ranked → ℕ → Ranked → ℕ → Bool
 before a u b v = nat_lt (a.s * v) (b.s * u) || ((a.s * v == b.s * u) && nat_lt a.n b.n)
 
--- a is before b, by the weights of a table
+-- a precedes b, with the weights of a table
 abbrev pub IsBefore : Rows → Ranked → Ranked → Type 0
 IsBefore rows a b = Before a (weight_at rows.neighbours a.n) b (weight_at rows.neighbours b.n)
 

@@ -1,4 +1,4 @@
-//! The faults of a configuration.
+//! Validation of a configuration.
 
 ghost use Rattle.std.specs.Prelude.{◌≡◌, length, not, ◌||◌, ◌&&◌, nat_le};
 ghost use Rattle.std.specs.List.{list_any, list_all};
@@ -12,7 +12,7 @@ use crate::neighbour::Neighbour;
 use crate::octets::Octets;
 use filter_slots::End;
 
-/// The first fault of a configuration, if it has one.
+/// Returns the first fault of a configuration, in the order of `ConfigFault`, or `None`.
 pub fn fault_in(neighbours: &[Neighbour], keys: &[Key]) -> Option<ConfigFault>
     ensures { result ≡ fault_of neighbours.now keys.now }
 {
@@ -31,7 +31,7 @@ pub fn fault_in(neighbours: &[Neighbour], keys: &[Key]) -> Option<ConfigFault>
     None
 }
 
-/// Whether two ends are one.
+/// Whether two ends have the same address and port.
 pub fn is_same_end(a: End, b: End) -> bool
     ensures { result ≡ same_end a b }
 {

@@ -1,4 +1,4 @@
-//! A signing key.
+//! Signing keys.
 
 ghost use Rattle.std.specs.Prelude.{◌≡◌, IfOk};
 
@@ -6,7 +6,7 @@ use crate::octets::Octets;
 use std::alloc::{AllocError, Global};
 use std::fmt;
 
-/// A signing key: its name (1 to 255 octets in a table) and its secret, which isn't printed.
+/// A signing key: its name (1 to 255 octets in a table) and its secret, which `Debug` omits.
 #[derive(Drop)]
 pub struct Key {
     pub name: Octets,
@@ -14,7 +14,7 @@ pub struct Key {
 }
 
 impl Key {
-    /// A key of the same name and secret, with memory of its own.
+    /// An owned copy.
     pub fn copy(&self, alloc: Global) -> Result<Key, AllocError>
         ensures { IfOk result (λ key. key ≡ self.now) }
     {

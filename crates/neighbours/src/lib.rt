@@ -1,4 +1,9 @@
-//! The neighbours of a cache: their configuration, signing keys, smoothed times, misses and order.
+//! The neighbour caches: configuration, signing keys, smoothed response times, missed rounds, and their order.
+//!
+//! `Table` is seen by contracts as `Rows`: the configured neighbours and keys, and a mark per neighbour
+//! (`specs/Rows.antt`). Contracts state the first configuration fault (`specs/Faults.antt`), each change of a mark, and the
+//! order by smoothed time over weight (`specs/Rank.antt`).
+//! Tested by: crates/test_codecs, must-fail edits.
 #![tactic(auto)]
 
 mod checking;

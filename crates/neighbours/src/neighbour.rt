@@ -1,4 +1,4 @@
-//! A neighbour as it is configured.
+//! Configured neighbours.
 
 ghost use Rattle.std.specs.Prelude.{◌≡◌, IfOk};
 
@@ -6,17 +6,17 @@ use crate::octets::Octets;
 use filter_slots::{End, Socket};
 use std::alloc::{AllocError, Global};
 
-/// What a neighbour is to this cache.
+/// Relation of a neighbour to this cache.
 #[derive(Clone, Copy, Debug, PartialEq, Eq)]
 pub enum Role {
-    /// It is fetched from only where it has the object.
+    /// Serves only objects that it has stored.
     Sibling,
-    /// It also fetches what it doesn't have.
+    /// Also fetches objects that it has not stored.
     Parent,
 }
 
-/// A configured neighbour: the end and protocol that it is asked at, the port that it serves HTTP at, its weight
-/// (1 to 100 in a table) and the name of the key that messages to and from it are signed with.
+/// A configured neighbour: the address and port to query and the protocol to use, its HTTP port, its weight (1 to 100 in a
+/// table), and the name of the key that signs messages to and from it, if any.
 #[derive(Debug, Drop)]
 pub struct Neighbour {
     pub kind: Role,
@@ -28,7 +28,7 @@ pub struct Neighbour {
 }
 
 impl Neighbour {
-    /// The same neighbour, with memory of its own.
+    /// An owned copy.
     pub fn copy(&self, alloc: Global) -> Result<Neighbour, AllocError>
         ensures { IfOk result (λ neighbour. neighbour ≡ self.now) }
     {

@@ -1,11 +1,11 @@
-//! Owned octets that contracts see as a list.
+//! Owned octet strings.
 
 ghost use Rattle.std.specs.Prelude.{◌≡◌, IfOk};
 
 use std::alloc::{AllocError, Global};
 use std::marker::Model;
 
-/// Octets of its own, as a key's name or its secret.
+/// An owned octet string, such as the name of a key or its secret. Contracts see the list of octets.
 #[derive(Debug, Drop)]
 pub struct Octets {
     octets: Vec<u8>,
@@ -20,14 +20,14 @@ impl Model for Octets {
 }
 
 impl Octets {
-    /// These octets.
+    /// Wraps a vector.
     pub fn new(octets: Vec<u8>) -> Octets
         ensures { result ≡ octets.items }
     {
         Octets { octets }
     }
 
-    /// The same octets, with memory of their own.
+    /// An owned copy.
     pub fn copy(&self, alloc: Global) -> Result<Octets, AllocError>
         ensures { IfOk result (λ octets. octets ≡ self.now) }
     {
@@ -36,7 +36,7 @@ impl Octets {
         })
     }
 
-    /// The octets in order.
+    /// The octets.
     pub fn as_slice(&self) -> &[u8]
         ensures { result.now ≡ self.now }
     {

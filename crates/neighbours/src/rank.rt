@@ -1,16 +1,16 @@
-//! The order of peers that replied.
+//! Order of peers by response time.
 
 ghost use Rattle.std.specs.Prelude.{◌≡◌};
 ghost use Rattle.neighbours.specs.Rank.{before};
 
-/// The place of a neighbour in the configuration, with its smoothed time.
+/// Index of a neighbour in the configuration, and its smoothed response time in eighths of a millisecond.
 #[derive(Clone, Copy, Debug)]
 pub struct Ranked {
     pub n: usize,
     pub s: u32,
 }
 
-/// Whether `a` is before `b`: by time over weight, and of equals the one configured first.
+/// Whether `a` precedes `b`: by smoothed time divided by weight; ties by index.
 pub fn is_before(a: Ranked, a_weight: u32, b: Ranked, b_weight: u32) -> bool
     ensures { result ≡ before a a_weight b b_weight }
 {

@@ -1,10 +1,10 @@
-//! The table of neighbours: what is configured, and what their replies tell.
+//! The table of neighbours: their configuration, and what is learned from their replies.
 
 ghost use Rattle.std.specs.Prelude.{◌≡◌, ◌==◌, ◌<◌, ◌≤◌, ◌↔◌, ◌&&◌, length, IsTrue, IsSome, IfOk, IfErr, OnOk, unwrap_or, replicate, option_copied, slice_get, position, find};
 ghost use Rattle.std.specs.Str.{bytes_eq};
 ghost use Rattle.neighbours.specs.declared.key.Key.{Key};
 ghost use Rattle.neighbours.specs.Rank.{before};
-ghost use Rattle.neighbours.specs.Rows.{mark_at, weight_at, is_up, blank, smoothed, sampled, without_misses, missed, with_mark, same_end, same_protocol, opening, IsMark, place_of, secret_of};
+ghost use Rattle.neighbours.specs.Rows.{mark_at, weight_at, is_up, blank, smoothed, sampled, without_misses, missed, with_mark, same_end, same_protocol, opening, IsMark, neighbour_index, secret_of};
 ghost use Rattle.neighbours.specs.Faults.{fault_of, IsTable};
 
 use crate::checking::{fault_in, is_same_end};
@@ -16,15 +16,15 @@ use filter_slots::{End, Socket};
 use std::alloc::{AllocError, Global};
 use std::marker::Model;
 
-/// What is known of a neighbour: its smoothed time (an eighth of it is milliseconds), and how many rounds it has
-/// missed since it was last heard of, at most 20.
+/// What is learned of a neighbour: its smoothed response time in eighths of a millisecond, and the number of consecutive
+/// rounds without a reply, at most 20.
 #[derive(Clone, Copy, Debug)]
 pub struct Mark {
     pub time: Option<u32>,
     pub misses: u8,
 }
 
-/// The neighbours in configuration order, with the signing keys. A neighbour is named by its place.
+/// The neighbours in configuration order, and the signing keys. A neighbour is identified by its index. Contracts see `Rows`.
 #[derive(Debug, Drop)]
 pub struct Table {
     neighbours: Vec<Neighbour>,
@@ -44,7 +44,7 @@ impl Model for Table {
 }
 
 impl Table {
-    /// The table of a configuration, with no times and no misses. Errors: the first fault that applies.
+    /// Makes a table with no times and no misses. Errors: the first configuration fault, or `NoMemory`.
     pub fn new(
         alloc: Global,
         neighbours: Vec<Neighbour>,
@@ -65,7 +65,7 @@ impl Table {
         })
     }
 
-    /// An equal table, with memory of its own.
+    /// An owned copy.
     pub fn copy(&self, alloc: Global) -> Result<Table, AllocError>
         ensures { IfOk result (λ table. table ≡ self.now) }
     {
@@ -79,51 +79,51 @@ impl Table {
         })
     }
 
-    /// What holds of every table. It does nothing.
+    /// Publishes the invariant. Does nothing at run time.
     pub fn facts(&self)
         ensures { IsTable self.now }
     {
         let _ = &self.marks;
     }
 
-    /// How many neighbours there are.
+    /// Number of neighbours.
     pub fn len(&self) -> usize
         ensures { result ≡ length self.now.neighbours }
     {
         self.neighbours.len()
     }
 
-    /// Whether there is no neighbour.
+    /// Whether there are no neighbours.
     pub fn is_empty(&self) -> bool
         ensures { IsTrue result ↔ (length self.now.neighbours ≡ 0) }
     {
         self.neighbours.is_empty()
     }
 
-    /// The neighbour at a place.
+    /// The neighbour at an index.
     pub fn get(&self, n: usize) -> Option<&Neighbour>
         ensures { option_copied result ≡ slice_get self.now.neighbours n }
     {
         self.neighbours.get(n)
     }
 
-    /// The place of the neighbour with this protocol and end.
+    /// Index of the neighbour with this protocol and end, or `None`.
     pub fn find(&self, socket: Socket, from: End) -> Option<usize>
-        ensures { result ≡ place_of self.now.neighbours socket from }
+        ensures { result ≡ neighbour_index self.now.neighbours socket from }
     {
         place_in(&self.neighbours, socket, from)
     }
 
-    /// The secret of the key with this name.
+    /// The secret of the key with this name, or `None`.
     pub fn secret(&self, name: &[u8]) -> Option<&[u8]>
         ensures value { option_copied result ≡ secret_of self.now.keys name.now }
-        // A name that a key has is one of 1 to 255 octets.
+        // The name of a key has at most 255 octets.
         ensures named { IsSome result → length name.now ≤ 255 }
     {
         secret_in(&self.keys, name)
     }
 
-    /// Whether the neighbour has missed fewer than 20 rounds since it was last heard of.
+    /// Whether the neighbour is up: fewer than 20 consecutive rounds without a reply.
     pub fn is_up(&self, n: usize) -> bool
         requires { n < length self.now.neighbours }
         ensures { result ≡ is_up (mark_at self.now.marks n) }
@@ -131,7 +131,7 @@ impl Table {
         self.marks[n].misses < 20
     }
 
-    /// Its smoothed time.
+    /// The smoothed response time in eighths of a millisecond, or `None` before the first sample.
     pub fn time(&self, n: usize) -> Option<u32>
         requires { n < length self.now.neighbours }
         ensures { result ≡ (mark_at self.now.marks n).time }
@@ -139,7 +139,7 @@ impl Table {
         self.marks[n].time
     }
 
-    /// How many rounds it has missed since it was last heard of, at most 20.
+    /// Number of consecutive rounds without a reply, at most 20.
     pub fn misses(&self, n: usize) -> u8
         requires { n < length self.now.neighbours }
         ensures { result ≡ (mark_at self.now.marks n).misses }
@@ -147,7 +147,7 @@ impl Table {
         self.marks[n].misses
     }
 
-    /// It replied: it has no misses.
+    /// Records a reply: resets the missed rounds.
     pub fn replied(&mut self, n: usize)
         requires { n < length self.old.neighbours }
         ensures { self.new ≡ with_mark self.old n (without_misses (mark_at self.old.marks n)) }
@@ -159,7 +159,7 @@ impl Table {
         self.marks[n] = mark;
     }
 
-    /// It missed a round.
+    /// Records a round without a reply.
     pub fn missed(&mut self, n: usize)
         requires { n < length self.old.neighbours }
         ensures { self.new ≡ with_mark self.old n (missed (mark_at self.old.marks n)) }
@@ -168,7 +168,7 @@ impl Table {
         self.marks[n] = mark;
     }
 
-    /// It replied after so many milliseconds.
+    /// Records a response time of `ms` milliseconds.
     pub fn sample(&mut self, n: usize, ms: u64)
         requires { n < length self.old.neighbours }
         ensures { self.new ≡ with_mark self.old n (sampled (mark_at self.old.marks n) ms) }
@@ -177,7 +177,7 @@ impl Table {
         self.marks[n] = mark;
     }
 
-    /// Whether `a` is before `b`, by their weights in this table.
+    /// Whether `a` precedes `b`, with the weights of this table.
     pub fn before(&self, a: Ranked, b: Ranked) -> bool
         requires a { a.n < length self.now.neighbours }
         requires b { b.n < length self.now.neighbours }
@@ -252,7 +252,7 @@ fn is_same_protocol(a: Socket, b: Socket) -> bool
 }
 
 fn place_in(neighbours: &[Neighbour], socket: Socket, from: End) -> Option<usize>
-    ensures { result ≡ place_of neighbours.now socket from }
+    ensures { result ≡ neighbour_index neighbours.now socket from }
 {
     neighbours.iter().position(|n| is_same_protocol(n.protocol, socket) && is_same_end(n.end, from))
 }

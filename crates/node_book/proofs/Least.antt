@@ -1,4 +1,4 @@
--- The least number of which one of two facts holds.
+-- The least number of which at least one of two facts holds.
 use Rattle.std.proofs.Common.{◌≡◌, ℕ, ◌<◌, ◌≤◌, List, ◌⊎◌, inl, inr, arith, subst, sym, refl, min, ◌+◌, ◌∙◌}
 use Rattle.std.specs.Prelude.{Option, Some, None, slice_get}
 use Rattle.node_book.specs.Book.{Book}
@@ -18,12 +18,12 @@ least-join P Q R (Some x) (Some y) p q split from_p from_q =
       (λ m r. elim (split m r) [ inl z ↦ (let h = p.1 m z in omega arith) | inr z ↦ (let h = q.1 m z in omega arith) ]),
     )
 
--- the same fact, said otherwise
+-- the least number of an equivalent fact
 pub least-map : (P Q : ℕ → Type 0) (a : Option ℕ) → ((n : ℕ) → P n → Q n) → ((n : ℕ) → Q n → P n) → IsLeastOf P a → IsLeastOf Q a
 least-map P Q None to from h = λ n q. h n (from n q)
 least-map P Q (Some x) to from h = (to x h.0, (λ m q. h.1 m (from m q)))
 
--- one place more
+-- one more index
 pub least-below : (M : ℕ → ℕ → Type 0) (j : ℕ) (a b : Option ℕ) → IsLeastOf (λ n. (i : ℕ) × (i < j) × M i n) a → IsLeastOf (M j) b
     → IsLeastOf (λ n. (i : ℕ) × (i < j + 1) × M i n) (lesser_of a b)
 least-below M j a b h k =
@@ -33,19 +33,19 @@ least-below M j a b h k =
     elim cases [ inl lt ↦ inl (r.0, lt, r.2) | inr e ↦ inr (subst (λ i. M i n) e r.2) ])
     (λ n p. (p.0, omega arith, p.2)) (λ n q. (j, omega arith, q))
 
--- each place was below
+-- all indices are below
 pub least-all : (M : ℕ → ℕ → Type 0) (j : ℕ) (a : Option ℕ) → ((i n : ℕ) → M i n → i < j) → IsLeastOf (λ n. (i : ℕ) × (i < j) × M i n) a
     → IsLeastOf (λ n. (i : ℕ) × M i n) a
 least-all M j a within = least-map _ _ a (λ n p. (p.0, p.2)) (λ n p. (p.0, within p.0 n p.1, p.1))
 
--- the least of one seat is the least of the seat that stands there
+-- the least number of a given seat is that of the seat at its index
 pub least-of-seat : (b : Book) (seats : List Held) (i : ℕ) (s : Held) (a : Option ℕ) → slice_get seats i ≡ Some s
     → IsLeastOf (λ n. (j : ℕ) × IsMisfitAt b seats s.receipts j n) a → IsLeastOf (IsMisfitOf b seats i) a
 least-of-seat b seats i s a at =
     least-map _ _ a (λ n m. (s, at, m))
     (λ n o. let same : o.0 ≡ s = (let e = sym o.1 ∙ at in cc) in subst (λ (t : Held). (j : ℕ) × IsMisfitAt b seats t.receipts j n) same o.2)
 
--- where neither is there, what follows from each holds
+-- if both are absent, what follows from the absence of each holds
 pub none-below : (G : ℕ → Type 0) (j : ℕ) (a b : Option ℕ) → (a ≡ None → (i : ℕ) → i < j → G i) → (b ≡ None → G j)
     → lesser_of a b ≡ None → (i : ℕ) → i < j + 1 → G i
 none-below G j None b before here e i lt =
@@ -54,7 +54,7 @@ none-below G j None b before here e i lt =
 none-below G j (Some x) None before here e i lt = let no : ⊥ = cc in absurd no
 none-below G j (Some x) (Some y) before here e i lt = let no : ⊥ = cc in absurd no
 
--- what is good of one seat is good of the seat that stands there
+-- if the receipts of a given seat are good, so are those of the seat at its index
 pub good-of-seat : (b : Book) (seats : List Held) (i : ℕ) (s : Held) → slice_get seats i ≡ Some s
     → ((j : ℕ) → IsGoodAt b seats s.receipts j) → (t : Held) → slice_get seats i ≡ Some t → (j : ℕ) → IsGoodAt b seats t.receipts j
 good-of-seat b seats i s at good t there =

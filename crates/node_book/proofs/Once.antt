@@ -1,4 +1,4 @@
--- Where each kept receipt is good and none was dropped, each number of the book is that of one receipt.
+-- If every kept receipt is good and none was dropped, each number of the book is that of exactly one receipt.
 use Rattle.std.proofs.Common.{◌≡◌, ℕ, zero, suc, ◌+◌, ◌<◌, ◌≤◌, Bool, cond, List, [], ◌∷◌, length, ◌⊎◌, inl, inr, refl, sym, ap, subst, ◌∙◌, arith}
 use Rattle.std.specs.Prelude.{Some, slice_get, sum_by, count_by, ◌==◌}
 use Rattle.std.proofs.lemmas.List.Sums.{sum_by-cons}

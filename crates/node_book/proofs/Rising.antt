@@ -1,4 +1,4 @@
--- One receipt more is below a number.
+-- One more receipt has a number below a given one.
 use Rattle.std.proofs.Common.{◌≡◌, ℕ, ◌<◌, ◌≤◌, ◌+◌, List, Bool, true, false, ◌&&◌, length, take, inl, inr, refl, arith, sym, ap, ◌∙◌}
 use Rattle.std.specs.Prelude.{Some, slice_get, nat_lt}
 use Rattle.std.specs.List.{list_all}

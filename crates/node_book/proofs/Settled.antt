@@ -1,4 +1,4 @@
--- What a least number says of the answer.
+-- What the lowest bad receipt says of the result of settling.
 use Rattle.std.proofs.Common.{◌≡◌, ℕ, arith, ap, subst}
 use Rattle.std.specs.Prelude.{Some, None, Ok, Err, IsErrOf}
 use Rattle.node_book.specs.declared.settle.Report.{Report}

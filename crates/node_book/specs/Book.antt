@@ -1,4 +1,4 @@
--- The stored book of a node's events, and when it is legal.
+-- The book, a log of a node's events, and when it is legal.
 use Rattle.std.specs.Prelude.{◌≡◌, ℕ, ◌+◌, ◌^◌, ◌<◌, ◌≤◌, List, [], ◌∷◌, ◌++◌, map, length, ◌==◌, if◌then◌else◌}
 use Rattle.plain_node.specs.declared.action.Action.{Action}
 use Rattle.node_core.specs.Happening.{Happening}
@@ -7,8 +7,8 @@ use Rattle.node_core.specs.State.{State, HasTaken}
 use Rattle.plain_node.specs.declared.tally.Tally.{Tally}
 use Rattle.plain_node.specs.Tally.{tally_of}
 
--- the states at the very first, at the opening of the present volume and now; the events since the opening, each with the tally of its
--- actions; how many events went before them; and the most that a volume keeps
+-- the states at the start of the book, at the opening of the present volume and now; the entries since the opening, each an
+-- event with the tally of its actions; the number of events before them; and the capacity of a volume
 pub record Book : Type 0 where
   pub first : State
   pub opening : State
@@ -17,24 +17,25 @@ pub record Book : Type 0 where
   pub present : State
   pub volume : ℕ
 
--- the events that are kept
+-- the events of the entries
 abbrev pub events_of : List (Happening × Tally) → List Happening
 events_of entries = map (λ entry. entry.0) entries
 
--- the tallies beside them
+-- the tallies of the entries
 abbrev pub tallies_of : List (Happening × Tally) → List Tally
 tallies_of entries = map (λ entry. entry.1) entries
 
--- the actions of each kept event, as one thread has them that takes the events in order from the opening
+-- the actions of each entry's event when one thread replays the events in order from the opening state
 abbrev pub outs_of : Book → List (List Action)
 outs_of b = answers b.opening.plain b.opening.filters (events_of b.entries)
 
--- how many events were taken
+-- the number of events taken, in all volumes
 abbrev pub count_of : Book → ℕ
 count_of b = b.base + length b.entries
 
--- a book that one thread could have made: from its opening the node has taken exactly the kept events, in order, and reached its present
--- state, and each tally is that of its event's actions; where no volume went before, the opening is the first node
+-- a legal book, as one thread could have made it: from the opening state the node has taken exactly the events of the entries,
+-- in order, and reached its present state, and each tally is that of its event's actions; if no events precede the volume, its
+-- opening state is the first state
 pub record IsLegal (b : Book) : Type 0 where
   pub taken : HasTaken b.opening b.present (events_of b.entries) (outs_of b)
   pub tallied : tallies_of b.entries ≡ map tally_of (outs_of b)
@@ -43,18 +44,18 @@ pub record IsLegal (b : Book) : Type 0 where
   pub volume_fits : (0 < b.volume) × (b.volume ≤ 1048576)
   pub entries_fit : length b.entries ≤ b.volume
 
--- the book of a node that has taken nothing
+-- the new book of a node, without entries
 abbrev pub begun : State → ℕ → Book
 begun node volume = record { first = node; opening = node; entries = []; base = 0; present = node; volume = volume }
 
--- the book with one event and its tally written at its end, and the state that the node is then in
+-- the book with one event and its tally appended, and the node's state after it
 abbrev pub written : Book → Happening → Tally → State → Book
 written b event tally state = record b { entries = b.entries ++ (event, tally) ∷ []; present = state }
 
--- the book whose next volume begins at the present state
+-- the book with a new volume, which begins at the present state
 abbrev pub turned : Book → Book
 turned b = record b { opening = b.present; entries = []; base = count_of b }
 
--- the book that takes the next event: one whose volume is full is turned first
+-- the book to which the next event is appended: turned first if its volume is full
 abbrev pub ready : Book → Book
 ready b = if length b.entries == b.volume then turned b else b

@@ -8,6 +8,6 @@ use Rattle.node_book.specs.Seats.{Claim, claim}
 abbrev pub claim_of : Receipt → Claim
 claim_of receipt = claim receipt.number (happening (arc_value receipt.event)) receipt.tally
 
--- what it says of its event, as an entry of the book says it
+-- its event and tally, in the form of an entry of the book
 abbrev pub said_of : Receipt → Happening × Tally
 said_of receipt = (happening (arc_value receipt.event), receipt.tally)

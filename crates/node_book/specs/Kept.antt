@@ -1,4 +1,4 @@
--- What the fields of a book stand for.
+-- The book that the fields of a `Booked` represent.
 use Rattle.std.specs.Prelude.{map}
 use Rattle.node_book.specs.Entries.{entry_of}
 use Rattle.node_book.specs.Book.{Book}

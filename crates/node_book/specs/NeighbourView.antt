@@ -1,4 +1,4 @@
--- What is shown of each neighbour.
+-- The state of each neighbour, as it is shown.
 use Rattle.std.specs.Prelude.{ℕ, is_some}
 use Rattle.filter_slots.specs.declared.slot.Slot.TheVariants as slots
 use Rattle.filter_slots.specs.Filters.{slot}
@@ -7,7 +7,7 @@ use Rattle.neighbours.specs.Rows.{mark_at, is_up}
 use Rattle.node_core.specs.State.{State}
 use Rattle.node_book.specs.declared.neighbour_view.NeighbourView.{NeighbourView}
 
--- what is shown of a neighbour at a place: where it is asked, what its mark says, and whether its slot has a program
+-- the view of the neighbour at index n: where it is queried, what its mark says, and whether its slot has a program
 abbrev pub view_of : State → ℕ → Neighbour → NeighbourView
 view_of state n neighbour =
     let mark = mark_at state.plain.rows.marks n in

@@ -1,9 +1,9 @@
--- The state that a log keeps: the one that was put in.
+-- The state recorded in an image's log.
 use Rattle.std.specs.Prelude.{List, [], ◌∷◌, replicate, true, false}
 use Rattle.plain_node.specs.Settings.{Setup}
 use Rattle.node_core.specs.State.{State, opening}
 
--- a setup without neighbours, which stands for no node's
+-- a placeholder setup without neighbours, of no real node
 abbrev pub bare : Setup
 bare = record {
   settings = record { icp = record { addr = replicate 4 0; port = 0 }; htcp = record { addr = replicate 4 0; port = 0 }; allowed = []; miss_nofetch = false; origin = false };
@@ -13,7 +13,7 @@ bare = record {
   keys = [];
 }
 
--- what was put in; an image always has something in it
+-- the recorded state; the log of an image is never empty
 abbrev pub shown : {U : Type 0} → List (State × U) → State
 shown [] = opening bare
 shown (first ∷ rest) = first.0

@@ -1,4 +1,4 @@
-//! A node with the book of its events.
+//! A node with its book: the log of the events that it has taken, each with a tally of its actions.
 ghost use Rattle.std.specs.Prelude.{◌≡◌, ◌<◌, ◌≤◌, [], ◌∷◌, ◌+◌, length, IfOk, OnOk, OnErr, IsErrOf, IsTrue, ◌≢◌, ◌↔◌, map};
 ghost use Rattle.std.specs.Option.{option_map};
 ghost use Rattle.pending_fetch.specs.Fetches.{PendingFetch, fetch_of};
@@ -23,38 +23,38 @@ use std::mem;
 use std::sync::Arc;
 use thiserror::Error;
 
-/// The most events that a volume may keep.
+/// The greatest capacity of a volume, in events.
 pub const MOST_VOLUME: usize = 1_048_576;
 
-/// Why no book was begun.
+/// Errors of `Booked::new`.
 #[derive(Clone, Copy, Debug, PartialEq, Eq, Error)]
 pub enum BookFault {
-    /// The volume is not 1 to 1,048,576.
+    /// The capacity of a volume is not 1 to 1,048,576.
     #[error("the volume is not 1 to 1048576")]
     Limits,
-    /// There was no memory.
+    /// Allocation failure.
     #[error("no memory")]
     NoMemory,
 }
 
-/// Why an event was not taken.
+/// Errors of taking an event.
 #[derive(Clone, Copy, Debug, PartialEq, Eq, Error)]
 pub enum TakeFault {
-    /// 18,446,744,073,709,551,615 events were taken: there is no number for another.
+    /// 18,446,744,073,709,551,615 events were taken: there are no more event numbers.
     #[error("no event has a number any more")]
     Ended,
-    /// The volume is full.
+    /// The present volume is full.
     #[error("the volume is full")]
     VolumeFull,
-    /// There was no memory, or the event or a program has too many owners.
+    /// Allocation failure, or a reference count at its maximum.
     #[error("no memory")]
     NoMemory,
 }
 
-/// What is handed out for an event that was taken: its number, from 0 on, the event, and the tally of its actions.
+/// The receipt for an event that was taken: its number, from 0 on, the event, and the tally of its actions.
 #[derive(Drop)]
 pub struct Receipt {
-    /// How many events were taken before it.
+    /// Number of events taken before it.
     pub number: u64,
     /// The event.
     pub event: Arc<Event>,
@@ -62,7 +62,7 @@ pub struct Receipt {
     pub tally: Tally,
 }
 
-/// An event of the book, and the tally of its actions.
+/// An entry of the book: an event and the tally of its actions.
 #[derive(Drop)]
 pub struct Entry {
     /// The event.
@@ -71,13 +71,14 @@ pub struct Entry {
     pub tally: Tally,
 }
 
-/// The events of a volume that has ended. To drop them may take long: let it be where no lock is held.
+/// The entries of a finished volume. Dropping them may take long, so drop this where no lock is held.
 #[derive(Drop)]
 pub struct Volume {
     _kept: Vec<Entry>,
 }
 
-/// A node and the book of its events. Contracts see the book, which is always legal.
+/// A node and its book. Contracts see the book, which is always legal: replaying its entries from the opening state of the volume
+/// gives the node's present state and every tally.
 #[derive(Drop)]
 pub struct Booked {
     first: Image,
@@ -102,7 +103,7 @@ impl Model for Booked {
 }
 
 impl Booked {
-    /// Begins the book of a node. A volume of it keeps so many events, for which the room is taken at once.
+    /// Starts the book of a node. `volume` is the capacity of a volume in events, which is allocated at once.
     pub fn new(alloc: Global, node: Node, volume: usize) -> Result<Booked, BookFault>
         ensures begins { IfOk result (λ b. b ≡ begun node volume) }
         ensures limits { IsErrOf result BookFault.Limits ↔ ((0 < volume) × (volume ≤ 1048576) → ⊥) }
@@ -123,14 +124,15 @@ impl Booked {
         })
     }
 
-    /// The node as it is now.
+    /// The node.
     pub fn node(&self) -> &Node
         ensures { result.now ≡ self.now.present }
     {
         &self.present
     }
 
-    /// The key of a pending fetch of the node, with one more owner. An error says that there are too many owners.
+    /// The key of a pending fetch, shared, or `None` if no fetch of this number is pending. Errors: a reference count at its
+    /// maximum.
     pub fn key_of(&self, fetch: u32) -> Result<Option<CacheKey>, NoMemory>
         ensures { IfOk result (λ key. key ≡ option_map (λ (f : PendingFetch). f.key) (fetch_of fetch self.now.present.plain.fetches.list)) }
     {
@@ -140,28 +142,28 @@ impl Booked {
         }
     }
 
-    /// The events of the present volume, in order.
+    /// The entries of the present volume, in order.
     pub fn entries(&self) -> &[Entry]
         ensures { map entry_of result.now ≡ self.now.entries }
     {
         self.kept.as_slice()
     }
 
-    /// How many events were taken.
+    /// Number of events taken, in all volumes.
     pub fn count(&self) -> u64
         ensures { result ≡ count_of self.now }
     {
         self.base + self.kept.len() as u64
     }
 
-    /// How many events were taken before those of the present volume.
+    /// Number of events taken before the present volume.
     pub fn base(&self) -> u64
         ensures { result ≡ self.now.base }
     {
         self.base
     }
 
-    /// Whether the present volume keeps as many events as it may.
+    /// Whether the present volume is at its capacity.
     pub fn is_full(&self) -> bool
         ensures full { IsTrue result ↔ (length self.now.entries ≡ self.now.volume) }
         ensures room { OnFalse result (length self.now.entries < self.now.volume) }
@@ -169,15 +171,15 @@ impl Booked {
         self.kept.len() == self.volume
     }
 
-    /// The book is one that a single thread could have made.
+    /// The invariant: the book is legal. Changes nothing.
     pub fn is_legal(&self)
         ensures { IsLegal self.now }
     {
         let _base = &self.base;
     }
 
-    /// The node takes one event, whose actions are written to an empty `out`, and the event stands in the book with their
-    /// tally. After an error book and node are as before, and `out` is empty.
+    /// Has the node take one event, writes its actions to `out`, which must be empty, and appends the event with their tally to
+    /// the book. On error book and node are unchanged and `out` is empty.
     pub fn take(
         &mut self,
         alloc: Global,
@@ -209,8 +211,8 @@ impl Booked {
         })
     }
 
-    /// Takes a datagram that is judged already, as `take` takes the event that it arrives now. Its verdict counts where each of
-    /// its programs is equal to the one in force, or both have none; otherwise it is judged here.
+    /// As `take`, for the arrival at `now` of a datagram that was judged before. The verdict it carries is used if both of its
+    /// programs equal those in force (two absent programs are equal); otherwise the datagram is judged again.
     pub fn take_judged(
         &mut self,
         alloc: Global,
@@ -247,7 +249,7 @@ impl Booked {
         })
     }
 
-    /// Takes an event where there is room for it.
+    /// Takes an event, given that the volume has room.
     fn enter(&mut self, alloc: Global, event: &Arc<Event>, out: &mut Out) -> Result<Tally, NoMemory>
         requires out { out.old ≡ [] }
         requires room { (length self.old.entries < self.old.volume) × (count_of self.old < 18446744073709551615) }
@@ -267,7 +269,7 @@ impl Booked {
         Ok(tally)
     }
 
-    /// Takes a datagram that is judged already, and whose event this is, where there is room for it.
+    /// Takes a judged datagram whose arrival `event` is, given that the volume has room.
     fn enter_judged(
         &mut self,
         alloc: Global,
@@ -295,7 +297,7 @@ impl Booked {
         Ok(tally)
     }
 
-    /// Whether the event of a receipt stands in the book at the receipt's number, with the receipt's tally.
+    /// Whether the book has the receipt's event and tally at the receipt's number. False for numbers before the present volume.
     pub fn has(&self, receipt: &Receipt) -> bool
         ensures { IsTrue result ↔ Stands self.now (claim_of receipt.now) }
     {
@@ -309,8 +311,8 @@ impl Booked {
         is_same(&self.kept[place as usize], receipt)
     }
 
-    /// Begins a new volume at the present state, and hands out the events of the old one. The node is not copied. Where the
-    /// room of a new volume is refused, the old events are let go here and their room is used again.
+    /// Starts a new volume at the present state and returns the old one. The node is not copied. If the new volume can't be
+    /// allocated, the old entries are dropped here and their buffer is reused.
     pub fn turn(&mut self, alloc: Global) -> Volume
         ensures { self.new ≡ turned self.old }
     {
@@ -330,15 +332,15 @@ impl Booked {
     }
 }
 
-/// Whether a receipt has the event and the tally of an entry.
+/// Whether a receipt and an entry have equal events and tallies.
 fn is_same(entry: &Entry, receipt: &Receipt) -> bool
     ensures { IsTrue result ↔ (entry_of entry.now ≡ said_of receipt.now) }
 {
     same_event(&*entry.event, &*receipt.event) && same_tally(&entry.tally, &receipt.tally)
 }
 
-/// The event that a judged datagram arrives now. An error says that there was no memory, or that the datagram has too many
-/// owners.
+/// The event of a judged datagram's arrival at `now`. Errors: allocation failure, or the datagram's reference count at its
+/// maximum.
 fn arrival(alloc: Global, judged: &Judged, now: Moment) -> Result<Arc<Event>, NoMemory>
     ensures { IfOk result (λ event. happening (arc_value event) ≡ arrives judged.now.datagram now) }
 {

@@ -1,4 +1,4 @@
-//! Who takes events, and is given what a thread that sends datagrams doesn't do itself.
+//! The interface between a loop that makes events and sends datagrams, and the node that takes the events.
 ghost use Rattle.std.specs.Prelude.{◌≡◌, ◌≤◌, ◌+◌, ◌∷◌, [], ℕ, Option, IfOk, IfSome, OnOk, OnErr, IsErrOf};
 ghost use Rattle.std.specs.Option.{option_map};
 ghost use Rattle.std.specs.Arc.{arc_value};
@@ -15,16 +15,16 @@ use object_store::CacheKey;
 use std::alloc::Global;
 use std::sync::Arc;
 
-/// Takes events, one at a time, and is given the actions that are no datagrams.
+/// Takes events for a node, one at a time, and accepts the actions other than sends, which the caller doesn't carry out itself.
 pub trait Clerk {
-    // What the clerk tells of the node behind it, or that it tells nothing: other threads move the node as well.
+    // What is known of the node behind the clerk, or `None` if other threads submit events to it as well.
     ghost told: { Self → Option Told };
 
-    // How many events were taken for this clerk.
+    // Number of events taken through this clerk.
     ghost taken: { Self → ℕ };
 
-    /// Takes an event, writes its actions to an empty `out`, and gives the event's number, which is at least the number of the
-    /// events taken for this clerk before. After a refusal the event is not in, and `out` is empty.
+    /// Submits an event, writes its actions to `out`, which must be empty, and returns the event's number, which is at least the
+    /// number of events taken through this clerk before. On error the event is not taken and `out` is empty.
     fn submit(
         &mut self,
         alloc: Global,
@@ -38,8 +38,8 @@ pub trait Clerk {
         ensures refused { OnErr result ((told self.new ≡ told self.old) × (taken self.new ≡ taken self.old) × (out.new ≡ [])) }
         ensures ended { IsErrOf result SubmitFault.Ended → IfSome (told self.old) (λ t. t.next ≡ 18446744073709551615) };
 
-    /// Takes a datagram that is judged already, as `submit` takes the event that it arrives now. Its verdict counts where each
-    /// of its programs is equal to the one in force, or both have none; otherwise it is judged again.
+    /// As `submit`, for the arrival at `now` of a datagram that was judged before. The verdict it carries is used if both of its
+    /// programs equal those in force (two absent programs are equal); otherwise the datagram is judged again.
     fn submit_judged(
         &mut self,
         alloc: Global,
@@ -54,15 +54,15 @@ pub trait Clerk {
         ensures refused { OnErr result ((told self.new ≡ told self.old) × (taken self.new ≡ taken self.old) × (out.new ≡ [])) }
         ensures ended { IsErrOf result SubmitFault.Ended → IfSome (told self.old) (λ t. t.next ≡ 18446744073709551615) };
 
-    /// The programs to judge datagrams by, with one more owner each: those in force, or, where other threads may swap them, those
-    /// that were when it was last looked.
+    /// The programs to judge datagrams by, shared: those in force, or, if other threads may swap them, those in force when the
+    /// clerk last read them. Errors: a reference count at its maximum.
     fn programs(&mut self) -> Result<Slots, NoMemory>
         ensures same { told self.new ≡ told self.old }
         ensures counted { taken self.new ≡ taken self.old }
         ensures programs { IfOk result (λ programs. IfSome (told self.old) (λ t. programs ≡ t.state.filters)) };
 
-    /// Judges a datagram by these programs, of which those that judge it get one more owner. An error says that there was no
-    /// memory, or that a program has too many owners. A clerk that has the programs at hand need not copy all of them for it.
+    /// Judges a datagram by these programs and shares those that judge it. An implementation that holds the programs need not
+    /// copy all of them for this. Errors: allocation failure, or a reference count at its maximum.
     fn judge(&mut self, datagram: Arc<Datagram>) -> Result<Judged, NoMemory>
         ensures same { told self.new ≡ told self.old }
         ensures counted { taken self.new ≡ taken self.old }
@@ -73,26 +73,26 @@ pub trait Clerk {
         programs.judge(datagram)
     }
 
-    /// Is given an action that is no Send. An error says that there was no memory: nothing was passed on.
+    /// Accepts an action that is not a send. Errors: allocation failure; nothing was passed on.
     fn pass(&mut self, alloc: Global, action: &Action) -> Result<(), NoMemory>
         ensures passed { OnOk result (told self.new ≡ option_map (passing (action.now ∷ [])) (told self.old)) }
         ensures refused { OnErr result (told self.new ≡ told self.old) }
         ensures same { taken self.new ≡ taken self.old };
 
-    /// The key of a pending fetch, if there is one of this number.
+    /// The key of a pending fetch, or `None` if no fetch of this number is pending. Errors: a reference count at its maximum.
     fn key_of(&mut self, alloc: Global, fetch: u32) -> Result<Option<CacheKey>, NoMemory>
         ensures same { told self.new ≡ told self.old }
         ensures counted { taken self.new ≡ taken self.old }
         ensures key { IfOk result (λ key. IfSome (told self.old) (λ t. key ≡ option_map (λ f. f.key) (fetch_of fetch t.state.plain.fetches.list))) };
 }
 
-/// Lets a fetch's result wait before it is submitted.
+/// Delays the result of a fetch before it is submitted.
 pub trait Gate {
-    /// Holds the result of a fetch for as long as it is to wait. False says that the gate gave up.
+    /// Blocks for as long as the result of this fetch is to wait. Returns false if the gate gave up.
     fn hold(&self, fetch: u32) -> bool;
 }
 
-/// The same action once more. Its octets are copied, and its object gets one more owner.
+/// A copy of an action: octets are copied, an object is shared.
 pub(crate) fn copy_action(alloc: Global, action: &Action) -> Result<Action, NoMemory>
     ensures { IfOk result (λ copied. copied ≡ action.now) }
 {
@@ -126,7 +126,7 @@ pub(crate) fn copy_action(alloc: Global, action: &Action) -> Result<Action, NoMe
     }
 }
 
-/// The same answer once more.
+/// A copy of an answer: an object is shared.
 fn copy_answer(answer: &Answer) -> Result<Answer, NoMemory>
     ensures { IfOk result (λ copied. copied ≡ answer.now) }
 {

@@ -1,4 +1,4 @@
-//! A node and its book behind a lock, for many threads.
+//! A node and its book behind a mutex, for many threads.
 ghost use Rattle.std.specs.Prelude.{◌≡◌, ◌<◌, ◌≤◌, ◌+◌, ◌++◌, [], ◌∷◌, IfOk, OnOk, OnErr, IsErrOf, ◌↔◌, sum_by};
 ghost use Rattle.std.specs.Arc.{arc_value};
 ghost use Rattle.node_core.specs.Happening.{arrives, happening};
@@ -23,23 +23,23 @@ use std::sync::ledger::{Blank, Ledger};
 use std::sync::{Arc, Mutex, Wait};
 use thiserror::Error;
 
-/// Why no desk was opened.
+/// Errors of `Desk::open`.
 #[derive(Clone, Copy, Debug, PartialEq, Eq, Error)]
 pub enum OpenFault {
-    /// The seats are not 1 to 64.
+    /// The number of seats is not 1 to 64.
     #[error("the seats are not 1 to 64")]
     Seats,
-    /// There was no memory.
+    /// Allocation failure.
     #[error("no memory")]
     NoMemory,
 }
 
-/// A book behind a lock. Whenever the lock is free the book is legal, and the seats' shares add up to its count. Contracts
-/// see how many seats were opened.
+/// A book behind a mutex. Whenever the mutex is free the book is legal and the seats' shares add up to its count. Contracts see
+/// the number of seats that were opened.
 #[derive(Drop)]
 pub struct Desk<L: Ledger> {
     ledgered: Mutex<Ledgered<L>>,
-    // How many swaps were handed in.
+    // Number of swap events submitted, modulo 2^64.
     swaps: AtomicU64,
     seats: u64,
 }
@@ -55,7 +55,7 @@ impl<L: Ledger> Model for Desk<L> {
 }
 
 impl<L: Ledger> Desk<L> {
-    /// Puts a new book behind a lock, with this many seats, each of one part of the new ledger.
+    /// Puts a new book behind a mutex and opens this many seats, each with one part of the new ledger.
     pub fn open(
         alloc: Global,
         blank: Blank,
@@ -85,9 +85,8 @@ impl<L: Ledger> Desk<L> {
         Ok((desk, all))
     }
 
-    /// The node takes one event for the holder of a seat, and its actions are written to an empty `out`. The answer is the event's
-    /// number: how many events were taken before it. It waits for the lock. After an error the seat is as before and `out` is
-    /// empty.
+    /// Submits an event for the holder of a seat, writes its actions to `out`, which must be empty, and returns the event's
+    /// number: the number of events taken before it. Waits for the mutex. On error the seat is unchanged and `out` is empty.
     pub fn submit<R: Wait>(
         &self,
         rt: &R,
@@ -115,8 +114,8 @@ impl<L: Ledger> Desk<L> {
         submitted
     }
 
-    /// Takes a datagram that is judged already, as `submit` takes the event that it arrives now. Its verdict counts where each
-    /// of its programs is equal to the one in force, or both have none; otherwise it is judged there, while the lock is held.
+    /// As `submit`, for the arrival at `now` of a datagram that was judged before. The verdict it carries is used if both of its
+    /// programs equal those in force (two absent programs are equal); otherwise it is judged again while the mutex is held.
     pub fn submit_judged<R: Wait>(
         &self,
         rt: &R,
@@ -139,23 +138,23 @@ impl<L: Ledger> Desk<L> {
             .submit_judged(alloc, seat, judged, now, out, &mut spent)
     }
 
-    /// How many swaps were handed in, modulo 2^64. A swap is counted once the lock is free again; so programs that were read after the
-    /// count was this are in force as long as it stays, or until a swap that is just being taken. It waits for nobody.
+    /// Number of swap events submitted, modulo 2^64. Programs read after seeing swap count n stay current until the next swap. A
+    /// swap is counted after its mutex guard is dropped, so the count may lag behind one that is just being taken. Doesn't block.
     pub fn swaps(&self) -> u64 {
         self.swaps.load(Ordering::SeqCst)
     }
 
-    /// The programs in force, with one more owner each. It waits for the lock.
+    /// The programs in force, shared. Waits for the mutex. Errors: a reference count at its maximum.
     pub fn programs<R: Wait>(&self, rt: &R) -> Result<Slots, NoMemory> {
         self.ledgered.lock(rt).booked().node().programs().copy()
     }
 
-    /// What the node has counted. It waits for the lock.
+    /// The node's datagram counters. Waits for the mutex.
     pub fn stats<R: Wait>(&self, rt: &R) -> Stats {
         self.ledgered.lock(rt).booked().node().stats()
     }
 
-    /// What is known of each neighbour, in the order of the configuration. It waits for the lock.
+    /// The state of each neighbour, in configuration order. Waits for the mutex. Errors: allocation failure.
     pub fn neighbours<R: Wait>(
         &self,
         rt: &R,
@@ -164,12 +163,13 @@ impl<L: Ledger> Desk<L> {
         views_of(alloc, self.ledgered.lock(rt).booked().node())
     }
 
-    /// The key of a pending fetch, with one more owner. It waits for the lock.
+    /// The key of a pending fetch, shared, or `None` if no fetch of this number is pending. Waits for the mutex. Errors: a
+    /// reference count at its maximum.
     pub fn key_of<R: Wait>(&self, rt: &R, fetch: u32) -> Result<Option<CacheKey>, NoMemory> {
         self.ledgered.lock(rt).booked().key_of(fetch)
     }
 
-    /// Ends the desk, and hands out what lay behind the lock.
+    /// Consumes the desk and returns what was behind the mutex.
     pub fn close(self) -> Ledgered<L>
         ensures legal { IsLegal result.book }
         ensures counted { count_of result.book ≡ result.total }
@@ -181,8 +181,8 @@ impl<L: Ledger> Desk<L> {
         ledgered
     }
 
-    /// Closes the desk, compares the receipts of the seats with the book, and joins their shares. Errors: other seats
-    /// than those that were opened, else the lowest number, from the base on, under which a kept receipt isn't good.
+    /// Closes the desk, checks the receipts of the seats against the book, and joins their shares. Errors: these are not the
+    /// seats that were opened; else the lowest number, from the base on, of a receipt that is not good.
     pub fn settle(self, seats: Vec<Seat<L>>) -> Result<Report, SettleFault>
         ensures shares { IfOk result (λ r. r.count ≡ sum_by (λ s. s.share) seats.items) }
         ensures book { (b : _) × IsLegal b × Settles self seats.items b result }

@@ -1,11 +1,11 @@
-//! The state of a node at a moment, for statements alone.
+//! A snapshot of a node's state, for contracts alone.
 ghost use Rattle.std.specs.Prelude.{◌≡◌};
 
 use http_server::Log;
 use node_core::Node;
 use std::marker::Model;
 
-/// The state that a node had when this was made. It takes no memory, and nothing is done at run time. Contracts see the state.
+/// A snapshot of a node's state. It takes no memory and does nothing at run time. Contracts see the state.
 #[derive(Drop)]
 pub(crate) struct Image {
     log: Log<Node, ()>,
@@ -22,7 +22,7 @@ impl Model for Image {
 }
 
 impl Image {
-    /// What a node is now. An image is made here alone.
+    /// The node's present state. This is the only constructor.
     pub(crate) fn of(node: &Node) -> Image
         ensures { result ≡ node.now }
     {

@@ -1,4 +1,4 @@
-//! What lies behind the lock of a desk: a book whose count is the total of a ledger of shares.
+//! What is behind the mutex of a desk: a book whose count is the total of a ledger of shares.
 ghost use Rattle.std.specs.Prelude.{◌≡◌, ◌≤◌, [], ◌∷◌, IfOk, OnOk, OnErr, IsErrOf, ◌↔◌, ℕ, Some, sum_by};
 ghost use Rattle.std.specs.Arc.{arc_value};
 ghost use Rattle.node_core.specs.Happening.{arrives, happening};
@@ -20,13 +20,13 @@ use std::sync::Arc;
 use std::sync::ledger::{Book, Ledger, Share};
 use thiserror::Error;
 
-/// Why an event was not taken.
+/// Errors of submitting an event.
 #[derive(Clone, Copy, Debug, PartialEq, Eq, Error)]
 pub enum SubmitFault {
-    /// 18,446,744,073,709,551,615 events were taken: there is no number for another.
+    /// 18,446,744,073,709,551,615 events were taken: there are no more event numbers.
     #[error("no event has a number any more")]
     Ended,
-    /// There was no memory, or the event or a program has too many owners.
+    /// Allocation failure, or a reference count at its maximum.
     #[error("no memory")]
     NoMemory,
 }
@@ -42,8 +42,8 @@ impl From<NoMemory> for SubmitFault {
     }
 }
 
-/// What a submit is done with: the events of a volume that ended, and a receipt that its seat keeps no longer. It is dropped
-/// once the lock is free.
+/// What a submission leaves over: the entries of a finished volume, and a receipt that its seat no longer keeps. It is to be
+/// dropped after the mutex is released.
 #[derive(Drop)]
 pub struct Spent {
     volume: Option<Volume>,
@@ -51,7 +51,7 @@ pub struct Spent {
 }
 
 impl Spent {
-    /// Nothing yet.
+    /// Empty.
     pub fn new() -> Spent {
         Spent {
             volume: None,
@@ -61,7 +61,7 @@ impl Spent {
 }
 
 /// A book whose count is the total of a ledger of shares, one share for each seat. Contracts see the book, the total and the
-/// number of the seats.
+/// number of seats.
 #[derive(Drop)]
 pub struct Ledgered<L: Ledger> {
     booked: Booked,
@@ -83,7 +83,7 @@ impl<L: Ledger> Model for Ledgered<L> {
 }
 
 impl<L: Ledger> Ledgered<L> {
-    /// Puts a new book beside a new ledger, whose parts all went to the seats.
+    /// Pairs a new book with a new ledger, all of whose parts went to the seats.
     pub(crate) fn new(booked: Booked, total: Book<L>, spare: Share<L>, seats: u64) -> Ledgered<L>
         requires new { count_of booked ≡ 0 }
         requires none { total.total ≡ 0 }
@@ -101,7 +101,7 @@ impl<L: Ledger> Ledgered<L> {
         }
     }
 
-    /// The book is legal, and all shares add up to its count.
+    /// The invariants: the book is legal, and its count is the total of all shares. Changes nothing.
     pub fn agrees(&self)
         ensures legal { IsLegal self.now.book }
         ensures counted { count_of self.now.book ≡ self.now.total }
@@ -118,9 +118,9 @@ impl<L: Ledger> Ledgered<L> {
         &self.booked
     }
 
-    /// The node takes one event for the holder of a seat, and the event stands in the book; a full volume is turned before. The
-    /// answer is the event's number: how many events the book had. What is no longer needed goes to `spent`. After an error the
-    /// seat is as before and `out` is empty; for want of memory a turn may have been made.
+    /// Has the node take one event for the holder of a seat and appends it to the book, after turning a full volume. Returns the
+    /// event's number: the number of events taken before it. What is no longer needed goes to `spent`. On error the seat is
+    /// unchanged and `out` is empty; on allocation failure the volume may have been turned.
     pub fn submit(
         &mut self,
         alloc: Global,
@@ -156,8 +156,8 @@ impl<L: Ledger> Ledgered<L> {
         Ok(number)
     }
 
-    /// Takes a datagram that is judged already, as `submit` takes the event that it arrives now. Its verdict counts where its
-    /// program is equal to the one in force, or both have none; otherwise it is judged here.
+    /// As `submit`, for the arrival at `now` of a datagram that was judged before. The verdict it carries is used if both of its
+    /// programs equal those in force (two absent programs are equal); otherwise the datagram is judged again.
     pub fn submit_judged(
         &mut self,
         alloc: Global,
@@ -194,8 +194,8 @@ impl<L: Ledger> Ledgered<L> {
         Ok(number)
     }
 
-    /// Compares the receipts of the seats with the book, and joins their shares. Errors: other seats than those
-    /// that were opened, else the lowest number, from the base on, under which a kept receipt isn't good.
+    /// Checks the receipts of the seats against the book, and joins their shares. Errors: these are not the seats that were
+    /// opened; else the lowest number, from the base on, of a receipt that is not good.
     pub fn settle(self, seats: Vec<Seat<L>>) -> Result<Report, SettleFault>
         ensures seats { IsErrOf result SettleFault.Seats ↔ (AreAllOpened self.seats seats.items → ⊥) }
         ensures misfit { (n : ℕ) → IsErrOf result (SettleFault.Misfit n) ↔ (AreAllOpened self.seats seats.items × IsLeastOf (IsMisfit self.book seats.items) (Some n)) }

@@ -1,4 +1,10 @@
-//! A node behind a lock, with the book of its events, and the seats and receipts of those who submit them.
+//! A node with its book, the log of the events that it has taken with a tally of the actions of each, behind a mutex (the desk).
+//! Threads submit events through seats, which keep receipts; a clerk is the interface that the layers above submit through.
+//! Contracts see that a book is legal (replaying its entries from the opening state of the volume gives the present state and
+//! every tally), and of a settled desk how the receipts compare with the book. While a desk is open they see the seats alone, as
+//! other threads may change the node.
+//! Tested by: crates/test_book, crates/test_judging, crates/test_loop, crates/test_workers, crates/test_storm,
+//! crates/test_refusals, more-edits.
 #![tactic(auto)]
 
 mod booked;

@@ -1,4 +1,4 @@
-//! A node by itself.
+//! A clerk with a node of its own.
 ghost use Rattle.std.specs.Prelude.{◌≡◌, []};
 
 use crate::NoMemory;
@@ -11,7 +11,7 @@ use std::alloc::Global;
 use std::marker::Model;
 use std::sync::Arc;
 
-/// A node by itself, with the number of its next event and all that was passed on. Contracts see a record of these.
+/// A clerk that owns its node, with the number of the next event and all actions passed on. Contracts see a record of these.
 #[derive(Drop)]
 pub struct Lone {
     node: Node,
@@ -28,7 +28,7 @@ impl Model for Lone {
 }
 
 impl Lone {
-    /// A clerk over a node, whose next event has number 0.
+    /// A clerk that owns this node. Its first event gets number 0.
     pub fn new(alloc: Global, node: Node) -> Lone
         ensures { result ≡ record { state = node; passed = []; next = 0 } }
     {
@@ -46,7 +46,7 @@ impl Lone {
         &self.node
     }
 
-    /// What was passed on, in order.
+    /// The actions passed on, in order.
     pub fn passed(&self) -> &[Action]
         ensures { result.now ≡ self.now.passed }
     {

@@ -1,4 +1,4 @@
-//! What is known of each neighbour, for those who look on.
+//! The state of each neighbour, for monitoring.
 ghost use Rattle.std.specs.Prelude.{◌≡◌, ◌<◌, is_some, length};
 ghost use Rattle.filter_slots.specs.Filters.{slot};
 ghost use Rattle.node_book.specs.NeighbourView.{view_of};
@@ -9,24 +9,24 @@ use neighbours::Neighbour;
 use node_core::Node;
 use std::alloc::Global;
 
-/// What is known of a neighbour at one moment.
+/// The state of a neighbour at one moment.
 #[derive(Clone, Copy, Debug, PartialEq)]
 pub struct NeighbourView {
-    /// The socket that it is asked by.
+    /// The socket from which it is queried.
     pub protocol: Socket,
-    /// Where it is asked.
+    /// The address and port at which it is queried.
     pub end: End,
-    /// Whether it has missed fewer than 20 rounds since it was last heard of.
+    /// Whether it has missed fewer than 20 query rounds since it was last heard from.
     pub is_up: bool,
-    /// Its smoothed time, of which an eighth is milliseconds; none where there is no sample.
+    /// Its smoothed response time in eighths of a millisecond; `None` before the first sample.
     pub time: Option<u32>,
-    /// How many rounds it has missed since it was last heard of, at most 20.
+    /// Number of query rounds it has missed since it was last heard from, at most 20.
     pub misses: u8,
     /// Whether its slot has a filter.
     pub has_filter: bool,
 }
 
-// Whether the slot of the neighbour at a place has a filter.
+// Whether the slot of the neighbour at index `n` has a filter.
 fn has_filter(node: &Node, n: usize) -> bool
     ensures { result ≡ is_some (slot node.now.filters (Slot.Neighbour n)) }
 {
@@ -36,7 +36,7 @@ fn has_filter(node: &Node, n: usize) -> bool
     }
 }
 
-// What is known of the neighbour at a place.
+// The state of the neighbour at index `n`.
 fn view_of(node: &Node, n: usize, neighbour: &Neighbour) -> NeighbourView
     requires { n < length node.now.plain.rows.neighbours }
     ensures { result ≡ view_of node.now n neighbour.now }
@@ -52,7 +52,7 @@ fn view_of(node: &Node, n: usize, neighbour: &Neighbour) -> NeighbourView
     }
 }
 
-/// What is known of each neighbour of a node, in the order of the configuration.
+/// The state of each neighbour of a node, in configuration order. Errors: allocation failure.
 pub(crate) fn views_of(alloc: Global, node: &Node) -> Result<Vec<NeighbourView>, NoMemory> {
     let table = node.neighbours();
     let mut views = Vec::new(alloc);

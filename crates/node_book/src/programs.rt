@@ -1,4 +1,4 @@
-//! The programs of a desk, for those who judge before they submit.
+//! A cache of a desk's programs, for judging datagrams without the desk's mutex.
 ghost use Rattle.std.specs.Prelude.{◌≡◌, IfOk, IsSome};
 ghost use Rattle.std.specs.Arc.{arc_value};
 
@@ -8,18 +8,18 @@ use filter_slots::{Datagram, Judged, Slots};
 use std::sync::ledger::Ledger;
 use std::sync::{Arc, Wait};
 
-/// A copy of a desk's programs, which is made anew only where a filter was swapped since. It may be behind a swap that is being
+/// A cached copy of a desk's programs, refreshed only after a filter was swapped. It may lag behind a swap that is just being
 /// taken.
 #[derive(Drop)]
 pub struct Programs {
-    // None where there is no copy.
+    // `None` before the first read.
     slots: Option<Slots>,
-    // How many swaps the desk had counted before the copy was made.
+    // The desk's swap count before the copy was made.
     swaps: u64,
 }
 
 impl Programs {
-    /// No copy yet.
+    /// An empty cache.
     pub fn new() -> Programs {
         Programs {
             slots: None,
@@ -27,7 +27,8 @@ impl Programs {
         }
     }
 
-    /// The programs, with one more owner each. It waits for the desk's lock where a filter was swapped since the last time.
+    /// The programs, shared. Waits for the desk's mutex at the first call and after a filter was swapped. Errors: a reference
+    /// count at its maximum.
     pub fn read<L: Ledger, R: Wait>(&mut self, rt: &R, desk: &Desk<L>) -> Result<Slots, NoMemory> {
         self.look(rt, desk)?;
         match &self.slots {
@@ -36,8 +37,8 @@ impl Programs {
         }
     }
 
-    /// Judges a datagram by the programs, of which those that judge it get one more owner. It waits for the desk's lock where a
-    /// filter was swapped since the last time.
+    /// Judges a datagram by the programs and shares those that judge it. Waits for the desk's mutex at the first call and after a
+    /// filter was swapped. Errors: a reference count at its maximum.
     pub fn judge<L: Ledger, R: Wait>(
         &mut self,
         rt: &R,
@@ -53,7 +54,7 @@ impl Programs {
         }
     }
 
-    // Makes the copy anew where there is none, or where a filter was swapped since.
+    // Refreshes the copy if there is none, or if a filter was swapped since.
     fn look<L: Ledger, R: Wait>(&mut self, rt: &R, desk: &Desk<L>) -> Result<(), NoMemory>
         ensures { IfOk result (λ _. IsSome self.new.slots) }
     {

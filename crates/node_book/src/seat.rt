@@ -1,4 +1,4 @@
-//! Seats: who submits events to a desk, and what is kept of it.
+//! Seats: the handles through which events are submitted to a desk, with their latest receipts.
 ghost use Rattle.std.specs.Prelude.{◌≡◌, ◌<◌, ◌≤◌, ◌+◌, ◌==◌, length, take, Some, slice_get, count_by, nat_le, nat_lt, OnOk, IfOk};
 ghost use Rattle.std.specs.List.{list_all};
 ghost use Rattle.node_book.specs.Seats.{credited, opened_seats};
@@ -11,10 +11,11 @@ use std::collections::VecDeque;
 use std::marker::Model;
 use std::sync::ledger::{Book, Ledger, Share};
 
-/// How many receipts a seat keeps.
+/// Number of receipts that a seat keeps, the latest ones.
 pub const MOST_RECEIPTS: usize = 1_024;
 
-/// A caller's place at a desk, with the caller's share of the count and the latest 1,024 receipts. Contracts see these three.
+/// A caller's seat at a desk: its index, its share of the count of events, and its latest 1,024 receipts. Contracts see these
+/// three.
 #[derive(Drop)]
 pub struct Seat<L: Ledger> {
     place: u64,
@@ -36,14 +37,14 @@ impl<L: Ledger> Model for Seat<L> {
 }
 
 impl<L: Ledger> Seat<L> {
-    /// Its place: the seats of a desk are numbered from 0.
+    /// Its index among the seats of its desk, from 0.
     pub fn place(&self) -> u64
         ensures { result ≡ self.now.place }
     {
         self.place
     }
 
-    /// How many receipts it keeps.
+    /// Number of receipts that it keeps.
     pub fn len(&self) -> usize
         ensures len { result ≡ length self.now.receipts }
         ensures few { result ≤ 1024 }
@@ -51,7 +52,7 @@ impl<L: Ledger> Seat<L> {
         self.receipts.len()
     }
 
-    /// A receipt that it keeps, the earliest at 0.
+    /// The kept receipt at index `j`, the earliest at 0.
     pub fn receipt(&self, j: usize) -> &Receipt
         requires { j < length self.now.receipts }
         ensures { slice_get self.now.receipts j ≡ Some (claim_of result.now) }
@@ -59,7 +60,7 @@ impl<L: Ledger> Seat<L> {
         &self.receipts[j]
     }
 
-    /// The number of a receipt.
+    /// The number of the receipt at index `j`.
     fn number(&self, j: usize) -> u64
         requires { j < length self.now.receipts }
         ensures { (r : _) → slice_get self.now.receipts j ≡ Some r → result ≡ r.number }
@@ -67,7 +68,7 @@ impl<L: Ledger> Seat<L> {
         self.receipts[j].number
     }
 
-    /// How many receipts have this number.
+    /// Number of kept receipts with this number.
     pub(crate) fn numbered(&self, number: u64) -> u64
         ensures count { result ≡ count_by (λ receipt. receipt.number == number) self.now.receipts }
         ensures few { result ≤ 1024 }
@@ -75,7 +76,7 @@ impl<L: Ledger> Seat<L> {
         self.receipts.iter().filter(|r| r.number == number).count() as u64
     }
 
-    /// How many receipts have a number from this one on.
+    /// Number of kept receipts whose number is at least `base`.
     pub(crate) fn kept_from(&self, base: u64) -> u64
         ensures count { result ≡ count_by (λ receipt. nat_le base receipt.number) self.now.receipts }
         ensures few { result ≤ 1024 }
@@ -83,7 +84,7 @@ impl<L: Ledger> Seat<L> {
         self.receipts.iter().filter(|r| base <= r.number).count() as u64
     }
 
-    /// Whether the receipts before this one have lower numbers.
+    /// Whether the receipts before index `j` all have lower numbers than `number`.
     pub(crate) fn rises_to(&self, j: usize, number: u64) -> bool
         requires { j ≤ length self.now.receipts }
         ensures { result ≡ list_all (λ before. nat_lt before.number number) (take j self.now.receipts) }
@@ -97,7 +98,7 @@ impl<L: Ledger> Seat<L> {
         rising
     }
 
-    /// The amount of its share is at most the total.
+    /// A fact: its share is at most the total. Changes nothing.
     pub(crate) fn audit(&mut self, total: &mut Book<L>)
         ensures same { self.new ≡ self.old }
         ensures total { total.new.total ≡ total.old.total }
@@ -106,7 +107,7 @@ impl<L: Ledger> Seat<L> {
         total.audit(&mut self.share);
     }
 
-    /// Counts one event more, with its receipt. The receipt that is kept no longer is handed out.
+    /// Counts one more event and keeps its receipt. Returns the receipt that is dropped for it, if any.
     pub(crate) fn credit(&mut self, total: &mut Book<L>, receipt: Receipt) -> Option<Receipt>
         ensures seat { self.new ≡ credited self.old (claim_of receipt) }
         ensures total { total.new.total ≡ total.old.total + 1 }
@@ -121,7 +122,7 @@ impl<L: Ledger> Seat<L> {
         spent
     }
 
-    /// Its share.
+    /// Consumes the seat and returns its share.
     pub(crate) fn into_share(self) -> Share<L>
         ensures parts { result.parts ≡ 1 }
         ensures amount { result.amount ≡ self.share }
@@ -135,7 +136,7 @@ impl<L: Ledger> Seat<L> {
     }
 }
 
-/// Splits all parts of a share into seats of one part each, with room for their receipts.
+/// Splits all parts of a share into seats of one part each, with their receipt buffers allocated. Errors: allocation failure.
 pub(crate) fn seats_of<L: Ledger>(
     alloc: Global,
     spare: &mut Share<L>,

@@ -15,7 +15,8 @@ use std::marker::Model;
 use std::sync::ledger::Ledger;
 use std::sync::{Arc, Wait};
 
-/// A clerk at a seat of a desk: its calls, but `pass`, wait for the desk's lock. Contracts see the seat, and what was passed on.
+/// A clerk at a seat of a desk. All its calls except `pass` may wait for the desk's mutex. Contracts see the seat and the actions
+/// passed on.
 #[derive(Drop)]
 pub struct Seated<'a, L: Ledger, R: Wait> {
     rt: &'a R,
@@ -47,14 +48,14 @@ impl<'a, L: Ledger, R: Wait> Seated<'a, L, R> {
         }
     }
 
-    /// What was passed on, in order.
+    /// The actions passed on, in order.
     pub fn passed(&self) -> &[Action]
         ensures { result.now ≡ self.now.passed }
     {
         self.passed.as_slice()
     }
 
-    /// The seat, for the desk to be settled.
+    /// Consumes the clerk and returns its seat, with which the desk is settled.
     pub fn into_seat(self) -> Seat<L>
         ensures { result ≡ self.entry.seat }
     {

@@ -1,4 +1,4 @@
-//! The comparison of the receipts with the book.
+//! Checking receipts against the book.
 ghost use Rattle.std.specs.Prelude.{◌≡◌, ◌<◌, ◌≤◌, ◌+◌, ◌==◌, ℕ, IsTrue, ◌↔◌, length, take, sum_by, count_by, slice_get, Some};
 ghost use Rattle.node_book.specs.Seats.{AreAllOpened};
 ghost use Rattle.node_book.specs.Good.{AreAllGood, IsGoodReceipt, IsGoodAt, IsMisfitAt, IsMisfit, IsLeastOf, lesser_of, numbered, kept_from};
@@ -8,29 +8,29 @@ use crate::seat::Seat;
 use std::sync::ledger::{Ledger, Share};
 use thiserror::Error;
 
-/// Why a desk was not settled.
+/// Errors of settling a desk.
 #[derive(Clone, Copy, Debug, PartialEq, Eq, Error)]
 pub enum SettleFault {
-    /// Other seats than those that were opened.
+    /// These are not the seats that were opened.
     #[error("not the seats that were opened")]
     Seats,
-    /// A receipt is not good: the least number of such a one, from the base on.
+    /// The lowest number, from the base on, of a receipt that is not good.
     #[error("the receipt of event {0} is not good")]
     Misfit(u64),
 }
 
-/// What a settled desk tells.
+/// The result of settling a desk.
 #[derive(Clone, Copy, Debug, PartialEq, Eq)]
 pub struct Report {
-    /// How many events were taken.
+    /// Number of events taken.
     pub count: u64,
-    /// How many of them before the last volume.
+    /// Number of events taken before the last volume.
     pub base: u64,
-    /// How many kept receipts are of the last volume.
+    /// Number of kept receipts for events of the last volume.
     pub matched: u64,
 }
 
-/// Whether these are the seats 0 to `count` - 1, each once.
+/// Whether these are the seats with indices 0 to `count` - 1, each once.
 pub(crate) fn all_opened<L: Ledger>(count: u64, seats: &[Seat<L>]) -> bool
     ensures { IsTrue result ↔ AreAllOpened count seats.now }
 {
@@ -45,14 +45,14 @@ pub(crate) fn all_opened<L: Ledger>(count: u64, seats: &[Seat<L>]) -> bool
     true
 }
 
-/// How many of the seats have this place.
+/// Number of seats with this index.
 fn at_place<L: Ledger>(place: u64, seats: &[Seat<L>]) -> usize
     ensures { result ≡ count_by (λ seat. seat.place == place) seats.now }
 {
     seats.iter().filter(|seat| seat.place() == place).count()
 }
 
-/// How many kept receipts have this number.
+/// Number of kept receipts with this number, over all seats.
 fn how_many<L: Ledger>(number: u64, seats: &[Seat<L>]) -> u64
     requires { length seats.now ≤ 64 }
     ensures { result ≡ numbered number seats.now }
@@ -64,7 +64,7 @@ fn how_many<L: Ledger>(number: u64, seats: &[Seat<L>]) -> u64
     all
 }
 
-/// How many kept receipts have a number from the base on.
+/// Number of kept receipts whose number is at least `base`, over all seats.
 pub(crate) fn how_many_from<L: Ledger>(base: u64, seats: &[Seat<L>]) -> u64
     requires { length seats.now ≤ 64 }
     ensures { result ≡ kept_from base seats.now }
@@ -76,7 +76,7 @@ pub(crate) fn how_many_from<L: Ledger>(base: u64, seats: &[Seat<L>]) -> u64
     all
 }
 
-/// The least number of a receipt of one seat that is not good.
+/// The lowest number, from the base on, of a receipt of one seat that is not good.
 fn seat_misfit<L: Ledger>(booked: &Booked, seats: &[Seat<L>], seat: &Seat<L>) -> Option<u64>
     requires { length seats.now ≤ 64 }
     ensures least { IsLeastOf (λ n. (j : ℕ) × IsMisfitAt booked.now seats.now seat.now.receipts j n) result }
@@ -89,7 +89,7 @@ fn seat_misfit<L: Ledger>(booked: &Booked, seats: &[Seat<L>], seat: &Seat<L>) ->
     least
 }
 
-/// The number of a receipt, if it is at least the base and the receipt is not good.
+/// The number of the receipt at index `j` of a seat, if it is at least the base and the receipt is not good.
 fn misfit_at<L: Ledger>(booked: &Booked, seats: &[Seat<L>], seat: &Seat<L>, j: usize) -> Option<u64>
     requires few { length seats.now ≤ 64 }
     requires at { j < length seat.now.receipts }
@@ -106,7 +106,8 @@ fn misfit_at<L: Ledger>(booked: &Booked, seats: &[Seat<L>], seat: &Seat<L>, j: u
     Some(receipt.number)
 }
 
-/// Whether a receipt is good.
+/// Whether the receipt at index `j` of a seat is good: the book has it, no other kept receipt has its number, and the seat's
+/// earlier receipts have lower numbers.
 fn is_good<L: Ledger>(booked: &Booked, seats: &[Seat<L>], seat: &Seat<L>, j: usize) -> bool
     requires few { length seats.now ≤ 64 }
     requires at { j < length seat.now.receipts }
@@ -116,7 +117,7 @@ fn is_good<L: Ledger>(booked: &Booked, seats: &[Seat<L>], seat: &Seat<L>, j: usi
     booked.has(receipt) && how_many(receipt.number, seats) == 1 && seat.rises_to(j, receipt.number)
 }
 
-/// The lowest number, from the base on, under which a kept receipt isn't good.
+/// The lowest number, from the base on, of a kept receipt that is not good.
 pub(crate) fn least_misfit<L: Ledger>(booked: &Booked, seats: &[Seat<L>]) -> Option<u64>
     requires { length seats.now ≤ 64 }
     ensures least { IsLeastOf (IsMisfit booked.now seats.now) result }
@@ -129,7 +130,7 @@ pub(crate) fn least_misfit<L: Ledger>(booked: &Booked, seats: &[Seat<L>]) -> Opt
     least
 }
 
-/// The lesser of two numbers that may be there.
+/// The lesser of two optional numbers; an absent one is ignored.
 fn lesser(a: Option<u64>, b: Option<u64>) -> Option<u64>
     ensures { result ≡ lesser_of a b }
 {
@@ -140,7 +141,7 @@ fn lesser(a: Option<u64>, b: Option<u64>) -> Option<u64>
     }
 }
 
-/// Joins the shares of all seats.
+/// Merges the shares of all seats into `all`.
 pub(crate) fn gather<L: Ledger>(all: &mut Share<L>, seats: Vec<Seat<L>>)
     ensures parts { all.new.parts ≡ all.old.parts + length seats.items }
     ensures amount { all.new.amount ≡ all.old.amount + sum_by (λ s. s.share) seats.items }

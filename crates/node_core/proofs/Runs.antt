@@ -1,4 +1,4 @@
--- Runs of lists that are joined.
+-- Runs over concatenated lists.
 use Rattle.std.proofs.Common.{◌≡◌, ◌<◌, ℕ, ◌+◌, length, take, map, get_or, Bool, true, List, [], ◌∷◌, ◌++◌, Option, Some, None, refl, ap, sym, ◌∙◌, arith}
 use Rattle.std.proofs.lemmas.Bool.Decides.{nat_tests}
 use Rattle.std.proofs.lemmas.List.{map_more, take-map}
@@ -44,7 +44,7 @@ run_actions-append : (node : PlainNode) (xs ys : List PlainEvent) → run_action
 run_actions-append node [] ys = refl
 run_actions-append node (x ∷ xs) ys = rw (run_actions-append (plain_step node x).0 xs ys) refl
 
--- the lists of the first places are exactly theirs
+-- the actions of a prefix of the events are those of its own run
 laid_out-append : (node : PlainNode) (xs ys : List (Option PlainEvent)) (lists : List (List Action)) → laid_out (xs ++ ys) (run_actions node (present xs) ++ lists) ≡ laid_out xs (run_actions node (present xs)) ++ laid_out ys lists
 laid_out-append node [] ys lists = refl
 laid_out-append node (None ∷ xs) ys lists = rw (laid_out-append node xs ys lists) refl
@@ -95,7 +95,7 @@ HasTaken-append old mid new xs ys outs lists a b = record {
   sent = rw (a.sent, b.sent, a.plain, a.filters) (sym (answers-append old.plain old.filters xs ys));
 }
 
--- the first places with one more, each read as what it says
+-- a prefix of the events, by value, with one more
 take_more-happening : (events : List Event) (event : Event) (i : ℕ) → i < length events → event ≡ get_or events i event → take (i + 1) (map happening events) ≡ take i (map happening events) ++ happening event ∷ []
 take_more-happening events event i lt is =
     take-map happening (i + 1) events ∙ map_more happening events i event lt ∙ ap (λ (x : Event). map happening (take i events) ++ happening x ∷ []) (sym is) ∙ ap (λ (xs : List Happening). xs ++ happening event ∷ []) (sym (take-map happening i events))

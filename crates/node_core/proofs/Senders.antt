@@ -1,4 +1,4 @@
--- The neighbours of a setup without a fault can have slots.
+-- The neighbours of a setup without a fault satisfy the requirements of slots: few, and with distinct addresses.
 use Rattle.std.proofs.Common.{◌≡◌, ℕ, zero, suc, ◌≤◌, ◌==◌, nat_lt, Bool, true, false, ◌||◌, List, [], ◌∷◌, length, map, Option, Some, None, refl, ap, sym, ◌∙◌, arith}
 use Rattle.std.specs.Prelude.{slice_get, if◌then◌else◌}
 use Rattle.std.specs.List.{list_any}
@@ -45,7 +45,7 @@ length-senders (x ∷ ns) = ap suc (length-senders ns)
 within : (n : ℕ) → nat_lt 64 n ≡ false → n ≤ 64
 within n e = grind (arith, nat_tests)
 
--- a neighbour at an end has that end
+-- a neighbour in the list is found by its address
 any-there : (e : End) (ns : List Neighbour) (n : ℕ) (pair : Socket × End) → slice_get (map sender_of ns) n ≡ Some pair → pair.1 ≡ e
     → list_any (λ other. same_end other.end e) ns ≡ true
 any-there e [] n pair at is = let no : ⊥ = cc in absurd no

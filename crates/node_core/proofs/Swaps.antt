@@ -40,13 +40,13 @@ pub has-filters_after : (place : Slot) (filters : Filters) (events : List Happen
 has-filters_after place filters [] = refl
 has-filters_after place filters (e ∷ es) = has-filters_after place (swapped filters e) es ∙ has-swapped place filters e
 
--- the program that was put in, where there is such a neighbour
+-- the program installed, if there is such a neighbour
 program-same : (neighbours : List NeighbourSlot) (n : ℕ) (program : Option (List Insn)) → n < length neighbours → program_at (with_program neighbours n program) n ≡ program
 program-same [] n program lt = absurd (omega arith)
 program-same (first ∷ others) zero program lt = refl
 program-same (first ∷ others) (suc n) program lt = program-same others n program (omega arith)
 
--- the others' are as before
+-- the programs of other neighbours are unchanged
 program-other : (neighbours : List NeighbourSlot) (m n : ℕ) (program : Option (List Insn)) → (m ≡ n → ⊥) → program_at (with_program neighbours n program) m ≡ program_at neighbours m
 program-other [] m n program differs = refl
 program-other (first ∷ others) zero zero program differs = absurd (differs refl)
@@ -59,7 +59,7 @@ same_or_not m n =
     let cases : (m ≡ n) ⊎ (m ≢ n) = grind arith in
     elim cases [ inl e ↦ inl (grind (arith, nat_tests), e) | inr d ↦ inr (grind (arith, nat_tests), d) ]
 
--- whichever it is
+-- both cases
 program-with : (neighbours : List NeighbourSlot) (m n : ℕ) (program : Option (List Insn)) → nat_lt m (length neighbours) ≡ true
     → program_at (with_program neighbours n program) m ≡ unwrap_or (if m == n then Some program else None) (program_at neighbours m)
 program-with neighbours m n program has =
@@ -137,7 +137,7 @@ accepted-joined (ends number attempt outcome now ∷ xs) ys first later = accept
 accepted-joined (leaves client ∷ xs) ys first later = accepted-joined xs ys first later
 accepted-joined (swaps place program ∷ xs) ys first later = (first.0, accepted-joined xs ys first.1 later)
 
--- a swap of a slot that there isn't changes nothing
+-- a swap of an unknown slot changes nothing
 beyond-with : (neighbours : List NeighbourSlot) (n : ℕ) (program : Option (List Insn)) → length neighbours ≤ n → with_program neighbours n program ≡ neighbours
 beyond-with [] n program beyond = refl
 beyond-with (first ∷ others) zero program beyond = absurd (omega arith)

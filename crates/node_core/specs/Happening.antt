@@ -1,4 +1,4 @@
--- What happens to a node, as plain values: events without their places in memory.
+-- Events as plain values, independent of how they are stored.
 use Rattle.std.specs.Prelude.{ℕ, List, Option}
 use Rattle.std.specs.Option.{option_map}
 use Rattle.std.specs.Arc.{arc_value}
@@ -10,8 +10,8 @@ use Rattle.node_core.specs.declared.event.Event.TheVariants as event
 use Rattle.plain_node.specs.declared.event.Mode.{Mode}
 use Rattle.plain_node.specs.declared.event.Outcome.{Outcome}
 
--- a datagram arrives at a moment; a client asks for a key; time goes by; a fetch's attempt ends; a client goes away; or a slot's program is
--- replaced or taken out
+-- a datagram arrives; a client requests a key; the clock reaches a time; a fetch attempt ends; a client disconnects; or a slot's
+-- program is replaced or removed
 pub data Happening : Type 0 where
   arrives : (datagram : DatagramFields) (now : ℕ) → Happening
   asks : (client : ℕ) (key : List ℕ) (mode : Mode) (now : ℕ) → Happening
@@ -20,7 +20,7 @@ pub data Happening : Type 0 where
   leaves : (client : ℕ) → Happening
   swaps : (place : Slot) (program : Option (List Insn)) → Happening
 
--- what an event says
+-- the value of an event
 abbrev pub happening : Event → Happening
 happening (event.Datagram datagram now) = arrives (arc_value datagram) now
 happening (event.Request client key mode now) = asks client key mode now

@@ -1,4 +1,4 @@
--- One more datagram, as the functions that count promise it to one another: no public promise speaks of these.
+-- The counters after one more datagram. Only private contracts use these definitions.
 use Rattle.std.specs.Prelude.{Bool}
 use Rattle.bpf_run.specs.declared.ends.Socket.{Socket}
 use Rattle.bpf_run.specs.declared.ends.Socket.TheVariants.{Icp, Htcp}
@@ -8,7 +8,7 @@ use Rattle.node_core.specs.declared.stats.Counters.{Counters}
 use Rattle.node_core.specs.declared.stats.Stats.{Stats}
 use Rattle.node_core.specs.Counters.{plus, one_if, is_rejected, is_cut, is_malformed}
 
--- a socket's counters with one more datagram
+-- one socket's counters after one more datagram
 abbrev pub raised : Counters → Bool → Bool → Bool → Counters
 raised counters rejected was_cut malformed = record {
   judged = plus counters.judged 1;
@@ -17,12 +17,12 @@ raised counters rejected was_cut malformed = record {
   malformed = plus counters.malformed (one_if malformed);
 }
 
--- a socket's counters raised, and the other's as they were
+-- one socket's counters raised, the other's unchanged
 abbrev pub raised_at : Socket → Stats → Bool → Bool → Bool → Stats
 raised_at Icp stats rejected was_cut malformed = record stats { icp = raised stats.icp rejected was_cut malformed }
 raised_at Htcp stats rejected was_cut malformed = record stats { htcp = raised stats.htcp rejected was_cut malformed }
 
--- the counters with one more datagram, as it is judged
+-- the counters after one more datagram, as the filters judge it
 abbrev pub counted_datagram : Stats → Filters → DatagramFields → Stats
 counted_datagram stats filters datagram =
     raised_at datagram.socket stats (is_rejected filters datagram) (is_cut filters datagram) (is_malformed filters datagram)

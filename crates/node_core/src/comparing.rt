@@ -1,4 +1,4 @@
-//! Events and what they hold, compared by value.
+//! Equality of events and their parts, by value.
 ghost use Rattle.std.specs.Prelude.{◌≡◌, ◌↔◌, IsTrue};
 ghost use Rattle.std.specs.Arc.{arc_value};
 ghost use Rattle.std.specs.Option.{option_map};
@@ -18,7 +18,7 @@ pub fn same_tally(a: &Tally, b: &Tally) -> bool
     a == b
 }
 
-/// Whether two attempts ended alike: with equal objects, or both without one.
+/// Whether two outcomes are equal: equal objects, or both failed.
 pub fn same_outcome(a: &Outcome, b: &Outcome) -> bool
     ensures { IsTrue result ↔ (a.now ≡ b.now) }
 {
@@ -29,7 +29,7 @@ pub fn same_outcome(a: &Outcome, b: &Outcome) -> bool
     }
 }
 
-/// Whether two events say the same, wherever they lie in memory.
+/// Whether two events are equal by value, wherever they are stored.
 pub fn same_event(a: &Event, b: &Event) -> bool
     ensures { IsTrue result ↔ (happening a.now ≡ happening b.now) }
 {
@@ -53,7 +53,7 @@ pub fn same_event(a: &Event, b: &Event) -> bool
     }
 }
 
-// Whether an event is that this datagram arrives now.
+// Whether the event is the arrival of this datagram at `now`.
 fn is_arrival(event: &Event, datagram: &Datagram, now: Moment) -> bool
     ensures { IsTrue result ↔ (arrives datagram.now now ≡ happening event.now) }
 {
@@ -66,7 +66,7 @@ fn is_arrival(event: &Event, datagram: &Datagram, now: Moment) -> bool
     }
 }
 
-// Whether an event is that this client asks now for this key.
+// Whether the event is this client's request for this key in this mode at `now`.
 fn is_request(event: &Event, client: u64, key: &CacheKey, mode: Mode, now: Moment) -> bool
     ensures { IsTrue result ↔ (asks client key.now mode now ≡ happening event.now) }
 {
@@ -81,7 +81,7 @@ fn is_request(event: &Event, client: u64, key: &CacheKey, mode: Mode, now: Momen
     }
 }
 
-// Whether an event is that time went by until now.
+// Whether the event is a timer event at `now`.
 fn is_timer(event: &Event, now: Moment) -> bool
     ensures { IsTrue result ↔ (ticks now ≡ happening event.now) }
 {
@@ -91,7 +91,7 @@ fn is_timer(event: &Event, now: Moment) -> bool
     }
 }
 
-// Whether an event is that this attempt ended so now.
+// Whether the event is the end of this fetch attempt with this outcome at `now`.
 fn is_end(event: &Event, fetch: u32, attempt: u16, outcome: &Outcome, now: Moment) -> bool
     ensures { IsTrue result ↔ (ends fetch attempt outcome.now now ≡ happening event.now) }
 {
@@ -108,7 +108,7 @@ fn is_end(event: &Event, fetch: u32, attempt: u16, outcome: &Outcome, now: Momen
     }
 }
 
-// Whether an event is that this client went away.
+// Whether the event is the disconnect of this client.
 fn is_parting(event: &Event, client: u64) -> bool
     ensures { IsTrue result ↔ (leaves client ≡ happening event.now) }
 {
@@ -118,7 +118,7 @@ fn is_parting(event: &Event, client: u64) -> bool
     }
 }
 
-// Whether an event gives this slot this program, or takes its program out.
+// Whether the event installs this program in this slot, or clears the slot if `program` is `None`.
 fn is_swap(event: &Event, slot: Slot, program: &Option<Arc<Checked>>) -> bool
     ensures { IsTrue result ↔ (swaps slot (option_map (λ arc. arc_value arc) program.now) ≡ happening event.now) }
 {
@@ -131,7 +131,7 @@ fn is_swap(event: &Event, slot: Slot, program: &Option<Arc<Checked>>) -> bool
     }
 }
 
-// Whether two programs are equal, or there is neither.
+// Whether two programs are equal, or both are absent.
 fn same_program(a: &Option<Arc<Checked>>, b: &Option<Arc<Checked>>) -> bool
     ensures { IsTrue result ↔ (option_map (λ arc. arc_value arc) a.now ≡ option_map (λ arc. arc_value arc) b.now) }
 {

@@ -1,4 +1,4 @@
-//! What happens to a node.
+//! The events that a node takes.
 ghost use Rattle.std.specs.Prelude.{◌∷◌, []};
 ghost use Rattle.node_core.specs.Happening.{happening};
 ghost use Rattle.node_core.specs.Swaps.{PutsInAccepted};
@@ -9,7 +9,8 @@ use object_store::CacheKey;
 use plain_node::{Mode, Outcome};
 use std::sync::Arc;
 
-/// What happens to a node.
+/// An input of the node's state machine. `now` is the event's time in milliseconds, from an origin of the
+/// caller's choice.
 #[derive(Drop)]
 pub enum Event {
     /// A datagram arrived at a socket.
@@ -17,29 +18,30 @@ pub enum Event {
         datagram: Arc<Datagram>,
         now: Moment,
     },
-    /// A client asks for a key.
+    /// A client requests the object of a key.
     Request {
         client: u64,
         key: CacheKey,
         mode: Mode,
         now: Moment,
     },
-    /// Time went by.
+    /// The clock reached `now`.
     Timer {
         now: Moment,
     },
-    /// An attempt of a fetch ended.
+    /// A fetch attempt ended with this outcome.
     Fetched {
         fetch: u32,
         attempt: u16,
         result: Outcome,
         now: Moment,
     },
-    /// A client went away.
+    /// A client disconnected.
     Gone {
         client: u64,
     },
-    /// The filter of a socket or of a neighbour is replaced, or taken out. Where there is no such slot nothing changes.
+    /// The filter of a slot, a socket's or a neighbour's, is replaced, or removed if `program` is `None`. An unknown slot is
+    /// ignored.
     Swap {
         slot: Slot,
         program: Option<Arc<Checked>>,
@@ -47,7 +49,7 @@ pub enum Event {
 }
 
 impl Event {
-    /// Does nothing. Its contract says that a program that is put in is one that the checker accepts.
+    /// A fact about every event: a program that a swap installs is one that the checker accepts. Changes nothing.
     pub fn facts(&self)
         ensures { PutsInAccepted (happening self.now ∷ []) }
     {

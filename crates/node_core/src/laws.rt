@@ -1,4 +1,4 @@
-//! Laws of the definitions, for the layers above.
+//! Laws of the definitions in specs/, as empty functions that other crates can call.
 ghost use Rattle.std.specs.Prelude.{◌≡◌, ℕ, true, List, ◌∷◌, [], ◌++◌, length, unwrap_or};
 ghost use Rattle.filter_slots.specs.Datagram.{DatagramFields};
 ghost use Rattle.filter_slots.specs.declared.slot.Slot.{Slot};
@@ -13,8 +13,8 @@ ghost use Rattle.node_core.specs.Run.{run_node, answers};
 ghost use Rattle.node_core.specs.Counters.{counted};
 ghost use Rattle.node_core.specs.State.{State, HasTaken, state_after, actions_at};
 
-/// Taking no event changes nothing, and taking more events goes on from what the events before left: one event, or a list of
-/// them. There is a list of actions for each event, and those of joined lists are joined.
+/// Runs compose. No event changes nothing; a run followed by one event, or by a run over a list of events, is a run over the
+/// concatenated events, and its actions are concatenated too. Every event has exactly one list of actions.
 pub fn append_law()
     ensures none { (state : State) → HasTaken state state [] [] }
     ensures one { (old mid new : State) (events : List Happening) (event : Happening) (outs : List (List Action)) (actions : List Action) →
@@ -27,7 +27,8 @@ pub fn append_law()
     ensures count { (node : PlainNode) (filters : Filters) (events : List Happening) → length (answers node filters events) ≡ length events }
 {}
 
-/// Taking one event reaches one state by one list of actions, and what is taken after it is taken from there.
+/// One event leads to exactly one state and one list of actions; a run over a list is its first event, then a run over the rest
+/// from that state.
 pub fn step_law()
     ensures taken { (old : State) (event : Happening) → HasTaken old (state_after old event) (event ∷ []) (actions_at old event ∷ []) }
     ensures state { (old new : State) (event : Happening) (actions : List Action) →
@@ -47,9 +48,8 @@ pub fn step_law()
         answers old.plain old.filters (event ∷ events) ≡ actions_at old event ∷ answers mid.plain mid.filters events }
 {}
 
-/// Wherever a datagram of verdict 0 stands in a list of events, the plain node, the filters and the actions are as if it did
-/// not: the events that are kept are the same, its own list of actions is empty, and all others are those of the events
-/// without it. Only counters change.
+/// A datagram with verdict 0 can be removed from any list of events: the events kept are the same, the filters are the same, its
+/// own list of actions is empty, and all other events have the actions they have without it. Only counters differ.
 pub fn rejected_law()
     ensures kept { (filters : Filters) (before after : List Happening) (datagram : DatagramFields) (now : ℕ) →
         verdict_in_force (filters_after filters before) datagram ≡ 0 →
@@ -62,15 +62,15 @@ pub fn rejected_law()
         ≡ answers node filters before ++ [] ∷ answers (run_node node (kept filters before)) (filters_after filters before) after }
 {}
 
-/// What is kept at a place among events is what is kept of that event under the filters after the events before it.
+/// What is kept of an event in a list depends only on the event and the filters in force after the events before it.
 pub fn kept_law()
     ensures { (filters : Filters) (before after : List Happening) (event : Happening) →
         kept_places filters (before ++ event ∷ after)
         ≡ kept_places filters before ++ kept_event (filters_after filters before) event ∷ kept_places (filters_after filters (before ++ event ∷ [])) after }
 {}
 
-/// The program in force in a slot is that of the last swap of the slot, or the one that stood there first. No event makes a slot
-/// or takes one away.
+/// The program in force in a slot is the one that its last swap installed, or the initial one if it was never swapped. No event
+/// adds or removes a slot.
 pub fn filters_law()
     ensures programs { (place : Slot) (filters : Filters) (events : List Happening) → has_slot filters place ≡ true →
         slot (filters_after filters events) place ≡ unwrap_or (last_swap place events) (slot filters place) }
@@ -78,8 +78,8 @@ pub fn filters_law()
         has_slot (filters_after filters events) place ≡ has_slot filters place }
 {}
 
-/// Where each program that is put in is one that the checker accepts, so is each program in force: the verdicts in force are then
-/// those of the programs' one run. Of joined lists each program is accepted where it is of both.
+/// If the checker accepts every installed program, it accepts every program in force, so the verdicts in force are the results of
+/// running those programs. The condition holds of concatenated lists if it holds of both.
 pub fn accepted_law()
     ensures after { (filters : Filters) (events : List Happening) →
         AreAccepted filters → PutsInAccepted events → AreAccepted (filters_after filters events) }

@@ -1,5 +1,9 @@
-//! The node: a state machine over events. A datagram is judged by the filters of its socket and its sender, cut to the verdict,
-//! and what is left is taken by a node that knows of no filter (`plain_node`).
+//! The node: a deterministic state machine over events, with filters and counters in front of a node that knows no filters
+//! (`plain_node`). A datagram is judged by the filters of its socket and of its sender, truncated to the verdict, and passed on.
+//! Contracts see a `State`: the plain node, the program of each slot and the counters. `HasTaken` relates the states before and
+//! after a list of events to the actions of each event.
+//! Tested by: crates/test_node, crates/test_book, crates/test_judging, crates/test_storm, crates/test_refusals, must-fail edits,
+//! more-edits.
 #![tactic(auto)]
 
 mod comparing;

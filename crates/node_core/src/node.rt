@@ -1,4 +1,4 @@
-//! The node: filters in front of the plain node, counters beside it.
+//! The node: filters and counters in front of the plain node.
 ghost use Rattle.std.specs.Prelude.{◌≡◌, ◌≤◌, ◌∷◌, [], length, map, true, false, IfOk, IfErr, OnOk, OnErr, IsOk, None, unwrap_or, option_copied};
 ghost use Rattle.std.specs.Option.{option_map};
 ghost use Rattle.std.specs.Arc.{arc_value};
@@ -9,7 +9,7 @@ ghost use Rattle.object_store.specs.Store.{IsStore};
 ghost use Rattle.pending_fetch.specs.Legal.{IsLegal};
 ghost use Rattle.node_core.specs.Swaps.{PutsInAccepted};
 ghost use Rattle.pending_fetch.specs.Fetches.{PendingFetch, fetch_of};
-ghost use Rattle.plain_node.specs.PlainNode.{moved};
+ghost use Rattle.plain_node.specs.PlainNode.{at_clock};
 ghost use Rattle.plain_node.specs.Settings.{setup_of, setup_fault};
 ghost use Rattle.plain_node.specs.Plain.{Requested, Ticked, Ended, Left, plain_step};
 ghost use Rattle.node_core.specs.Happening.{happening, arrives};
@@ -17,6 +17,7 @@ ghost use Rattle.node_core.specs.Kept.{kept_datagram};
 ghost use Rattle.node_core.specs.Run.{plain_after, actions_of};
 ghost use Rattle.node_core.specs.Raised.{counted_datagram};
 ghost use Rattle.node_core.specs.State.{sender_of};
+ghost use Rattle.plain_node.specs.Bounds.{most_actions};
 
 use crate::NoMemory;
 use crate::event::Event;
@@ -50,9 +51,9 @@ impl Node {
     ghost use Rattle.node_core.specs.State.{HasTaken, TakesNone, opening, keeps_key};
     ghost use Rattle.plain_node.specs.Memory.{sends_none, asks_none, ends_none};
 
-    /// The node of a configuration, with a slot for each neighbour and no filter, nothing stored, nothing pending and nothing
-    /// counted. Errors: what is wrong with the neighbours and keys, else a prefix or a limit out of its range, else that there was
-    /// no memory.
+    /// Creates the node of a configuration, with a slot for each neighbour, no filters, an empty store, no pending fetches and
+    /// all counters at 0. Errors: a fault of the neighbours or keys, else a prefix or limit out of range, else allocation
+    /// failure.
     pub fn new(alloc: Global, config: Config) -> Result<Node, NodeFault>
         ensures opens { IfOk result (λ node. node ≡ opening (setup_of config)) }
         ensures faultless { OnOk result (setup_fault (setup_of config) ≡ None) }
@@ -73,8 +74,8 @@ impl Node {
         })
     }
 
-    /// An equal node, with memory of its own; programs and objects are shared. An error says that there was no memory, or that
-    /// one of these has too many owners.
+    /// An equal node with its own memory; programs and objects are shared. Errors: allocation failure, or a reference count at
+    /// its maximum.
     pub fn copy(&self, alloc: Global) -> Result<Node, NoMemory>
         ensures { IfOk result (λ copy. copy ≡ self.now) }
     {
@@ -87,14 +88,14 @@ impl Node {
         })
     }
 
-    /// What was counted.
+    /// The datagram counters of both sockets.
     pub fn stats(&self) -> Stats
         ensures { result ≡ self.now.stats }
     {
         self.stats
     }
 
-    /// The programs in force. Each is one that the checker accepts.
+    /// The programs in force, each of which the checker accepts.
     pub fn programs(&self) -> &Slots
         ensures same { result.now ≡ self.now.filters }
         ensures accepted { AreAccepted self.now.filters }
@@ -103,22 +104,22 @@ impl Node {
         &self.slots
     }
 
-    /// The neighbours, and what their replies told.
+    /// The neighbour table: the neighbours and what is known of each from its replies.
     pub fn neighbours(&self) -> &Table
         ensures { result.now ≡ self.now.plain.rows }
     {
         self.core.neighbours()
     }
 
-    /// The key of a pending fetch.
+    /// The key of a pending fetch, or `None` if no fetch of this number is pending.
     pub fn key_of(&self, fetch: u32) -> Option<&CacheKey>
         ensures { option_copied result ≡ option_map (λ (f : PendingFetch). f.key) (fetch_of fetch self.now.plain.fetches.list) }
     {
         self.core.key_of(fetch)
     }
 
-    /// What holds at every time: the pending fetches, the store and the neighbours are within their limits, and each program
-    /// in force is one that the checker accepts. It does nothing.
+    /// The invariants: the pending fetches, the store and the neighbours are within their limits, and the checker accepts every
+    /// program in force. Changes nothing.
     pub fn facts(&self)
         ensures legal { IsLegal self.now.plain.fetches.list }
         ensures store { IsStore self.now.plain.store }
@@ -129,14 +130,14 @@ impl Node {
         self.slots.facts();
     }
 
-    /// Takes one event, and writes its actions to an empty `out`, at most 1,344. An error says that there was no memory, or that
-    /// a program has too many owners: the node is as before, and `out` is empty.
+    /// Takes one event and writes its actions, at most 1,344, to `out`, which must be empty. Errors: allocation failure, or a
+    /// reference count at its maximum; the node is then unchanged and `out` is empty.
     pub fn step(&mut self, alloc: Global, event: &Event, out: &mut Out) -> Result<(), NoMemory>
         requires { out.old ≡ [] }
         ensures taken { OnOk result (HasTaken self.old self.new (happening event.now ∷ []) (out.new ∷ [])) }
         ensures refused { OnErr result ((self.new ≡ self.old) × (out.new ≡ [])) }
         ensures without_memory { TakesNone self.old (happening event.now) → IsOk result }
-        ensures room { length out.new ≤ 1344 }
+        ensures room { length out.new ≤ most_actions }
         ensures accepted { PutsInAccepted (happening event.now ∷ []) }
     {
         event.facts();
@@ -145,8 +146,8 @@ impl Node {
         result
     }
 
-    /// Takes one datagram that is judged already. Its verdict counts where each of its two programs is equal to the one in force, or
-    /// both have none; otherwise the datagram is judged here. So it is taken exactly as by `step`, and errors are those of `step`.
+    /// Takes a datagram that was judged before. The verdict it carries is used if both of its programs equal those in force (two
+    /// absent programs are equal); otherwise the datagram is judged again. The effect and the errors are those of `step`.
     pub fn step_judged(
         &mut self,
         alloc: Global,
@@ -158,7 +159,7 @@ impl Node {
         ensures taken { OnOk result (HasTaken self.old self.new (arrives judged.now.datagram now ∷ []) (out.new ∷ [])) }
         ensures refused { OnErr result ((self.new ≡ self.old) × (out.new ≡ [])) }
         ensures without_memory { TakesNone self.old (arrives judged.now.datagram now) → IsOk result }
-        ensures room { length out.new ≤ 1344 }
+        ensures room { length out.new ≤ most_actions }
     {
         let verdict = self.slots.force_judged(judged).value;
         let result = self.judged(alloc, judged.datagram(), verdict, now, out);
@@ -166,7 +167,7 @@ impl Node {
         result
     }
 
-    /// Takes one event.
+    /// Dispatches an event by its kind.
     fn take(&mut self, alloc: Global, event: &Event, out: &mut Out) -> Result<(), NoMemory>
         requires { out.old ≡ [] }
         ensures taken { OnOk result (HasTaken self.old self.new (happening event.now ∷ []) (out.new ∷ [])) }
@@ -199,7 +200,7 @@ impl Node {
         }
     }
 
-    /// Judges a datagram, and takes what its verdict lets through.
+    /// Judges a datagram and handles what its verdict lets through.
     fn datagram(
         &mut self,
         alloc: Global,
@@ -216,7 +217,7 @@ impl Node {
         self.judged(alloc, datagram, verdict, now, out)
     }
 
-    /// Takes what its verdict in force lets through of a datagram.
+    /// Handles a datagram with its verdict in force: drops it at 0, else truncates it to the verdict for the plain node.
     fn judged(
         &mut self,
         alloc: Global,
@@ -246,7 +247,7 @@ impl Node {
         Ok(())
     }
 
-    /// A client asks for a key.
+    /// Handles a client's request for a key.
     fn request(
         &mut self,
         alloc: Global,
@@ -262,12 +263,12 @@ impl Node {
         ensures filters { OnOk result (self.new.filters ≡ self.old.filters) }
         ensures stats { OnOk result (self.new.stats ≡ self.old.stats) }
         ensures refused { OnErr result ((self.new ≡ self.old) × (out.new ≡ [])) }
-        ensures silent { asks_none (moved self.old.plain now) client key.now mode ≡ true → IsOk result }
+        ensures silent { asks_none (at_clock self.old.plain now) client key.now mode ≡ true → IsOk result }
     {
         self.core.request(alloc, client, key, mode, now, out)
     }
 
-    /// Time goes by.
+    /// Handles a timer event.
     fn timer(&mut self, now: Moment, out: &mut Out)
         requires { out.old ≡ [] }
         ensures plain { self.new.plain ≡ (plain_step self.old.plain (Ticked now)).0 }
@@ -278,7 +279,7 @@ impl Node {
         self.core.timer(now, out);
     }
 
-    /// An attempt of a fetch ended.
+    /// Handles the end of a fetch attempt.
     fn fetched(
         &mut self,
         fetch: u32,
@@ -298,7 +299,7 @@ impl Node {
         self.core.fetched(fetch, attempt, outcome, now, out)
     }
 
-    /// A client went away.
+    /// Handles a client's disconnect.
     fn gone(&mut self, client: u64)
         ensures plain { self.new.plain ≡ (plain_step self.old.plain (Left client)).0 }
         ensures filters { self.new.filters ≡ self.old.filters }
@@ -307,7 +308,7 @@ impl Node {
         self.core.leave(client);
     }
 
-    /// Replaces a program, or takes it out. Where there is no such slot nothing changes.
+    /// Replaces or removes the program of a slot. An unknown slot is ignored.
     #[tactic(auto, using(crate::proofs::Swaps::with_nowhere))]
     fn swap(&mut self, slot: Slot, program: &Option<Arc<Checked>>) -> Result<(), NoMemory>
         ensures plain { OnOk result (self.new.plain ≡ self.old.plain) }
@@ -333,7 +334,7 @@ impl Node {
     }
 }
 
-/// The sockets and ends of the neighbours.
+/// The socket of each neighbour, with the neighbour's address and port.
 fn senders_of(alloc: Global, neighbours: &[Neighbour]) -> Result<Vec<(Socket, End)>, NoMemory>
     ensures { IfOk result (λ senders. senders.items ≡ map sender_of neighbours.now) }
 {
@@ -344,7 +345,7 @@ fn senders_of(alloc: Global, neighbours: &[Neighbour]) -> Result<Vec<(Socket, En
     Ok(senders)
 }
 
-/// No program, and a slot for each of these neighbours.
+/// Slots for both sockets and for each of these neighbours, without programs.
 fn slots_for(senders: &[(Socket, End)]) -> Slots
     requires { AreNeighbours senders.now }
     ensures { result ≡ no_filters senders.now }

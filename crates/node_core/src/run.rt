@@ -1,4 +1,4 @@
-//! Whole lists of events.
+//! Runs over lists of events.
 ghost use Rattle.std.specs.Prelude.{◌≤◌, length, take, map, IfOk, IfErr};
 ghost use Rattle.node_core.specs.Happening.{happening};
 ghost use Rattle.node_core.specs.State.{HasTaken};
@@ -9,18 +9,18 @@ use crate::node::Node;
 use plain_node::Out;
 use std::alloc::Global;
 
-/// The run stopped where memory, or the sharing of a program, was refused: the node has taken `done` events, and `outs`
+/// A run that stopped at an allocation failure or a reference count at its maximum: the node has taken `done` events, and `outs`
 /// has the actions of each.
 #[derive(Drop)]
 pub struct RunFault {
-    /// How many events were taken.
+    /// Number of events taken.
     pub done: usize,
-    /// The actions of each of them.
+    /// The actions of each event taken.
     pub outs: Vec<Out>,
 }
 
-/// Takes the events in order, and gives the actions of each. The node and the actions are those of a node without
-/// filters, given what the filters keep of the events.
+/// Takes the events in order and returns the actions of each. The node and the actions are those of a node without filters
+/// that is given what the filters keep of the events.
 pub fn run_events(alloc: Global, node: &mut Node, events: &[Event]) -> Result<Vec<Out>, RunFault>
     ensures all { IfOk result (λ outs. HasTaken node.old node.new (map happening events.now) outs.items) }
     ensures some { IfErr result (λ fault. (fault.done ≤ length events.now)

@@ -1,24 +1,24 @@
-//! What is counted.
+//! Datagram counters.
 ghost use Rattle.std.specs.Prelude.{◌≡◌};
 ghost use Rattle.node_core.specs.Raised.{raised, raised_at};
 
 use filter_slots::Socket;
 
-/// How many datagrams a socket had, and what became of them. Each counter stays at its greatest number.
+/// Numbers of datagrams at one socket, by what became of them. Saturating.
 #[derive(Clone, Copy, Debug, PartialEq, Eq)]
 pub struct Counters {
-    /// All that came.
+    /// All datagrams.
     pub judged: u64,
-    /// Those of verdict 0.
+    /// Datagrams with verdict 0.
     pub rejected: u64,
-    /// Those of another verdict of which fewer octets were handed on.
+    /// Accepted, but truncated.
     pub cut: u64,
-    /// Those of another verdict whose handed on octets are no message.
+    /// Accepted, but failed to decode.
     pub malformed: u64,
 }
 
 impl Counters {
-    /// No datagram yet.
+    /// All counters at 0.
     pub(crate) const ZERO: Counters = Counters {
         judged: 0,
         rejected: 0,
@@ -26,7 +26,7 @@ impl Counters {
         malformed: 0,
     };
 
-    /// With one more datagram.
+    /// The counters after one more datagram.
     fn raised(self, rejected: bool, cut: bool, malformed: bool) -> Counters
         ensures { result ≡ raised self rejected cut malformed }
     {
@@ -47,7 +47,7 @@ pub struct Stats {
 }
 
 impl Stats {
-    /// With one more datagram of the socket.
+    /// The counters after one more datagram at this socket.
     pub(crate) fn raised(self, socket: Socket, rejected: bool, cut: bool, malformed: bool) -> Stats
         ensures { result ≡ raised_at socket self rejected cut malformed }
     {

@@ -1,4 +1,4 @@
--- The piece between two places of the octets.
+-- The octets between two indices.
 use Rattle.std.proofs.Common.{◌≡◌, ◌≤◌, ◌<◌, ◌++◌, ◌+◌, ◌-◌, ℕ, List, length, take, drop, Ok, refl, sym, ap, ◌∙◌, inl, arith}
 use Rattle.std.proofs.lemmas.List.{take-append-drop, drop-drop, length-take-le, length-drop}
 use Rattle.http_body.specs.Frame.{data_frame}
@@ -14,7 +14,7 @@ rest_after octets next end some =
     let place : next + (end - next) ≡ end = omega arith in
     drop-drop (end - next) next octets ∙ ap (λ n. drop n octets) place
 
--- it is the first of what is left before it, and leaves what is left after it
+-- they are the first of the octets from the lower index on; those from the upper index on remain
 pub gives_piece : (octets : List ℕ) (next end : ℕ) → next < end → end ≤ length octets → end ≤ next + 65536
     → Gives (drop next octets) (Ok (data_frame (take (end - next) (drop next octets)))) (drop end octets)
 gives_piece octets next end some within most =

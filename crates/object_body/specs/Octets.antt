@@ -1,8 +1,8 @@
--- The octets that a body hands out.
+-- The octets of a body.
 use Rattle.std.specs.Prelude.{ℕ, List}
 use Rattle.object_body.specs.declared.Source.{Source}
 use Rattle.object_body.specs.declared.Source.TheVariants.{Object, Text}
 
-abbrev pub octets_of : Source → List ℕ
-octets_of (Object object) = object.body
-octets_of (Text text) = text.items
+abbrev pub source_octets : Source → List ℕ
+source_octets (Object object) = object.body
+source_octets (Text text) = text.items

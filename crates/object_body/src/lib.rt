@@ -1,9 +1,14 @@
-//! A body that hands out an object, which many answers share, a piece at a time.
+//! The HTTP body of a response: the octets of a text, or of a stored object that many responses share, at most 64 KiB a frame.
+//!
+//! Contracts see a body as the octets that remain. They prove that the frames are those octets in order, that the body ends only
+//! when none remain, and that the size hint is exact; an allocation failure loses nothing.
+//!
+//! Tested by: crates/test_edge.
 #![tactic(auto)]
 
 ghost use Rattle.std.specs.Prelude.{◌≡◌, Some, length};
 ghost use Rattle.http_body.specs.SizeHint.{exact};
-ghost use Rattle.object_body.specs.Octets.{octets_of};
+ghost use Rattle.object_body.specs.Octets.{source_octets};
 ghost use Rattle.object_body.specs.Pieces.{in_pieces};
 
 use bytes::Bytes;
@@ -13,10 +18,10 @@ use object_store::SharedObject;
 use std::alloc::{AllocError, Global};
 use std::marker::Model;
 
-// The most that one frame copies.
+// The most octets of a frame.
 const PIECE: usize = 64 * 1024;
 
-// What is handed out.
+// The octets of a body.
 #[derive(Drop)]
 enum Source {
     Object(SharedObject),
@@ -25,7 +30,7 @@ enum Source {
 
 impl Source {
     fn as_slice(&self) -> &[u8]
-        ensures { result.now ≡ octets_of self.now }
+        ensures { result.now ≡ source_octets self.now }
     {
         match self {
             Source::Object(object) => object.get().body(),
@@ -34,8 +39,7 @@ impl Source {
     }
 }
 
-/// The body of an object, or a text of its own, at most 64 KiB a frame. Contracts see the octets that
-/// are still to come.
+/// The octets of an object or of a text, in frames of at most 64 KiB. Contracts see the octets that remain.
 #[derive(Drop)]
 pub struct Portions {
     alloc: Global,
@@ -45,11 +49,11 @@ pub struct Portions {
 
 impl Model for Portions {
     ghost use Rattle.std.specs.Prelude.{List, ℕ, drop};
-    ghost use Rattle.object_body.specs.Octets.{octets_of};
+    ghost use Rattle.object_body.specs.Octets.{source_octets};
 
     ghost Value = { List ℕ };
 
-    ghost view = { λ p. drop p.next (octets_of p.source) };
+    ghost view = { λ p. drop p.next (source_octets p.source) };
 }
 
 impl Portions {
@@ -64,7 +68,7 @@ impl Portions {
         }
     }
 
-    /// This text.
+    /// The octets of `text`.
     pub fn of_text(alloc: Global, text: Vec<u8>) -> Portions
         ensures { result ≡ text.items }
     {
@@ -75,7 +79,7 @@ impl Portions {
         }
     }
 
-    // How many octets are still to come.
+    // The number of octets that remain.
     fn left(&self) -> usize
         ensures { result ≡ length self.now }
     {

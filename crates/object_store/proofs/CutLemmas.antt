@@ -1,4 +1,4 @@
--- The longest front of a store's pairs within limits.
+-- The longest prefix of pairs within limits.
 use Rattle.std.proofs.Common.{◌≡◌, ℕ, zero, suc, ◌-◌, ◌≤◌, Bool, true, false, cond, ◌&&◌, nat_le, List, [], ◌∷◌, length, take, refl, ap, arith}
 use Rattle.std.proofs.lemmas.Bool.{le-leb, and_parts, leb-true}
 use Rattle.object_store.specs.Pairs.{Pair, size_of, cut, IsWithin, IsLongestFront}
@@ -20,7 +20,7 @@ fits-few e o pair t = leb-true 1 e (and_parts (nat_le 1 e) (nat_le (size_of pair
 fits-small : (e o : ℕ) (pair : Pair) → fits e o pair ≡ true → size_of pair.0 pair.1 ≤ o
 fits-small e o pair t = leb-true (size_of pair.0 pair.1) o (and_parts (nat_le 1 e) (nat_le (size_of pair.0 pair.1) o) t).1
 
--- a list is within limits where its first pair fits and the others are within what is left
+-- a list is within limits if its first pair fits and the others are within the rest
 within-cons : (e o : ℕ) (pair : Pair) (pairs : List Pair) → 1 ≤ e → size_of pair.0 pair.1 ≤ o
     → IsWithin (e - 1) (o - size_of pair.0 pair.1) pairs → IsWithin e o (pair ∷ pairs)
 within-cons e o pair pairs h k w = record { few = omega arith; small = omega (arith, octets-cons pair pairs) }
@@ -31,7 +31,7 @@ within-tail e o pair pairs w = record { few = omega arith; small = omega (arith,
 within-head : (e o : ℕ) (pair : Pair) (pairs : List Pair) → IsWithin e o (pair ∷ pairs) → fits e o pair ≡ true
 within-head e o pair pairs w = fits-true e o pair (omega arith) (omega (arith, octets-cons pair pairs))
 
--- what is within the limits stays whole
+-- a list within the limits is not cut
 pub cut-whole : (e o : ℕ) (pairs : List Pair) → IsWithin e o pairs → cut e o pairs ≡ pairs
 cut-whole e o [] w = refl
 cut-whole e o (pair ∷ pairs) w =
@@ -41,7 +41,7 @@ within-one : (e o : ℕ) (pair : Pair) (pairs : List Pair) → length pairs ≡ 
 within-one e o pair [] z h k = within-cons e o pair [] h k (record { few = omega arith; small = omega arith })
 within-one e o pair (p ∷ ps) z h k = absurd (omega arith)
 
--- what is not within them may lose its last pair first
+-- a list beyond the limits may lose its last pair first
 pub cut-take : (e o n : ℕ) (pairs : List Pair) → length pairs ≡ suc n → (IsWithin e o pairs → ⊥) → cut e o (take n pairs) ≡ cut e o pairs
 cut-take e o n [] l w = absurd (omega arith)
 cut-take e o zero (pair ∷ pairs) l w =
@@ -62,7 +62,7 @@ cut-drop e o (pair ∷ pairs) w =
     let n : length (pair ∷ pairs) - 1 ≡ length pairs = omega arith in
     rw n (cut-take e o (length pairs) (pair ∷ pairs) (omega arith) w)
 
--- the front is within the limits
+-- the result of `cut` is within the limits
 pub cut-within : (e o : ℕ) (pairs : List Pair) → IsWithin e o (cut e o pairs)
 cut-within e o [] = record { few = omega arith; small = omega arith }
 cut-within e o (pair ∷ pairs) =
@@ -71,7 +71,7 @@ cut-within e o (pair ∷ pairs) =
       | false ↦ λ t. record { few = omega arith; small = omega arith }
     ]) refl
 
--- it is a front
+-- it is a prefix
 pub cut-front : (e o : ℕ) (pairs : List Pair) → cut e o pairs ≡ take (length (cut e o pairs)) pairs
 cut-front e o [] = refl
 cut-front e o (pair ∷ pairs) =

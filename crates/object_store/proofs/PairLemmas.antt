@@ -1,4 +1,4 @@
--- What the words on a store's pairs give at the cache that holds them.
+-- The definitions on pairs, applied to the LRU map that holds them.
 use Rattle.std.proofs.Common.{◌≡◌, ℕ, ◌+◌, ◌-◌, ◌^◌, ◌<◌, ◌≤◌, Bool, true, false, not, cond, bytes_eq, List, [], ◌∷◌, ◌++◌, subst, length, min, take, filter, get_or, option_map, Option, Some, None, refl, sym, ap, ◌∙◌, arith}
 use Rattle.std.specs.List.{AllByRecursion, IsDistinct}
 use Rattle.std.specs.Map.{keys_of, lookup, lookup_entry, remove_entry}
@@ -14,7 +14,7 @@ use Rattle.lru.proofs.Pairs.{lookup-lookup_entry}
 use Rattle.object_store.specs.declared.entry.Entry.{Entry}
 use Rattle.object_store.specs.Pairs.{Pair, octets_in, size_of, total_size, entry_at, without}
 
--- keys that pass the test of a key are that key
+-- keys that compare equal are equal
 pub same_key : (a b : List ℕ) → bytes_eq a b ≡ true → a ≡ b
 same_key a b h = (bytes_decides a b).0 h
 
@@ -28,7 +28,7 @@ module _ (test : List ℕ → Bool) where
     apart k [] t h = tt
     apart k (y ∷ ks) t h = (one k y t ∙ h.0, apart k ks t h.1)
 
-    -- where keys are apart, to leave a key out is to remove its first pair
+    -- if keys are distinct, removing a key removes its first pair
     pub filter-removes : (pairs : List Pair) → IsDistinct eq (keys_of pairs) → filter (λ pair. not (test pair.0)) pairs ≡ remove_entry test pairs
     filter-removes [] d = refl
     filter-removes (pair ∷ pairs) d =
@@ -37,7 +37,7 @@ module _ (test : List ℕ → Bool) where
           | false ↦ λ t. ap (λ (l : List Pair). pair ∷ l) (filter-removes pairs (IsDistinct-tail eq pair.0 (keys_of pairs) d))
         ]) refl
 
-  -- a key that isn't found: nothing is removed
+  -- nothing is removed if the key is not found
   pub remove-absent : (pairs : List Pair) → lookup test pairs ≡ None → remove_entry test pairs ≡ pairs
   remove-absent [] h = refl
   remove-absent (pair ∷ pairs) h =
@@ -46,14 +46,14 @@ module _ (test : List ℕ → Bool) where
         | false ↦ λ t g. ap (λ (l : List Pair). pair ∷ l) (remove-absent pairs g)
       ]) refl h
 
--- at the keys of a store
+-- the same for the keys of a store
 pub without-removes : (key : List ℕ) (pairs : List Pair) → IsDistinct bytes_eq (keys_of pairs) → without key pairs ≡ remove_entry (bytes_eq key) pairs
 without-removes key pairs d = filter-removes (bytes_eq key) bytes_eq (nat_list_eq_equiv.congr key) pairs d
 
 pub octets-cons : (pair : Pair) (pairs : List Pair) → total_size (pair ∷ pairs) ≡ size_of pair.0 pair.1 + total_size pairs
 octets-cons pair pairs = sum_by-cons (λ (p : Pair). size_of p.0 p.1) pair pairs
 
--- what is removed leaves the octets of the others
+-- the total size after removing a pair
 pub remove-octets : (key : List ℕ) (entry : Entry) (pairs : List Pair) → entry_at key pairs ≡ Some entry
     → total_size (remove_entry (bytes_eq key) pairs) + size_of key entry ≡ total_size pairs
 remove-octets key entry [] h = absurd cc
@@ -65,7 +65,7 @@ remove-octets key entry (pair ∷ pairs) h =
       | false ↦ λ t g. omega (arith, remove-octets key entry pairs g, octets-cons pair pairs, octets-cons pair (remove_entry (bytes_eq key) pairs))
     ]) refl h
 
--- the last pair, and the octets of those before it
+-- the last pair, and the total size of those before it
 pub last-none : (pairs : List Pair) (sum : ℕ) → last_entry pairs ≡ None → sum ≡ total_size pairs → sum ≡ total_size (take (length pairs - 1) pairs)
 last-none [] sum h e = e
 last-none (pair ∷ pairs) sum h e =
@@ -83,7 +83,7 @@ last-octets pairs key entry h =
     let all : total_size (take (length pairs - 1 + 1) pairs) ≡ total_size pairs = ap total_size whole in
     omega (arith, more, here, all)
 
--- what a put into the cache leaves: the pair in front of the others
+-- the map after an insertion: the new pair, then the others
 put-at : (key : List ℕ) (entry : Entry) (pairs : List Pair) (cap : ℕ) (found : Option Pair) → lookup_entry (bytes_eq key) pairs ≡ found
     → length pairs ≤ cap - 1
     → option_map_or (λ (e : Pair). (e.0, entry) ∷ remove_entry (bytes_eq key) pairs) found ((key, entry) ∷ take (cap - 1) pairs) ≡ (key, entry) ∷ remove_entry (bytes_eq key) pairs
@@ -100,7 +100,7 @@ put-is cache key entry few d =
     put-at key entry cache.entries cache.cap (lookup_entry (bytes_eq key) cache.entries) refl few
     ∙ ap (λ (l : List Pair). (key, entry) ∷ l) (sym (without-removes key cache.entries d))
 
--- under a key that isn't there
+-- the same for a new key
 pub put-absent : (cache : LruCache (List ℕ) Entry) (key : List ℕ) (entry : Entry) → length cache.entries ≤ cache.cap - 1 → IsDistinct bytes_eq (keys_of cache.entries)
     → entry_at key cache.entries ≡ None → put_entries bytes_eq cache key entry ≡ (key, entry) ∷ cache.entries
 put-absent cache key entry few d none =
@@ -116,14 +116,14 @@ absent_after key entry [] back d = none_found key back (IsDistinct-head bytes_eq
 absent_after key entry (pair ∷ front) back d =
     absent_after key entry front back (IsDistinct-tail bytes_eq pair.0 (keys_of ((front ++ (key, entry) ∷ []) ++ back)) d)
 
--- the key of the last pair of a front isn't behind it
+-- the key of the last pair of a prefix does not occur after it
 pub last_absent : (key : List ℕ) (entry : Entry) (front rest back pairs : List Pair) → rest ≡ front ++ (key, entry) ∷ [] → rest ++ back ≡ pairs
     → IsDistinct bytes_eq (keys_of pairs) → entry_at key back ≡ None
 last_absent key entry front rest back pairs e g d =
     let P : List Pair → Type 0 = λ l. IsDistinct bytes_eq (keys_of l) in
     absent_after key entry front back (subst P (sym (ap (λ (l : List Pair). l ++ back) (sym e) ∙ g)) d)
 
--- the octets after a put under a key that wasn't there, and under one that was
+-- the total size after inserting a new key, and after replacing
 pub put-new : (key : List ℕ) (entry : Entry) (pairs : List Pair) → IsDistinct bytes_eq (keys_of pairs) → entry_at key pairs ≡ None
     → total_size ((key, entry) ∷ without key pairs) ≡ total_size pairs + size_of key entry
 put-new key entry pairs d h =
@@ -136,7 +136,7 @@ put-old key entry old pairs d h =
     let left : total_size (without key pairs) ≡ total_size (remove_entry (bytes_eq key) pairs) = ap total_size (without-removes key pairs d) in
     omega (arith, left, remove-octets key old pairs h, octets-cons (key, entry) (without key pairs))
 
--- the same with the numbers that the code has
+-- the same with the numbers of the code
 pub taken : (pairs : List Pair) (key : List ℕ) (entry : Entry) (n s sum : ℕ) → last_entry pairs ≡ Some (key, entry) → n ≡ length key
     → s ≡ min (n + octets_in entry) (2 ^ 64 - 1) → sum ≡ total_size pairs → sum < 2 ^ 64
     → (s ≤ sum) × (sum - s ≡ total_size (take (length pairs - 1) pairs))
@@ -156,6 +156,6 @@ put-sum-old key entry old pairs n s sum octets d h long is total size fits =
     let parts : total_size ((key, entry) ∷ without key pairs) + size_of key old ≡ total_size pairs + size_of key entry = put-old key entry old pairs d h in
     (omega arith, omega arith)
 
--- a cache by its two fields
+-- a map is determined by its two fields
 pub cache-is : (cache : LruCache (List ℕ) Entry) (pairs : List Pair) (cap : ℕ) → cache.entries ≡ pairs → cache.cap ≡ cap → cache ≡ lru_cache pairs cap
 cache-is cache pairs cap e g = rw (← e, ← g) refl

@@ -1,4 +1,4 @@
--- What the calls of a plain store leave of its pairs.
+-- The pairs of the reference implementation after each call.
 use Rattle.std.proofs.Common.{◌≡◌, ℕ, zero, suc, true, false, cond, not, bytes_eq, List, [], ◌∷◌, drop, Some, slice_get, get_or, is_some, subst, refl, sym, ap, ◌∙◌}
 use Rattle.std.specs.List.{remove}
 use Rattle.std.specs.Cmp.Lexicographic.{bytes_decides}
@@ -6,17 +6,17 @@ use Rattle.std.proofs.lemmas.Option.{get_or_from_slice_get}
 use Rattle.object_store.specs.Pairs.{Pair, entry_at, is_fresh, without}
 use Rattle.object_store.specs.Store.{StoreState, after_get, after_remove, fresh_at}
 
--- the state of these parts
+-- a state from its parts
 abbrev state : ℕ → ℕ → List Pair → StoreState
 state e o pairs = record { most_entries = e; most_octets = o; pairs = pairs }
 
--- the pair at a place, and those from there on
+-- the pair at an index, and those after it
 drop-at : (pairs : List Pair) (i : ℕ) (pair : Pair) → slice_get pairs i ≡ Some pair → drop i pairs ≡ pair ∷ drop (suc i) pairs
 drop-at [] i pair h = absurd cc
 drop-at (p ∷ pairs) zero pair h = let same : p ≡ pair = cc in rw same refl
 drop-at (p ∷ pairs) (suc i) pair h = drop-at pairs i pair h
 
--- ---- a look-up, place by place
+-- ---- linear search
 pub place-found : (key : List ℕ) (pairs : List Pair) (i : ℕ) (pair : Pair) → entry_at key (drop i pairs) ≡ entry_at key pairs → slice_get pairs i ≡ Some pair
     → key ≡ pair.0 → entry_at key pairs ≡ Some pair.1
 place-found key pairs i pair so at same =
@@ -24,7 +24,7 @@ place-found key pairs i pair so at same =
     let first : entry_at key (pair ∷ drop (suc i) pairs) ≡ Some pair.1 = rw ((bytes_decides key pair.0).1 same) refl in
     sym so ∙ here ∙ first
 
--- ---- a pair of the key is taken out, then all others of it
+-- ---- removing the first pair of a key, then all others
 without-remove : (key : List ℕ) (pairs : List Pair) (i : ℕ) (pair : Pair) → slice_get pairs i ≡ Some pair → key ≡ pair.0 → without key (remove pairs i) ≡ without key pairs
 without-remove key [] i pair h same = absurd cc
 without-remove key (p ∷ pairs) zero pair h same =
@@ -42,12 +42,12 @@ left-out : (key : List ℕ) (pairs items rest : List Pair) (i : ℕ) (pair : Pai
 left-out key pairs items rest i pair at same removed left =
     left ∙ ap (without key) removed ∙ without-remove key pairs i pair at (sym same)
 
--- ---- what a look-up leaves
--- the pair at a place is the first of the key
+-- ---- the pairs after a lookup
+-- the pair at an index is the first of the key
 abbrev pub Found : List ℕ → List Pair → ℕ → Type 0
 Found key pairs i = (pair : Pair) × (slice_get pairs i ≡ Some pair) × (pair.0 ≡ key) × (entry_at key pairs ≡ Some pair.1)
 
--- what was at a place is that pair
+-- the removed pair is the one at the index
 found-out : (key : List ℕ) (pairs : List Pair) (i : ℕ) (out : Pair) (f : Found key pairs i) → out ≡ get_or pairs i out → out ≡ f.0
 found-out key pairs i out f o = o ∙ get_or_from_slice_get pairs i f.0 out f.1
 

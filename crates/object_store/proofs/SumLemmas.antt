@@ -1,4 +1,4 @@
--- What each call leaves of a store, and that its sum stays the octets of its pairs.
+-- The state after each call, and that the sum remains the total size of the pairs.
 use Rattle.std.proofs.Common.{◌≡◌, ℕ, ◌+◌, ◌-◌, ◌^◌, ◌≤◌, Bool, true, false, cond, bytes_eq, List, [], ◌∷◌, length, min, not, filter, option_map, Option, Some, None, refl, sym, ap, ◌∙◌, arith}
 use Rattle.std.specs.List.{IsDistinct}
 use Rattle.std.specs.Map.{keys_of, lookup, lookup_entry, remove_entry}
@@ -13,7 +13,7 @@ use Rattle.object_store.specs.Store.{StoreState, AreLimits, IsSummed, after_get,
 use Rattle.object_store.proofs.CutLemmas.{cut-within}
 use Rattle.object_store.proofs.PairLemmas.{same_key, without-removes, remove-absent, remove-octets, put-old}
 
--- the state of these parts
+-- a state from its parts
 abbrev state : ℕ → ℕ → List Pair → StoreState
 state e o pairs = record { most_entries = e; most_octets = o; pairs = pairs }
 
@@ -74,7 +74,7 @@ promoted-at key pairs (Some pair) h entry some =
     let k : key ≡ pair.0 = same_key key pair.0 (Contains-lookup_entry (bytes_eq key) pairs pair h).1 in
     rw (← same, k) refl
 
--- a key that is found goes to the front
+-- a pair that is found moves to the front
 pub promoted-some : (key : List ℕ) (entry : Entry) (pairs : List Pair) → IsDistinct bytes_eq (keys_of pairs) → entry_at key pairs ≡ Some entry
     → promoted (bytes_eq key) pairs ≡ (key, entry) ∷ without key pairs
 promoted-some key entry pairs d some =

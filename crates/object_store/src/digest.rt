@@ -1,4 +1,4 @@
-//! The digest of an object, taken piece by piece.
+//! Incremental computation of an object digest.
 
 ghost use Rattle.std.specs.Prelude.{◌≡◌, ◌++◌, ℕ, List};
 ghost use Rattle.md5.specs.Md5.{Holds};
@@ -7,8 +7,7 @@ ghost use Rattle.object_store.specs.Object.{digest_of, head_of, spelled_field, s
 use byteorder::{BigEndian, ByteOrder};
 use md5::{Digest, Md5};
 
-/// The MD5 of the fields of an object. A list comes behind its length; lengths and numbers are 8
-/// octets, the highest first.
+/// MD5 of the fields of an object. Each list is preceded by its length; lengths and numbers are 8 octets, big-endian.
 #[tactic(auto, unfolding(crate::specs::Object::digest_of))]
 pub(crate) fn object_digest(
     status: u16,
@@ -28,7 +27,7 @@ pub(crate) fn object_digest(
     hasher.finalize()
 }
 
-// Takes a number in.
+// Hashes a number.
 #[tactic(auto, unfolding(crate::specs::Object::spelled_number))]
 fn add_number(hasher: &mut Md5, number: u64)
     ensures { (m : List ℕ) → Holds hasher.old m → Holds hasher.new (m ++ spelled_number number) }
@@ -38,7 +37,7 @@ fn add_number(hasher: &mut Md5, number: u64)
     hasher.update(&octets);
 }
 
-// Takes in how many octets there are, and they.
+// Hashes an octet string, preceded by its length.
 fn add_octets(hasher: &mut Md5, octets: &[u8])
     ensures { (m : List ℕ) → Holds hasher.old m → Holds hasher.new (m ++ spelled_octets octets.now) }
 {
@@ -46,7 +45,7 @@ fn add_octets(hasher: &mut Md5, octets: &[u8])
     hasher.update(octets);
 }
 
-// Takes in how many fields there are, and of each its name and its value.
+// Hashes a head: the number of fields, then each field.
 fn add_head(hasher: &mut Md5, head: &[(Vec<u8>, Vec<u8>)])
     ensures { (m : List ℕ) → Holds hasher.old m → Holds hasher.new (m ++ spelled_head (head_of head.now)) }
 {
@@ -56,7 +55,7 @@ fn add_head(hasher: &mut Md5, head: &[(Vec<u8>, Vec<u8>)])
     }
 }
 
-// Takes in a name and its value.
+// Hashes a field: its name, then its value.
 fn add_field(hasher: &mut Md5, field: &(Vec<u8>, Vec<u8>))
     ensures { (m : List ℕ) → Holds hasher.old m → Holds hasher.new (m ++ spelled_field (field.now.0.items, field.now.1.items)) }
 {

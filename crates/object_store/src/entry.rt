@@ -1,4 +1,4 @@
-//! Entries of a store.
+//! Store entries.
 
 ghost use Rattle.std.specs.Prelude.{◌≡◌, ◌+◌, ◌-◌, ◌^◌, IfOk, length, min, sum_by};
 ghost use Rattle.object_store.specs.Object.{head_of};
@@ -8,7 +8,7 @@ use crate::object::SharedObject;
 use bpf_run::Moment;
 use std::alloc::AllocError;
 
-/// An object, and the moment at which it was stored.
+/// An object and the time at which it was stored.
 #[derive(Debug, Drop)]
 pub struct Entry {
     pub object: SharedObject,
@@ -16,8 +16,7 @@ pub struct Entry {
 }
 
 impl Entry {
-    /// The same entry, as one more owner of its object. It requests no memory, and is refused only
-    /// where there are too many owners.
+    /// Another reference to the entry's object. Allocates nothing. Errors: the reference count would overflow.
     pub fn share(&self) -> Result<Entry, AllocError>
         ensures { IfOk result (λ entry. entry ≡ self.now) }
     {
@@ -28,7 +27,7 @@ impl Entry {
         })
     }
 
-    /// Whether the moment is before `at` and the life of the object, in seconds.
+    /// Whether the entry is fresh: `now` is earlier than `at` plus the life of the object, which is in seconds.
     pub fn is_fresh(&self, now: Moment) -> bool
         ensures { result ≡ is_fresh now self.now }
     {
@@ -36,8 +35,7 @@ impl Entry {
     }
 }
 
-// The size of an entry under a key of so many octets: these, the names and values of the head, and
-// the body. It stays at the last number.
+// Size of an entry in octets: key, names and values of the head, and body. Saturates at the maximum of `u64`.
 pub(crate) fn size(key_octets: usize, entry: &Entry) -> u64
     ensures { result ≡ min (key_octets + octets_in entry.now) (2 ^ 64 - 1) }
 {
@@ -48,7 +46,7 @@ pub(crate) fn size(key_octets: usize, entry: &Entry) -> u64
         .saturating_add(object.body().len() as u64)
 }
 
-// The octets of the names and values of a head.
+// Octets in the names and values of a head. Saturates at the maximum of `u64`.
 fn head_octets(head: &[(Vec<u8>, Vec<u8>)]) -> u64
     ensures { result ≡ min (sum_by (λ field. length field.0 + length field.1) (head_of head.now)) (2 ^ 64 - 1) }
 {

@@ -1,23 +1,25 @@
-//! Why a store is not made, or an entry not put.
+//! Errors of the store.
 
 use thiserror::Error;
 
-/// Why a store is not made.
+/// Why a store cannot be made.
 #[derive(Clone, Copy, Debug, PartialEq, Eq, Error)]
 pub enum StoreFault {
-    /// The entries are not from 1 to 1,000,000, or the octets not from 1 to 1,073,741,824.
+    /// The entry limit is not 1 to 1,000,000, or the octet limit not 1 to 1,073,741,824.
     #[error("store limits out of range")]
     Limits,
+    /// An allocation failed.
     #[error("out of memory")]
     NoMemory,
 }
 
-/// Why an entry is not put.
+/// Why an entry cannot be inserted.
 #[derive(Clone, Copy, Debug, PartialEq, Eq, Error)]
 pub enum PutFault {
-    /// Its size is above the octets that the store may hold.
+    /// The size of the entry exceeds the octet limit of the store.
     #[error("too large for the store")]
     TooLarge,
+    /// An allocation failed.
     #[error("out of memory")]
     NoMemory,
 }

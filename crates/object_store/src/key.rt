@@ -1,4 +1,4 @@
-//! Keys of objects.
+//! Cache keys.
 
 ghost use Rattle.std.specs.Prelude.{◌≡◌, ◌↔◌, IsTrue, IsOk, IfOk, IfErr, All};
 ghost use Rattle.object_store.specs.Key.{IsKey, IsKeyFault, IsVisible};
@@ -10,23 +10,24 @@ use std::marker::Model;
 use std::sync::Arc;
 use thiserror::Error;
 
-/// The most octets of a key.
+/// Maximum length of a key in octets.
 pub const MOST_KEY_OCTETS: usize = 8192;
 
 const SCHEME: &[u8] = b"http://";
 
-/// Why octets give no key.
+/// Why octets are not accepted as a key.
 #[derive(Clone, Copy, Debug, PartialEq, Eq, Error)]
 pub enum KeyFault {
-    /// They do not begin with `http://`, are more than 8,192, or one is outside 0x21 to 0x7e.
+    /// They do not start with `http://`, are more than 8,192, or include one outside 0x21 to 0x7e.
     #[error("not a key")]
     NotKey,
+    /// An allocation failed.
     #[error("out of memory")]
     NoMemory,
 }
 
-/// A URL as it came: it begins with `http://` and has at most 8,192 octets, each from 0x21 to
-/// 0x7e. Its octets have several owners; contracts see the list of them.
+/// A URL as received: it starts with `http://` and has at most 8,192 octets, each from 0x21 to 0x7e. Its octets are
+/// reference-counted. Contracts see the list of octets.
 #[derive(Debug, Drop)]
 pub struct CacheKey {
     octets: Arc<Vec<u8>>,
@@ -45,7 +46,7 @@ impl Model for CacheKey {
 }
 
 impl CacheKey {
-    /// The key of these octets, which a refusal hands back.
+    /// Makes a key. Errors: the fault, and the octets back.
     pub fn new(alloc: Global, octets: Vec<u8>) -> Result<CacheKey, (KeyFault, Vec<u8>)>
         ensures sound { IsOk result → IsKey octets.items }
         ensures value { IfOk result (λ key. key ≡ octets.items) }
@@ -61,8 +62,7 @@ impl CacheKey {
         }
     }
 
-    /// One more owner of the same octets. It requests no memory, and is refused only where there
-    /// are too many owners.
+    /// Another reference to the key. Allocates nothing. Errors: the reference count would overflow.
     pub fn share(&self) -> Result<CacheKey, AllocError>
         ensures { IfOk result (λ key. key ≡ self.now) }
     {
@@ -81,7 +81,7 @@ impl CacheKey {
     }
 }
 
-// Whether the octets are a key.
+// Whether the octets are a valid key.
 fn is_key(octets: &[u8]) -> bool
     ensures { IsTrue result ↔ IsKey octets.now }
 {
@@ -132,7 +132,7 @@ impl Hash for CacheKey {
     }
 }
 
-// Octets look up the key that has them.
+// Allows a lookup by octets without making a key.
 impl Equivalent<CacheKey> for &[u8] {
     ghost use Rattle.std.specs.Prelude.{bytes_eq};
     ghost use Rattle.std.specs.Cmp.Lexicographic.{bytes_decides, nat_list_eq_equiv};

@@ -1,4 +1,9 @@
-//! The store of a cache: objects by their keys, within a number of entries and of octets.
+//! The object store of the cache: an LRU map from URL to object, limited in entries and in octets.
+//!
+//! `Store` is seen by contracts as its limits and its list of pairs, the most recently used first (`specs/Store.antt`).
+//! Contracts state the result and the next state of each call, when an entry is fresh, and which pairs an insertion evicts
+//! (`specs/Pairs.antt`). An object carries an MD5 digest of its fields (`specs/Object.antt`).
+//! Tested by: src/store/tests.rt, must-fail edits.
 #![tactic(auto)]
 
 mod comparing;

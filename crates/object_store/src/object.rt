@@ -1,4 +1,4 @@
-//! Objects that were fetched, and shares of them.
+//! Fetched objects, and references to them.
 
 ghost use Rattle.std.specs.Prelude.{◌≡◌, IfOk};
 ghost use Rattle.object_store.specs.Object.{HasDigest, head_of, object_of};
@@ -8,8 +8,8 @@ use std::alloc::{AllocError, Global};
 use std::marker::Model;
 use std::sync::Arc;
 
-/// What was fetched: a status, a head, a body, the Age that was received with it and for how many
-/// seconds it may be stored (0: not at all), with a digest of all these.
+/// A fetched object: status code, head, body, the received Age in seconds, and the time to live in seconds (`life`; 0 means
+/// not to be stored), with a digest of all these.
 #[derive(Debug, Drop)]
 pub struct Object {
     status: u16,
@@ -31,8 +31,8 @@ impl Model for Object {
 }
 
 impl Object {
-    /// Keeps these, and takes their digest: MD5 of status, head, body, age and life in this order,
-    /// a number and the length before a list being 8 octets, the highest first.
+    /// Makes an object and computes its digest: the MD5 of status, head, body, age and life in this order. Numbers, and the
+    /// length before each list, are 8 octets, big-endian.
     pub fn new(
         status: u16,
         head: Vec<(Vec<u8>, Vec<u8>)>,
@@ -61,7 +61,7 @@ impl Object {
         self.status
     }
 
-    /// The names and values of the head, in order.
+    /// The header fields in order, each a name and a value.
     #[inline(always)]
     pub fn head(&self) -> &[(Vec<u8>, Vec<u8>)]
         ensures { head_of result.now ≡ self.now.head }
@@ -77,7 +77,7 @@ impl Object {
         &self.body
     }
 
-    /// The Age that was received, in seconds.
+    /// The received Age, in seconds.
     #[inline(always)]
     pub fn age(&self) -> u32
         ensures { result ≡ self.now.age }
@@ -85,7 +85,7 @@ impl Object {
         self.age
     }
 
-    /// For how many seconds it may be stored.
+    /// The time to live in the store, in seconds.
     #[inline(always)]
     pub fn life(&self) -> u32
         ensures { result ≡ self.now.life }
@@ -93,7 +93,7 @@ impl Object {
         self.life
     }
 
-    /// The digest of status, head, body, age and life.
+    /// The MD5 digest of status, head, body, age and life.
     #[inline(always)]
     pub fn digest(&self) -> [u8; 16]
         ensures value { result ≡ self.now.digest }
@@ -103,7 +103,7 @@ impl Object {
     }
 }
 
-/// An object with several owners. Contracts see the object.
+/// A reference-counted object. Contracts see the object.
 #[derive(Debug, Drop)]
 pub struct SharedObject {
     object: Arc<Object>,
@@ -119,7 +119,7 @@ impl Model for SharedObject {
 }
 
 impl SharedObject {
-    /// The first owner. Where there is no memory, the object is dropped.
+    /// The first reference. Errors: the allocation failed; the object is dropped.
     pub fn new(alloc: Global, object: Object) -> Result<SharedObject, AllocError>
         ensures { IfOk result (λ shared. shared ≡ object) }
     {
@@ -128,7 +128,7 @@ impl SharedObject {
         })
     }
 
-    /// One more owner. It requests no memory, and is refused only where there are too many owners.
+    /// Another reference. Allocates nothing. Errors: the reference count would overflow.
     pub fn share(&self) -> Result<SharedObject, AllocError>
         ensures { IfOk result (λ shared. shared ≡ self.now) }
     {

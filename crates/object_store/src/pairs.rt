@@ -1,4 +1,4 @@
-//! The pairs of a store in the cache that holds them, with the sum of their octets beside it.
+//! The LRU map of a store, and the total size of its pairs, which the store keeps beside it.
 
 ghost use Rattle.std.specs.Prelude.{◌≡◌, ◌+◌, ◌-◌, ◌^◌, ◌<◌, ◌≤◌, ◌∷◌, length, min, take, bytes_eq, OnOk, OnErr, IfOk, IfErr, IsOk, IsSome, IsTrue, None, ◌↔◌};
 ghost use Rattle.lru.specs.LruCache.{lru_cache};
@@ -9,10 +9,10 @@ use crate::key::CacheKey;
 use lru::LruCache;
 use std::alloc::{AllocError, AllocFailed, Global};
 
-/// Pairs, the most recently used first.
+/// The LRU map of a store.
 pub(crate) type Pairs = LruCache<CacheKey, Entry>;
 
-// Puts a pair of so many octets in front, without the old one of its key. Answers the new sum.
+// Inserts a pair of size `octets` at the front, replacing the old one of its key. Returns the new total size.
 pub(crate) fn put_pair(
     pairs: &mut Pairs,
     sum: u64,
@@ -38,7 +38,7 @@ pub(crate) fn put_pair(
     }
 }
 
-// Takes the least recent pairs out until the others are within both limits. Answers their sum.
+// Evicts the least recently used pairs until the others are within both limits. Returns their total size.
 pub(crate) fn evict(pairs: &mut Pairs, sum: u64, most_entries: u32, most_octets: u32) -> u64
     requires { sum ≡ total_size pairs.old.entries }
     ensures pairs { pairs.new ≡ lru_cache (cut most_entries most_octets pairs.old.entries) pairs.old.cap }
@@ -51,7 +51,7 @@ pub(crate) fn evict(pairs: &mut Pairs, sum: u64, most_entries: u32, most_octets:
     rest
 }
 
-// Whether the pairs, of so many octets, are within both limits.
+// Whether the pairs, of total size `sum`, are within both limits.
 fn are_within(pairs: &Pairs, sum: u64, most_entries: u32, most_octets: u32) -> bool
     requires { sum ≡ total_size pairs.now.entries }
     ensures { IsTrue result ↔ IsWithin most_entries most_octets pairs.now.entries }
@@ -59,7 +59,7 @@ fn are_within(pairs: &Pairs, sum: u64, most_entries: u32, most_octets: u32) -> b
     pairs.len() <= most_entries as usize && sum <= u64::from(most_octets)
 }
 
-// Takes the least recent pair out. Answers the sum of the others.
+// Evicts the least recently used pair. Returns the total size of the others.
 fn drop_last(pairs: &mut Pairs, sum: u64) -> u64
     requires { sum ≡ total_size pairs.old.entries }
     ensures pairs { pairs.new ≡ lru_cache (take (length pairs.old.entries - 1) pairs.old.entries) pairs.old.cap }
@@ -71,8 +71,7 @@ fn drop_last(pairs: &mut Pairs, sum: u64) -> u64
     }
 }
 
-// The same pairs in a cache of their own, put from the least recent on. Keys and objects get one
-// owner more.
+// Copies the map, inserting from the least recently used pair on. Keys and objects are shared.
 pub(crate) fn copy_pairs(pairs: &Pairs, alloc: Global) -> Result<Pairs, AllocError>
     ensures { IfOk result (λ copy. copy ≡ lru_cache pairs.now.entries (2 ^ 64 - 1)) }
 {
@@ -87,7 +86,7 @@ pub(crate) fn copy_pairs(pairs: &Pairs, alloc: Global) -> Result<Pairs, AllocErr
     Ok(copy)
 }
 
-// Puts a pair in front, of a key that isn't there.
+// Inserts a pair with a new key at the front.
 fn add_pair(pairs: &mut Pairs, key: CacheKey, entry: Entry) -> Result<(), AllocError>
     requires absent { entry_at key pairs.old.entries ≡ None }
     requires boundless { pairs.old.cap ≡ 2 ^ 64 - 1 }

@@ -1,5 +1,5 @@
-//! A store over a plain vector of pairs, the most recently used first: the slow twin of `Store`,
-//! with the same contract.
+//! Reference implementation of the store for tests: a vector of pairs, the most recently used first, with the same contract
+//! as `Store`.
 
 ghost use Rattle.std.specs.Prelude.{◌≡◌, ◌+◌, ◌<◌, ◌≤◌, [], IfSome, IfNone, IsOk, IfOk, IfErr, OnOk, OnErr, is_some, length, option_copied, slice_get, Some, None, ⊤, take, vec_capacity, vec_len};
 ghost use Rattle.std.specs.Borrow.{follows_so, sem};
@@ -16,7 +16,7 @@ use bpf_run::Moment;
 use std::alloc::Global;
 use std::marker::Model;
 
-/// A store that looks at each pair in turn.
+/// A store that finds pairs by linear search.
 #[derive(Drop)]
 pub(crate) struct PlainStore {
     most_entries: u32,
@@ -71,7 +71,7 @@ impl PlainStore {
         ensures changed { self.new ≡ after_get key.now now self.old }
         ensures value { result ≡ is_some (fresh_at key.now now self.old) }
     {
-        let Some(place) = place_of(&self.pairs, key) else {
+        let Some(place) = pair_index(&self.pairs, key) else {
             return false;
         };
         let pair = self.pairs.remove(place);
@@ -86,7 +86,7 @@ impl PlainStore {
     pub(crate) fn peek(&self, key: &CacheKey, now: Moment) -> Option<&Entry>
         ensures { option_copied result ≡ fresh_at key.now now self.now }
     {
-        let place = place_of(&self.pairs, key)?;
+        let place = pair_index(&self.pairs, key)?;
         let entry = &self.pairs[place].1;
         if entry.is_fresh(now) {
             Some(entry)
@@ -98,14 +98,14 @@ impl PlainStore {
     pub(crate) fn holds(&self, key: &CacheKey) -> bool
         ensures { result ≡ is_some (entry_at key.now self.now.pairs) }
     {
-        place_of(&self.pairs, key).is_some()
+        pair_index(&self.pairs, key).is_some()
     }
 
     pub(crate) fn remove(&mut self, key: &CacheKey) -> Option<Entry>
         ensures value { result ≡ entry_at key.now self.old.pairs }
         ensures changed { self.new ≡ after_remove key.now self.old }
     {
-        let Some(place) = place_of(&self.pairs, key) else {
+        let Some(place) = pair_index(&self.pairs, key) else {
             leave_out(&mut self.pairs, key);
             return None;
         };
@@ -139,8 +139,8 @@ impl PlainStore {
     }
 }
 
-// The place of the first pair of a key.
-fn place_of(pairs: &[(CacheKey, Entry)], key: &CacheKey) -> Option<usize>
+// Index of the first pair of a key, or `None`.
+fn pair_index(pairs: &[(CacheKey, Entry)], key: &CacheKey) -> Option<usize>
     ensures inside { IfSome result (λ place. place < length pairs.now) }
     ensures found { IfSome result (λ place. (pair : Pair) × (slice_get pairs.now place ≡ Some pair) × (pair.0 ≡ key.now) × (entry_at key.now pairs.now ≡ Some pair.1)) }
     ensures missing { IfNone result (entry_at key.now pairs.now ≡ None) }
@@ -153,7 +153,7 @@ fn place_of(pairs: &[(CacheKey, Entry)], key: &CacheKey) -> Option<usize>
     None
 }
 
-// Takes each pair of a key out.
+// Removes all pairs of a key.
 fn leave_out(pairs: &mut Vec<(CacheKey, Entry)>, key: &CacheKey)
     ensures pairs { pairs.new.items ≡ without key.now pairs.old.items }
     ensures shorter { vec_len pairs.new ≤ vec_len pairs.old }
@@ -162,7 +162,7 @@ fn leave_out(pairs: &mut Vec<(CacheKey, Entry)>, key: &CacheKey)
     pairs.retain(|pair| *key != pair.0);
 }
 
-// How long the front within both limits is.
+// Length of the longest prefix within both limits.
 fn front_within(pairs: &[(CacheKey, Entry)], entries: u32, octets: u32) -> usize
     ensures { cut entries octets pairs.now ≡ take result pairs.now }
 {

@@ -1,4 +1,4 @@
-//! The store: objects by their keys, within a number of entries and of octets.
+//! The store.
 
 ghost use Rattle.std.specs.Prelude.{◌≡◌, ◌≤◌, ◌↔◌, [], IsTrue, IsOk, IfOk, IfErr, IsSome, OnOk, OnErr, is_some, option_copied};
 ghost use Rattle.std.specs.Borrow.{sem};
@@ -15,14 +15,14 @@ use lru::LruCache;
 use std::alloc::{AllocError, Global};
 use std::marker::Model;
 
-/// The most entries that a store may be made for.
+/// Maximum of the entry limit.
 pub const MOST_ENTRIES: u32 = 1_000_000;
 
-/// The most octets that a store may be made for.
+/// Maximum of the octet limit.
 pub const MOST_OCTETS: u32 = 1_073_741_824;
 
-/// Entries by their keys, within a number of entries and of octets. Contracts see these limits and
-/// the list of pairs, the most recently used first.
+/// An LRU store of entries by key, limited in entries and in octets. Contracts see the limits and the list of pairs, the
+/// most recently used first.
 #[derive(Debug, Drop)]
 pub struct Store {
     most_entries: u32,
@@ -42,7 +42,7 @@ impl Model for Store {
 }
 
 impl Store {
-    /// An empty store for 1 to 1,000,000 entries and 1 to 1,073,741,824 octets.
+    /// Makes an empty store. The limits are 1 to 1,000,000 entries and 1 to 1,073,741,824 octets.
     pub fn new(alloc: Global, entries: u32, octets: u32) -> Result<Store, StoreFault>
         ensures limits { IsOk result → AreLimits entries octets }
         ensures value { IfOk result (λ store. store ≡ record { most_entries = entries; most_octets = octets; pairs = [] }) }
@@ -62,8 +62,7 @@ impl Store {
         })
     }
 
-    /// An equal store. Its pairs are put from the least recent on, and share keys and objects with
-    /// those here.
+    /// A copy that shares keys and objects. Errors: an allocation failed, or a reference count would overflow.
     pub fn copy(&self, alloc: Global) -> Result<Store, AllocError>
         ensures { IfOk result (λ store. store ≡ self.now) }
     {
@@ -76,15 +75,14 @@ impl Store {
         })
     }
 
-    /// What always holds: no key stands twice, and the pairs are within the limits. It costs
-    /// nothing.
+    /// Publishes the invariant: keys are distinct, and the pairs are within the limits. Does nothing at run time.
     pub fn facts(&self)
         ensures { IsStore self.now }
     {
         let _ = self.pairs.len();
     }
 
-    /// The entry of a key, which then stands first. A stale one is taken out and not answered.
+    /// Returns the entry of a key and marks it most recently used. A stale entry is removed, and `None` returned.
     pub fn get(&mut self, key: &CacheKey, now: Moment) -> Option<&Entry>
         ensures* changed { sem 𝓛 (ends_as self.entry (after_get key.now now self.old)) }
         ensures value { option_copied result ≡ fresh_at key.now now self.old }
@@ -98,7 +96,7 @@ impl Store {
         }
     }
 
-    // Moves a fresh entry to the front and takes a stale one out. Answers whether there is a fresh one.
+    // Moves a fresh entry to the front, and removes a stale one. Returns whether there is a fresh one.
     fn touch(&mut self, key: &CacheKey, now: Moment) -> bool
         ensures changed { self.new ≡ after_get key.now now self.old }
         ensures value { result ≡ is_some (fresh_at key.now now self.old) }
@@ -114,14 +112,14 @@ impl Store {
         false
     }
 
-    /// The entry of a key, where it is fresh. Nothing moves.
+    /// Returns the entry of a key if it is fresh. Changes nothing.
     pub fn peek(&self, key: &CacheKey, now: Moment) -> Option<&Entry>
         ensures { option_copied result ≡ fresh_at key.now now self.now }
     {
         self.peek_octets(key.as_slice(), now)
     }
 
-    /// The entry whose key has these octets, where it is fresh. Nothing moves.
+    /// Returns the entry whose key has these octets if it is fresh. Changes nothing.
     pub fn peek_octets(&self, key: &[u8], now: Moment) -> Option<&Entry>
         ensures { option_copied result ≡ fresh_at key.now now self.now }
     {
@@ -133,7 +131,7 @@ impl Store {
         }
     }
 
-    /// Whether there is an entry of this key, fresh or not.
+    /// Whether there is an entry for this key, fresh or not.
     pub fn holds(&self, key: &CacheKey) -> bool
         ensures { result ≡ is_some (entry_at key.now self.now.pairs) }
     {
@@ -147,7 +145,7 @@ impl Store {
         self.pairs.contains(key)
     }
 
-    /// Takes the entry of a key out.
+    /// Removes and returns the entry of a key.
     pub fn remove(&mut self, key: &CacheKey) -> Option<Entry>
         ensures value { result ≡ entry_at key.now self.old.pairs }
         ensures changed { self.new ≡ after_remove key.now self.old }
@@ -155,7 +153,7 @@ impl Store {
         self.remove_octets(key.as_slice())
     }
 
-    /// Takes the entry out whose key has these octets.
+    /// Removes and returns the entry whose key has these octets.
     pub fn remove_octets(&mut self, key: &[u8]) -> Option<Entry>
         ensures value { result ≡ entry_at key.now self.old.pairs }
         ensures changed { self.new ≡ after_remove key.now self.old }
@@ -168,9 +166,11 @@ impl Store {
         Some(removed)
     }
 
-    /// Puts an entry in front, in the place of the old one of its key. The least recently used pairs
-    /// go out until the others are within the limits. A refusal hands key and entry back. Where the
-    /// key is held, no memory is requested.
+    /// Inserts an entry as the most recently used, replacing the old one of its key, then evicts the least recently used
+    /// pairs until the rest is within the limits. Allocates nothing if there is an entry for the key.
+    ///
+    /// Errors: `TooLarge` if the entry alone exceeds the octet limit, `NoMemory` if the allocation fails. Key and entry are
+    /// returned with the fault, and nothing changes.
     pub fn put(&mut self, key: CacheKey, entry: Entry) -> Result<(), (PutFault, CacheKey, Entry)>
         ensures fits { IsOk result → size_of key entry ≤ self.old.most_octets }
         ensures changed { OnOk result (self.new ≡ after_put key entry self.old) }

@@ -1,6 +1,6 @@
--- Sets of places as bits.
-use Rattle.std.proofs.Common.{◌≡◌, ℕ, ◌+◌, ◌-◌, ◌*◌, ◌%◌, ◌^◌, ◌<◌, ◌≤◌, ◌≢◌, Bool, true, false, min, refl, ap, sym, ◌∙◌, subst, arith, nat_eq, ◌||◌, ◌&&◌, ◌↔◌, IsTrue, bit_and, bit_or, w64}
-use Rattle.std.specs.Int.{bit_at, bit_not}
+-- Sets of indices as bits.
+use Rattle.std.proofs.Common.{◌≡◌, ℕ, ◌-◌, ◌*◌, ◌%◌, ◌^◌, ◌<◌, ◌≤◌, ◌≢◌, true, false, min, refl, ap, sym, ◌∙◌, arith, nat_eq, ◌||◌, ◌↔◌, IsTrue, bit_and, bit_or, w64}
+use Rattle.std.specs.Int.{bit_at}
 use Rattle.std.proofs.lemmas.Nat.Bits.{bit_at_and, bit_at_not, bit_at-zero, bit_at-lt, same_from_bits_below, bit_at_set_same, bit_at_set_other}
 use Rattle.std.proofs.lemmas.Nat.{and_le_l}
 

@@ -1,4 +1,4 @@
--- The best so far is the one that no other is before.
+-- The running minimum is the element that no other precedes.
 use Rattle.std.proofs.Common.{◌≡◌, Bool, true, false, not, List, [], ◌∷◌, ◌++◌, refl, ap, sym, ◌∙◌, append_assoc, ◌||◌, Some, None, if◌then◌else◌}
 use Rattle.std.proofs.Common.{subst}
 use Rattle.std.proofs.lemmas.List.{append-nil}
@@ -7,17 +7,17 @@ use Rattle.peer_select.specs.declared.reply.Reply.{Reply}
 use Rattle.peer_select.specs.Choice.{first_of}
 use Rattle.peer_select.specs.Best.{better}
 
--- the laws that a test of order has to meet
+-- the laws of a boolean order
 pub record IsOrder (less : Reply → Reply → Bool) : Type 0 where
   pub one_way : (x y : Reply) → less x y ≡ true → less y x ≡ false
   pub through : (x b q : Reply) → less x b ≡ true → less q b ≡ false → less x q ≡ true
 
--- whether none of the list is before b
+-- no element of the list precedes b
 abbrev pub Unbeaten : (Reply → Reply → Bool) → List Reply → Reply → Type 0
 Unbeaten less [] b = Unit {0}
 Unbeaten less (x ∷ xs) b = (less x b ≡ false) × Unbeaten less xs b
 
--- whether b is before each of the list
+-- b precedes each element of the list
 abbrev pub Beats : (Reply → Reply → Bool) → Reply → List Reply → Type 0
 Beats less b [] = Unit {0}
 Beats less b (x ∷ xs) = (less b x ≡ true) × Beats less b xs
@@ -34,13 +34,13 @@ some_before : (less : Reply → Reply → Bool) (pre post : List Reply) (b x : R
 some_before less [] post b x h = rw h refl
 some_before less (p ∷ pre) post b x h = elim (less p x) as (λ v. (v || list_any (λ o. less o x) (pre ++ b ∷ post)) ≡ true) [ true ↦ refl | false ↦ some_before less pre post b x h ]
 
--- a test that fails on all of a front and holds at b finds b
+-- `find` returns b if the test holds at b and fails before it
 found : (test : Reply → Bool) (less : Reply → Reply → Bool) (pre post : List Reply) (b : Reply) →
     (fails : (x : Reply) → less b x ≡ true → test x ≡ false) → Beats less b pre → test b ≡ true → find test (pre ++ b ∷ post) ≡ Some b
 found test less [] post b fails beats holds = rw holds refl
 found test less (p ∷ pre) post b fails beats holds = rw (fails p beats.0) (found test less pre post b fails beats.1 holds)
 
--- the first of a list: what is earlier is beaten by it, and none is before it
+-- the minimum of a list: it precedes all earlier elements, and none precedes it
 pub record IsFirst (less : Reply → Reply → Bool) (xs : List Reply) (b : Reply) : Type 0 where
   pub earlier : List Reply
   pub later : List Reply
@@ -68,7 +68,7 @@ unbeaten_new : (less : Reply → Reply → Bool) → IsOrder less → (xs : List
 unbeaten_new less order [] r h = (irreflexive less order r, tt)
 unbeaten_new less order (x ∷ xs) r h = (order.one_way r x h.0, unbeaten_new less order xs r h.1)
 
--- one more
+-- appending an element
 first_kept : (less : Reply → Reply → Bool) (xs : List Reply) (b r : Reply) → IsFirst less xs b → less r b ≡ false → IsFirst less (xs ++ r ∷ []) b
 first_kept less xs b r h k = record {
   earlier = h.earlier;
@@ -83,7 +83,7 @@ first_new less order xs b r h k =
     let beats : Beats less r xs = beats_all less order xs b r h.unbeaten k in
     record { earlier = xs; later = []; split = refl; beats = beats; unbeaten = unbeaten_new less order xs r beats }
 
--- the rest of a list, after a front whose first is b
+-- the rest of a list, after a prefix whose minimum is b
 pub rest_is : (less : Reply → Reply → Bool) → IsOrder less → (done rest : List Reply) (b : Reply) → IsFirst less done b →
     first_of less (done ++ rest) ≡ fold (better less) (Some b) rest
 rest_is less order done [] b h = ap (first_of less) (append-nil done) ∙ first_of-is less done b h

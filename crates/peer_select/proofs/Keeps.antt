@@ -1,21 +1,18 @@
--- What a round keeps beside its replies, at one more reply; and what it answers.
+-- The cached fields of a round after a reply, and the results computed from them.
 use Rattle.std.proofs.Common.{◌≡◌, ℕ, zero, suc, ◌+◌, ◌<◌, ◌≤◌, Bool, true, false, not, List, [], ◌∷◌, ◌++◌, length, refl, ap, sym, ◌∙◌, subst, arith, nat_eq, nat_lt, ◌==◌, ◌&&◌, ◌||◌, ◌↔◌, IsTrue, Some, None, get_or, if◌then◌else◌, take, set}
 use Rattle.std.specs.Prelude.{Option, is_some}
 use Rattle.std.specs.Option.{option_or}
-use Rattle.std.specs.Cmp.{nat_eq_equiv}
-use Rattle.std.specs.List.{list_any, list_all, filter, find, fold}
+use Rattle.std.specs.List.{list_any, list_all, filter, find}
 use Rattle.std.proofs.lemmas.List.{append-nil, length-take-le}
 use Rattle.std.proofs.lemmas.List.Elements.{filter-append}
 use Rattle.std.proofs.lemmas.List.Folds.{find-append, list_any-append}
 use Rattle.std.proofs.lemmas.List.Sums.{fold-append}
 use Rattle.peer_select.specs.declared.reply.Peer.{Peer}
 use Rattle.peer_select.specs.declared.reply.Reply.{Reply}
-use Rattle.peer_select.specs.declared.reply.Source.{Source}
-use Rattle.peer_select.specs.declared.reply.Source.TheVariants as source
 use Rattle.peer_select.specs.declared.set.PeerSet.{PeerSet}
 use Rattle.peer_select.specs.Best.{better}
-use Rattle.peer_select.specs.Choice.{first_of, hit_of, parent_of, is_parent_miss, is_refused, reply_before, has_refused, peer_at, parents_left, is_left, is_at, is_parent}
-use Rattle.peer_select.specs.Kept.{has, IsKept, is_left_by, left_by}
+use Rattle.peer_select.specs.Choice.{first_of, hit_of, parent_of, is_parent_miss, is_refused, reply_before, has_refused, peer_at, parents_left}
+use Rattle.peer_select.specs.Kept.{has, IsKept, left_by}
 use Rattle.peer_select.specs.Poll.{Poll, IsPoll, IsHeld, is_hit, has_reply, all_replied, decided}
 use Rattle.peer_select.proofs.Firsts.{IsOrder, first_of-fold}
 use Rattle.peer_select.proofs.Polls.{held, taken_more}
@@ -63,7 +60,7 @@ has_refused-push : (replies : List Reply) (r : Reply) (n : ℕ) → has_refused 
 has_refused-push replies r n =
     list_any-append (λ reply. (reply.n == n) && is_refused reply.kind) replies (r ∷ []) ∙ or_last (has_refused replies n) ((r.n == n) && is_refused r.kind)
 
--- what is kept, after one more reply
+-- the cached fields after one more reply
 pub kept_push : (hit parent more best : Option Reply) (up replied refused replied_new refused_new : PeerSet) (poll : Poll) (r : Reply) →
     IsOrder (reply_before poll.peers) → IsKept hit parent up replied refused poll →
     more ≡ (if is_some hit || not (is_hit r.kind) then hit else Some r) →
@@ -109,7 +106,7 @@ up_inside [] n h = absurd cc
 up_inside (peer ∷ peers) zero h = omega arith
 up_inside (peer ∷ peers) (suc n) h = let rest : n < length peers = up_inside peers n h in omega arith
 
--- by the sets of those that were up and of those that have replied
+-- decided by the sets of peers that were up and that have replied
 pub within_is : (hit parent : Option Reply) (up replied refused : PeerSet) (poll : Poll) (within : Bool) → IsPoll poll → IsKept hit parent up replied refused poll →
     IsTrue within ↔ ((n : ℕ) → n < 64 → has up n ≡ true → has replied n ≡ true) → within ≡ all_replied poll.replies 0 poll.peers
 within_is hit parent up replied refused poll within legal h w =
@@ -141,14 +138,14 @@ none_beyond (r ∷ replies) count n h k =
 pub beyond : (poll : Poll) (n : ℕ) → IsPoll poll → length poll.peers ≤ n → has_reply poll.replies n ≡ false
 beyond poll n legal k = none_beyond poll.replies (length poll.peers) n legal.known k
 
--- ---- the parents that are left
+-- ---- the remaining parents
 pub left-is : (refused : PeerSet) (replies : List Reply) (hit parent : Option Reply) → ((n : ℕ) → has refused n ≡ has_refused replies n) →
     (n : ℕ) (peers : List Peer) → left_by refused hit parent n peers ≡ parents_left replies hit parent n peers
 left-is refused replies hit parent same n [] = refl
 left-is refused replies hit parent same n (peer ∷ peers) =
     rw (same n, left-is refused replies hit parent same (n + 1) peers) refl
 
--- ---- by what is kept, once it was asked and its time isn't up
+-- ---- decided by the cached fields, if it asked and has not expired
 pub decided_hit : (hit parent : Option Reply) (up replied refused : PeerSet) (poll : Poll) → IsKept hit parent up replied refused poll →
     is_some hit ≡ true → true ≡ decided poll
 decided_hit hit parent up replied refused poll h some =
@@ -205,7 +202,7 @@ up_whole up peers n all h k =
       | false ↦ λ e. and_false (nat_lt k n)
     ] refl
 
--- ---- as the two tables hold a round
+-- ---- the representation by two arrays
 pub held_kept : (start : ℕ) (asked expired : Bool) (count len : ℕ) (peers : List Peer) (replies : List Reply) (r : Reply) (hit parent more best : Option Reply)
     (up replied refused replied_new refused_new : PeerSet) → len < length replies → IsOrder (reply_before (take count peers)) →
     IsKept hit parent up replied refused (held start asked (take count peers) (take len replies) expired) →

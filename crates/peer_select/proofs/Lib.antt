@@ -5,4 +5,3 @@ pub mod Members
 pub mod Shapes
 pub mod Keeps
 pub mod Bits
-pub mod PlaceByPlace

@@ -1,4 +1,4 @@
--- What holds of each round, kept.
+-- The invariant of a round is kept.
 use Rattle.std.proofs.Common.{◌≡◌, ℕ, zero, suc, ◌+◌, ◌<◌, ◌≤◌, Bool, true, false, List, [], ◌∷◌, ◌++◌, length, map, refl, ap, sym, ◌∙◌, arith, nat_lt, nat_eq, ◌||◌, take, drop, set, add-one, slice_get, Some, length-append, append_assoc, subst}
 use Rattle.std.specs.List.{list_any, list_all, IsDistinct}
 use Rattle.std.specs.Cmp.{nat_eq_equiv}
@@ -15,7 +15,7 @@ use Rattle.peer_select.specs.declared.reply.Peer.{Peer}
 use Rattle.peer_select.specs.declared.reply.Reply.{Reply}
 use Rattle.peer_select.specs.Poll.{Poll, IsPoll, IsHeld, peers_of, has_reply, peers_from}
 
--- the places that have replied
+-- the indices of the peers that have replied
 abbrev pub places : List Reply → List ℕ
 places replies = map (λ reply. reply.n) replies
 
@@ -84,14 +84,14 @@ weights_from rows n (x ∷ ns) h =
     let there : list_all (λ neighbour. is_weight neighbour.weight) ns ≡ true = grind arith in
     rw (here, weights_from rows (n + 1) ns there) refl
 
--- a round that begins
+-- a new round
 pub IsPoll-begun : (start : ℕ) (asked : Bool) (expired : Bool) (peers : List Peer) → length peers ≤ 64 →
     list_all (λ peer. nat_lt 0 peer.weight) peers ≡ true →
     IsPoll (record { start = start; asked = asked; peers = peers; replies = []; expired = expired })
 unfolding IsDistinct
 IsPoll-begun start asked expired peers few weights = record { count = few; weights = weights; known = refl; once = tt }
 
--- the neighbour at a place, and those after it
+-- the neighbour at an index, and those after it
 after_place : (ns : List Neighbour) (n : ℕ) → n < length ns → (x : Neighbour) × (slice_get ns n ≡ Some x) × (drop n ns ≡ x ∷ drop (suc n) ns)
 after_place [] n h = absurd (omega arith)
 after_place (x ∷ ns) zero h = (x, refl, refl)
@@ -100,7 +100,7 @@ after_place (x ∷ ns) (suc n) h = after_place ns n (omega arith)
 at_place : (ns : List Neighbour) (n : ℕ) → n < length ns → (x : Neighbour) × (slice_get ns n ≡ Some x) × (drop n ns ≡ x ∷ drop (n + 1) ns)
 at_place ns n h = rw add-one (after_place ns n h)
 
--- a round as its tables hold it
+-- a round as represented by its arrays
 abbrev pub held : ℕ → Bool → List Peer → List Reply → Bool → Poll
 held start asked peers replies expired = record { start = start; asked = asked; peers = peers; replies = replies; expired = expired }
 

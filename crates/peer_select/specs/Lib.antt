@@ -2,4 +2,3 @@ pub mod Poll
 pub mod Choice
 pub mod Best
 pub mod Kept
-pub mod Laws

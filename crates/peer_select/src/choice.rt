@@ -1,4 +1,4 @@
-//! The choice of sources, on the peers and the replies of a round.
+//! Choice of sources from the peers and the replies of a round.
 
 ghost use Rattle.std.specs.Prelude.{◌≡◌, ◌≤◌, ℕ, ◌<◌, ◌==◌, ◌&&◌, ◌||◌, not, length, slice_get, is_some, if◌then◌else◌};
 ghost use Rattle.peer_select.specs.Poll.{is_hit};
@@ -47,7 +47,7 @@ fn find_peer(peers: &[Peer], n: usize) -> Peer
     }
 }
 
-/// The Hit so far after one more reply.
+/// The first Hit after one more reply.
 pub fn hit_after(hit: Option<Reply>, reply: Reply) -> Option<Reply>
     ensures { result ≡ (if is_some hit || not (is_hit reply.kind) then hit else Some reply) }
 {
@@ -57,7 +57,7 @@ pub fn hit_after(hit: Option<Reply>, reply: Reply) -> Option<Reply>
     Some(reply)
 }
 
-/// Those that count as Refused after one more reply.
+/// The peers that replied Refused, after one more reply.
 pub fn refused_after(refused: PeerSet, reply: Reply) -> PeerSet
     requires { reply.n < 64 }
     ensures { (n : ℕ) → has result n ≡ (has refused n || ((reply.n == n) && is_refused reply.kind)) }
@@ -65,7 +65,7 @@ pub fn refused_after(refused: PeerSet, reply: Reply) -> PeerSet
     refused.with_if(reply.n as usize, is_refused_kind(reply.kind))
 }
 
-/// The peers that were up.
+/// The set of peers that were up at the start.
 pub fn up_of(peers: &[Peer]) -> PeerSet
     requires { length peers.now ≤ 64 }
     ensures { (k : ℕ) → has result k ≡ (peer_at peers.now k).up }
@@ -117,7 +117,7 @@ fn better_of(peers: &[Peer], best: Option<Reply>, reply: Reply) -> Option<Reply>
     }
 }
 
-/// The best Miss parent so far after one more reply.
+/// The best parent with a Miss after one more reply.
 pub fn parent_after(peers: &[Peer], parent: Option<Reply>, reply: Reply) -> Option<Reply>
     ensures { result ≡ (if is_parent_miss peers.now reply then better (reply_before peers.now) parent reply else parent) }
 {
@@ -149,7 +149,7 @@ fn is_to_list(
     is_parent_role(peer.role) && !stands_at(hit, n) && !stands_at(parent, n) && !refused.has(n)
 }
 
-/// The parent at a place among those that are left.
+/// The remaining parent at an index: neither listed already nor Refused.
 pub fn parent_left(
     refused: PeerSet,
     hit: Option<Reply>,

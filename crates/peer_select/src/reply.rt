@@ -1,19 +1,19 @@
-//! What a round holds, and what it gives.
+//! Replies, peers and sources.
 
 use neighbours::Role;
 
 /// How a peer replied.
 #[derive(Clone, Copy, Debug, PartialEq, Eq)]
 pub enum Kind {
-    /// It has the object.
+    /// The peer has the object.
     Hit,
-    /// It doesn't have the object.
+    /// The peer does not have the object.
     Miss,
-    /// It won't serve the object.
+    /// The peer will not serve the object.
     Refused,
 }
 
-/// A reply: the smoothed time of its peer just after this reply's sample, and the peer's place.
+/// A reply: its kind, the index of its peer, and the peer's smoothed response time including this reply.
 #[derive(Clone, Copy, Debug)]
 pub struct Reply {
     pub s: u32,
@@ -21,7 +21,7 @@ pub struct Reply {
     pub kind: Kind,
 }
 
-/// What a round keeps of a neighbour: its weight and kind, and whether it was up at the start.
+/// A neighbour as copied into a round: weight and role, and whether it was up at the start.
 #[derive(Clone, Copy, Debug)]
 pub struct Peer {
     pub weight: u32,
@@ -29,7 +29,7 @@ pub struct Peer {
     pub up: bool,
 }
 
-/// Where an object may be fetched from: the neighbour at a place, or the origin.
+/// Where to fetch an object from: a neighbour, by index, or the origin server.
 #[derive(Clone, Copy, Debug, PartialEq, Eq)]
 pub enum Source {
     Peer(usize),

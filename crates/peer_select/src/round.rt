@@ -1,9 +1,9 @@
-//! A round of queries.
+//! Query rounds.
 
-ghost use Rattle.std.specs.Prelude.{◌≡◌, ◌<◌, ◌≤◌, take, Some, ◌↔◌, ◌∷◌, ◌++◌, [], length, slice_get, true, false, IsTrue, ◌&&◌, nat_lt};
+ghost use Rattle.std.specs.Prelude.{◌≡◌, ◌<◌, ◌≤◌, take, Some, ◌↔◌, ◌∷◌, ◌++◌, [], List, MatchResult, length, slice_get, true, false, IsTrue, ◌&&◌, nat_lt};
 ghost use Rattle.neighbours.specs.Rows.{mark_at, is_up};
-ghost use Rattle.peer_select.specs.Poll.{begun, peers_of, peers_from, decided, replied, ended, has_reply, matches, IsPoll};
-ghost use Rattle.peer_select.specs.Choice.{sources, sources_by, last_sources, listed, hit_of, parent_of};
+ghost use Rattle.peer_select.specs.Poll.{begun, peers_of, peers_from, decided, reply_added, ended, has_reply, matches, IsPoll};
+ghost use Rattle.peer_select.specs.Choice.{sources, last_sources, listed, hit_of, parent_of};
 
 use crate::choice::{hit_after, parent_after, parent_left, refused_after, up_of};
 use crate::laws::matching_law;
@@ -12,8 +12,8 @@ use crate::set::PeerSet;
 use neighbours::{Moment, Role, Table, one_way_law, through_law};
 use std::marker::Model;
 
-/// A round of queries: whom it asked, and all replies in order. Beside them stand the first Hit and the best Miss parent
-/// so far, and which peers were up, have replied and count as Refused.
+/// A query round: the peers asked and all replies in order. The remaining fields cache what follows from these: the first
+/// Hit, the best parent with a Miss, and which peers were up, have replied, and replied Refused.
 #[derive(Drop)]
 pub struct Round {
     start: Moment,
@@ -61,7 +61,7 @@ impl Model for Round {
 }
 
 impl Round {
-    /// A round that asks all neighbours, also those that are down.
+    /// Starts a round that asks all neighbours, including those that are down.
     pub fn start(table: &Table, now: Moment) -> Round
         ensures value { result ≡ begun table.now true now }
         ensures matching { matches table.now.neighbours result.peers ≡ true }
@@ -70,7 +70,7 @@ impl Round {
         Round::begin(table, true, now)
     }
 
-    /// A round that asks nobody: it is decided.
+    /// A round that asks nobody. It is decided from the start.
     pub fn unasked(table: &Table, now: Moment) -> Round
         ensures value { result ≡ begun table.now false now }
         ensures matching { matches table.now.neighbours result.peers ≡ true }
@@ -106,7 +106,7 @@ impl Round {
         }
     }
 
-    /// An equal round. It requests no memory.
+    /// A copy. Allocates nothing.
     pub fn copy(&self) -> Round
         ensures { result ≡ self.now }
     {
@@ -126,21 +126,21 @@ impl Round {
         }
     }
 
-    /// What holds of every round. It does nothing.
+    /// Publishes the invariant. Does nothing at run time.
     pub fn facts(&self)
         ensures { IsPoll self.now }
     {
         let _ = &self.replies;
     }
 
-    /// When it began.
+    /// Start of the round.
     pub fn began(&self) -> Moment
         ensures { result ≡ self.now.start }
     {
         self.start
     }
 
-    /// Whether it asked the neighbour at this place.
+    /// Whether it asked the neighbour at this index.
     pub fn asked(&self, n: usize) -> bool
         ensures { result ≡ (self.now.asked && nat_lt n (length self.now.peers)) }
     {
@@ -150,7 +150,7 @@ impl Round {
         n < self.count
     }
 
-    /// Whether the neighbour at this place has replied.
+    /// Whether the neighbour at this index has replied.
     pub fn has_reply(&self, n: usize) -> bool
         ensures { result ≡ has_reply self.now.replies n }
     {
@@ -160,7 +160,7 @@ impl Round {
         self.replied.has(n)
     }
 
-    /// Whether the sources are fixed.
+    /// Whether the round is decided, that is, its sources are final.
     pub fn decided(&self) -> bool
         ensures { result ≡ decided self.now }
     {
@@ -173,13 +173,13 @@ impl Round {
         self.up.is_within(self.replied)
     }
 
-    /// The peer at place n replies; s is its smoothed time just after this reply's sample. On a decided round, or a
-    /// second time, it changes nothing. The table has the kinds and weights of the one that the round was made with.
+    /// Records a reply of peer `n`, whose smoothed response time including this reply is `s`. Changes nothing if the round is
+    /// decided or the peer has replied before. Requires that the table has the same roles and weights as at the start.
     #[tactic(auto, using(crate::proofs::Shapes::matches_length))]
     pub fn reply(&mut self, table: &Table, n: usize, kind: Kind, s: u32)
         requires place { n < length table.now.neighbours }
         requires table { matches table.now.neighbours self.old.peers ≡ true }
-        ensures value { self.new ≡ replied self.old (record { s = s; n = n; kind = kind }) }
+        ensures value { self.new ≡ reply_added self.old (record { s = s; n = n; kind = kind }) }
         ensures peers { self.new.peers ≡ self.old.peers }
     {
         table.facts();
@@ -209,7 +209,7 @@ impl Round {
         self.refused = refused;
     }
 
-    /// The time is up. On a decided round it changes nothing.
+    /// Ends the round by timeout. Changes nothing if it is decided.
     pub fn expire(&mut self)
         ensures value { self.new ≡ ended self.old }
         ensures peers { self.new.peers ≡ self.old.peers }
@@ -220,8 +220,8 @@ impl Round {
         self.expired = true;
     }
 
-    /// The source of an attempt, the first of which is 0; `origin` says whether the origin is allowed. The table has
-    /// the kinds and weights of the one that the round was made with.
+    /// The source for an attempt, counted from 0, or `None` if there is none left. `origin` says whether the origin server may
+    /// be used. Requires that the table has the same roles and weights as at the start.
     pub fn source(&self, table: &Table, attempt: u16, origin: bool) -> Option<Source>
         requires { matches table.now.neighbours self.now.peers ≡ true }
         ensures { result ≡ slice_get (sources self.now origin) attempt }
@@ -229,7 +229,13 @@ impl Round {
         let _ = table;
         let hit = self.hit();
         let parent = self.parent();
-        self.from_hit(hit, parent, attempt, origin)
+        match listed_at(hit, attempt) {
+            Ok(source) => Some(source),
+            Err(place) => match listed_at(parent, place) {
+                Ok(source) => Some(source),
+                Err(place) => self.from_last(hit, parent, place, origin),
+            },
+        }
     }
 
     fn hit(&self) -> Option<Reply>
@@ -242,46 +248,6 @@ impl Round {
         ensures { result ≡ parent_of self.now.peers self.now.replies }
     {
         self.parent
-    }
-
-    fn from_hit(
-        &self,
-        hit: Option<Reply>,
-        parent: Option<Reply>,
-        place: u16,
-        origin: bool,
-    ) -> Option<Source>
-        ensures { result ≡ slice_get (sources_by self.now hit parent origin) place }
-    {
-        match hit {
-            None => self.from_parent(hit, parent, place, origin),
-            Some(reply) => {
-                if place == 0 {
-                    return Some(Source::Peer(reply.n as usize));
-                }
-                self.from_parent(hit, parent, place - 1, origin)
-            }
-        }
-    }
-
-    fn from_parent(
-        &self,
-        hit: Option<Reply>,
-        parent: Option<Reply>,
-        place: u16,
-        origin: bool,
-    ) -> Option<Source>
-        ensures { result ≡ slice_get (listed parent ++ last_sources self.now hit parent origin) place }
-    {
-        match parent {
-            None => self.from_last(hit, parent, place, origin),
-            Some(reply) => {
-                if place == 0 {
-                    return Some(Source::Peer(reply.n as usize));
-                }
-                self.from_last(hit, parent, place - 1, origin)
-            }
-        }
     }
 
     fn from_last(
@@ -301,6 +267,22 @@ impl Round {
             };
         }
         parent_left(self.refused, hit, parent, &self.peers[..self.count], place)
+    }
+}
+
+// Indexes a list that begins with the peer of `reply`, if any. Returns that peer as a source, or the index in the rest of
+// the list.
+fn listed_at(reply: Option<Reply>, place: u16) -> Result<Source, u16>
+    ensures { (rest : List Source) → MatchResult result (λ source. slice_get (listed reply ++ rest) place ≡ Some source) (λ left. slice_get (listed reply ++ rest) place ≡ slice_get rest left) }
+{
+    match reply {
+        None => Err(place),
+        Some(reply) => {
+            if place == 0 {
+                return Ok(Source::Peer(reply.n as usize));
+            }
+            Err(place - 1)
+        }
     }
 }
 

@@ -1,10 +1,10 @@
-//! Sets of peers, by their places.
+//! Sets of peers.
 
 ghost use Rattle.std.specs.Prelude.{◌≡◌, ℕ, ◌<◌, ◌↔◌, ◌||◌, ◌&&◌, ◌==◌, IsTrue, nat_eq, true, false};
 ghost use Rattle.std.specs.Int.{bit_at};
 ghost use Rattle.peer_select.specs.Kept.{has};
 
-/// Places of peers, all below 64, one bit each.
+/// A bit set of peer indices below 64.
 #[derive(Clone, Copy)]
 pub(crate) struct PeerSet {
     bits: u64,
@@ -24,7 +24,7 @@ impl PeerSet {
         self.bits >> n & 1 == 1
     }
 
-    /// These places and one more.
+    /// Adds an index.
     pub(crate) fn with(self, n: usize) -> PeerSet
         requires { n < 64 }
         ensures { (k : ℕ) → has result k ≡ (nat_eq n k || has self k) }
@@ -34,7 +34,7 @@ impl PeerSet {
         }
     }
 
-    /// These places, and one more where the condition holds.
+    /// Adds an index if the condition holds.
     pub(crate) fn with_if(self, n: usize, holds: bool) -> PeerSet
         requires { n < 64 }
         ensures { (k : ℕ) → has result k ≡ (has self k || (nat_eq n k && holds)) }
@@ -42,7 +42,7 @@ impl PeerSet {
         if holds { self.with(n) } else { self }
     }
 
-    /// Whether each of these places is one of the others.
+    /// Whether it is a subset of `others`.
     pub(crate) fn is_within(self, others: PeerSet) -> bool
         ensures { IsTrue result ↔ ((n : ℕ) → n < 64 → has self n ≡ true → has others n ≡ true) }
     {

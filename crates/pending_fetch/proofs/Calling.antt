@@ -1,4 +1,4 @@
--- What holds of the fetches and their indexes after each call, and what is seen of them.
+-- The invariant of the fetches and their indexes after each call, and their public view.
 use Rattle.std.proofs.Common.{◌≡◌, ℕ, ◌+◌, ◌<◌, ◌≤◌, Bool, true, false, eqb, nat_le, nat_eq, List, [], ◌∷◌, ◌++◌, length, refl, ap, sym, ◌∙◌, subst, arith, ◌==◌, ◌||◌, Some, None, Option, is_some, if◌then◌else◌}
 use Rattle.std.specs.Prelude.{Result, Ok, Err, OnOk, OnErr, is_err}
 use Rattle.std.proofs.lemmas.Bool.Decides.{nat_tests}
@@ -7,7 +7,7 @@ use Rattle.std.specs.Option.{option_map}
 use Rattle.peer_select.specs.declared.reply.Reply.{Reply}
 use Rattle.peer_select.specs.Poll.{Poll}
 use Rattle.pending_fetch.specs.Numbers.{next_of, is_taken, IsNext}
-use Rattle.pending_fetch.specs.Fetches.{PendingFetch, Fetches, is_shared, shares, shared_number, all_waiters, numbers, starts, waits, waiters_of, left, changed, has_number, with_waiter, with_reply, with_end, with_next, without, fetch_of, next_number, fresh, opened, owner_of}
+use Rattle.pending_fetch.specs.Fetches.{PendingFetch, Fetches, is_shared, shares, shared_number, all_waiters, numbers, starts, waits, waiters_of, left, changed, has_number, with_waiter, with_reply, with_end, with_next, without, fetch_of, next_number, opened_fetch, opened, owner_of}
 use Rattle.pending_fetch.specs.Calls.{is_crowded, is_full, join_fault, join_answer, join_list}
 use Rattle.pending_fetch.specs.declared.fault.JoinFault.{JoinFault}
 use Rattle.pending_fetch.specs.declared.fault.JoinFault.TheVariants.{Full, Double}
@@ -21,8 +21,9 @@ use Rattle.pending_fetch.proofs.Keyed.{KeepsKey, none_shared, keyed_push, keyed_
 use Rattle.pending_fetch.proofs.Waiting.{some_number, no_number, wait_push, wait_joined, wait_changed, wait_left, wait_without, own_number, left_one, nobody_left, dropped, as_many}
 use Rattle.pending_fetch.proofs.Nexts.{next_is}
 use Rattle.std.proofs.lemmas.List.{length-map}
+use Rattle.pending_fetch.specs.Bounds.{most_fetches, most_waiters}
 
--- what is seen
+-- the public view
 abbrev pub seen : ℕ → List PendingFetch → Fetches
 seen last list = record { last = last; list = list }
 
@@ -114,7 +115,7 @@ indexed_closed number f list new keys fewer clients after h e is forgotten put =
 pub many_wait : (list : List PendingFetch) (keys : Keyed) (clients : Waiting) → IsIndexed list keys clients → is_sorted clients ≡ true → length clients ≡ length (all_waiters list)
 many_wait list keys clients h s = as_many clients list s h.legal.once h.waiting
 
-pub few_wait : (number : ℕ) (list : List PendingFetch) → IsLegal list → length (all_waiters list) < 1024 → length (waiters_of number list) < 1024
+pub few_wait : (number : ℕ) (list : List PendingFetch) → IsLegal list → length (all_waiters list) < most_waiters → length (waiters_of number list) < most_waiters
 few_wait number list h l = omega (arith, waits-count list number h)
 
 -- joining
@@ -131,13 +132,13 @@ may_join client list h =
       )
     ] refl h
 
-pub room_left : (list v : List PendingFetch) → list ≡ v → is_crowded v ≡ false → length (all_waiters list) < 1024
-room_left list v e h = is_under (length (all_waiters list)) 1024 (ap is_crowded e ∙ h)
+pub room_left : (list v : List PendingFetch) → list ≡ v → is_crowded v ≡ false → length (all_waiters list) < most_waiters
+room_left list v e h = is_under (length (all_waiters list)) most_waiters (ap is_crowded e ∙ h)
 
 pub nobody_beside : (client : ℕ) (list v : List PendingFetch) (keys : Keyed) (clients : Waiting) → IsIndexed list keys clients → list ≡ v → waits client v ≡ false → number_beside clients client ≡ None
 nobody_beside client list v keys clients h e absent = h.waiting client ∙ no_number client list (ap (waits client) e ∙ absent)
 
--- the shared fetch of a key is there
+-- the shared fetch for a key is in the list
 or_true : (v : Bool) → (v || true) ≡ true
 or_true true = refl
 or_true false = refl
@@ -188,15 +189,15 @@ pub order_opened : (number : ℕ) (order more : List ℕ) (old new : List Pendin
 order_opened number order more old new f e put is same =
     put ∙ ap (λ l. l ++ number ∷ []) e ∙ ap (λ n. numbers old ++ n ∷ []) (sym same) ∙ sym (ap numbers is ∙ numbers-append old (f ∷ []))
 
-pub order_room : (order : List ℕ) (list v : List PendingFetch) → order ≡ numbers list → list ≡ v → nat_le 256 (length v) ≡ false → length order < 256
+pub order_room : (order : List ℕ) (list v : List PendingFetch) → order ≡ numbers list → list ≡ v → nat_le most_fetches (length v) ≡ false → length order < most_fetches
 order_room order list v e i few =
-    let under : length v < 256 = is_under (length v) 256 few in
+    let under : length v < most_fetches = is_under (length v) most_fetches few in
     omega (arith, ap length e, ap length i, length-map list (λ (f : PendingFetch). f.number))
 
 -- opening
-pub not_full : (list : List PendingFetch) → is_full list ≡ false → (nat_le 256 (length list) ≡ false) × (is_crowded list ≡ false)
+pub not_full : (list : List PendingFetch) → is_full list ≡ false → (nat_le most_fetches (length list) ≡ false) × (is_crowded list ≡ false)
 not_full list h =
-    elim (nat_le 256 (length list)) as (λ v. (v || is_crowded list) ≡ false → (v ≡ false) × (is_crowded list ≡ false)) [
+    elim (nat_le most_fetches (length list)) as (λ v. (v || is_crowded list) ≡ false → (v ≡ false) × (is_crowded list ≡ false)) [
       | true ↦ λ e. absurd cc
       | false ↦ λ e. (refl, e)
     ] h
@@ -209,32 +210,32 @@ pub on_err : (A E P : Type 0) (r : Result A E) → OnErr r P → is_err r ≡ tr
 on_err A E P (Ok x) h e = absurd cc
 on_err A E P (Err x) h e = h
 
--- a fetch that is opened shared is the only one of its key
+-- a fetch opened as shared is the only one with its key
 alone_opened : (number : ℕ) (key : List ℕ) (client : ℕ) (shared : Bool) (round : Poll) (list : List PendingFetch) → (shared ≡ true → shared_number key list ≡ None) →
-    is_shared (fresh number key client shared round) ≡ true → list_any (shares key) list ≡ false
+    is_shared (opened_fetch number key client shared round) ≡ true → list_any (shares key) list ≡ false
 alone_opened number key client true round list h s = none_shared key list (h refl)
 alone_opened number key client false round list h s = absurd cc
 
 pub fetch_opened : (number last : ℕ) (list new : List PendingFetch) (f : PendingFetch) (key : List ℕ) (client : ℕ) (shared : Bool) (round : Poll) (v : Fetches) →
-    seen last list ≡ v → new ≡ list ++ f ∷ [] → f ≡ fresh number key client shared round → number ≡ next_number v → seen number new ≡ opened key client shared round v
+    seen last list ≡ v → new ≡ list ++ f ∷ [] → f ≡ opened_fetch number key client shared round → number ≡ next_number v → seen number new ≡ opened key client shared round v
 fetch_opened number last list new f key client shared round v e is fetch next =
     ap (seen number) is ∙ ap (λ g. seen number (list ++ g ∷ [])) fetch
-    ∙ ap (λ k. seen k (list ++ fresh k key client shared round ∷ [])) (next ∙ ap next_number (sym e))
+    ∙ ap (λ k. seen k (list ++ opened_fetch k key client shared round ∷ [])) (next ∙ ap next_number (sym e))
     ∙ ap (opened key client shared round) e
 
 pub indexed_opened : (number last : ℕ) (list new : List PendingFetch) (keys more : Keyed) (clients after : Waiting) (f : PendingFetch) (key : List ℕ) (client : ℕ) (shared : Bool) (round : Poll) (v : Fetches) →
-    seen last list ≡ v → IsIndexed list keys clients → new ≡ list ++ f ∷ [] → f ≡ fresh number key client shared round → number ≡ next_number v →
+    seen last list ≡ v → IsIndexed list keys clients → new ≡ list ++ f ∷ [] → f ≡ opened_fetch number key client shared round → number ≡ next_number v →
     is_full v.list ≡ false → waits client v.list ≡ false → list_all (λ start. nat_le start round.start) (starts v.list) ≡ true → (shared ≡ true → shared_number key v.list ≡ None) →
     ((k : List ℕ) → number_under k more ≡ (if shares k f then Some f.number else number_under k keys)) →
     ((other : ℕ) → number_beside after other ≡ (if client == other then Some number else number_beside clients other)) → IsIndexed new more after
 indexed_opened number last list new keys more clients after f key client shared round v e h is fetch next full absent later unshared put join =
-    let g : PendingFetch = fresh number key client shared round in
+    let g : PendingFetch = opened_fetch number key client shared round in
     let P : List PendingFetch → Type 0 = λ l. IsIndexed l more after in
     let same : list ≡ v.list = ap (λ (w : Fetches). w.list) e in
     let free = not_full v.list full in
-    let few : length list < 256 = is_under (length list) 256 (ap (λ l. nat_le 256 (length l)) same ∙ free.0) in
-    let space : length (all_waiters list) < 1024 = room_left list v.list same free.1 in
-    let size : length (numbers list) ≤ 256 = omega (arith, length-map list (λ (f : PendingFetch). f.number), h.legal.few) in
+    let few : length list < most_fetches = is_under (length list) most_fetches (ap (λ l. nat_le most_fetches (length l)) same ∙ free.0) in
+    let space : length (all_waiters list) < most_waiters = room_left list v.list same free.1 in
+    let size : length (numbers list) ≤ most_fetches = omega (arith, length-map list (λ (f : PendingFetch). f.number), h.legal.few) in
     let next_is_free : IsNext (numbers list) last (next_of (numbers list) last) = next_is (numbers list) last size in
     let unused : is_taken (numbers list) number ≡ false = ap (is_taken (numbers list)) (next ∙ ap next_number (sym e)) ∙ next_is_free.free in
     let nobody : waits client list ≡ false = ap (waits client) same ∙ absent in
@@ -259,7 +260,7 @@ indexed_copied list lent new keys copy clients after h l e put is =
     let P : List PendingFetch → Type 0 = λ x. IsIndexed x copy after in
     subst P (sym e) (record { legal = h.legal; alone = h.alone; keyed = λ key. put key ∙ ap (shared_number key) l; waiting = λ client. ap (λ w. number_beside w client) is ∙ h.waiting client })
 
--- whether a number is there
+-- whether a number is in the list
 pub some_found : {R : Type 0} (g : PendingFetch → R) (number : ℕ) (list : List PendingFetch) → is_some (option_map g (fetch_of number list)) ≡ has_number number list
 some_found g number [] = refl
 some_found g number (f ∷ list) =
@@ -271,7 +272,7 @@ some_found g number (f ∷ list) =
 pub gone_already : (number : ℕ) (list new : List PendingFetch) → new ≡ without number list → fetch_of number list ≡ None → new ≡ list
 gone_already number list new e h = e ∙ without-none number list (sym (some_found (λ (f : PendingFetch). f) number list) ∙ ap (λ o. is_some (option_map (λ (f : PendingFetch). f) o)) h)
 
--- when all rounds started
+-- the start times of all rounds
 pub starts_all : (start : ℕ) (list : List PendingFetch) → list_all (λ (fetch : PendingFetch). nat_le fetch.round.start start) list ≡ list_all (λ one. nat_le one start) (starts list)
 starts_all start [] = refl
 starts_all start (f ∷ list) = rw (starts_all start list) refl

@@ -1,4 +1,4 @@
--- What stays where a fetch is changed but for its number.
+-- What a change of a fetch that keeps its number leaves unchanged.
 use Rattle.std.proofs.Common.{◌≡◌, ℕ, Bool, true, false, List, [], ◌∷◌, refl, ap, sym, ◌∙◌, ◌==◌, if◌then◌else◌, Some, None, Option}
 use Rattle.std.specs.List.{position}
 use Rattle.std.specs.Option.{option_map}
@@ -7,13 +7,13 @@ use Rattle.pending_fetch.specs.Fetches.{PendingFetch, changed, fetch_of}
 use Rattle.pending_fetch.proofs.Words.{numbers-changed}
 use Rattle.pending_fetch.proofs.Spots.{is_it, position-numbers}
 
--- a change that keeps the numbers leaves each fetch where it stands
+-- a change that keeps the numbers leaves each fetch at its index
 pub place_changed : (change : PendingFetch → PendingFetch) → ((f : PendingFetch) → (change f).number ≡ f.number) → (number other : ℕ) (list : List PendingFetch) →
     position (is_it other) (changed change number list) ≡ position (is_it other) list
 place_changed change same number other list =
     sym (position-numbers other (changed change number list)) ∙ ap (position (λ n. n == other)) (numbers-changed change same number list) ∙ position-numbers other list
 
--- the fetch of a number after a change that keeps numbers
+-- the fetch with a number after a change that keeps numbers
 fetch_changed : (change : PendingFetch → PendingFetch) → ((f : PendingFetch) → (change f).number ≡ f.number) → (number : ℕ) (list : List PendingFetch) →
     fetch_of number (changed change number list) ≡ option_map change (fetch_of number list)
 fetch_changed change same number [] = refl

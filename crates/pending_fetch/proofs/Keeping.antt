@@ -1,7 +1,7 @@
--- What a reply, the end of a round's time and a next attempt keep of a fetch.
+-- The fields of a fetch that a reply, the end of its round and the next attempt leave unchanged.
 use Rattle.std.proofs.Common.{◌≡◌, ◌+◌, true, false, eqb, refl, if◌then◌else◌}
 use Rattle.peer_select.specs.declared.reply.Reply.{Reply}
-use Rattle.peer_select.specs.Poll.{Poll, replied, ended}
+use Rattle.peer_select.specs.Poll.{Poll, reply_added, ended}
 use Rattle.pending_fetch.specs.Fetches.{PendingFetch, with_reply, with_end, with_next}
 use Rattle.pending_fetch.proofs.Words.{Keeps}
 
@@ -20,7 +20,7 @@ next_round f = elim (eqb f.attempt 65535) as (λ v. (if v then f else record f {
 pub Keeps-next : Keeps with_next
 Keeps-next = record { number = next_number; start = next_start; waiters = next_waiters }
 
-pub Keeps-reply : (reply : Reply) → ((poll : Poll) (reply : Reply) → (replied poll reply).start ≡ poll.start) → Keeps (with_reply reply)
+pub Keeps-reply : (reply : Reply) → ((poll : Poll) (reply : Reply) → (reply_added poll reply).start ≡ poll.start) → Keeps (with_reply reply)
 Keeps-reply reply same = record { number = λ f. refl; start = λ f. same f.round reply; waiters = λ f. refl }
 
 pub Keeps-end : ((poll : Poll) → (ended poll).start ≡ poll.start) → Keeps with_end

@@ -1,4 +1,4 @@
--- The shared fetches by their keys: what each change of the list does to the number of a key, where no key is shared twice.
+-- The index by key: how each change of the list affects the fetch number of a key, if no two shared fetches have the same key.
 use Rattle.std.proofs.Common.{◌≡◌, ℕ, zero, suc, ◌+◌, ◌<◌, Bool, true, false, not, eqb, List, [], ◌∷◌, ◌++◌, length, take, get_or, refl, ap, sym, ◌∙◌, arith, ◌==◌, ◌||◌, ◌&&◌, if◌then◌else◌, Some, None, Option, is_none}
 use Rattle.std.proofs.lemmas.List.{take_more}
 use Rattle.std.proofs.lemmas.List.Folds.{list_any-append}
@@ -24,7 +24,7 @@ both true true h = (refl, refl)
 both true false h = absurd cc
 both false b h = absurd cc
 
--- of two fetches that share a key each has the other's
+-- two shared fetches with the same key: each has the other's
 turned : (x f : PendingFetch) → shares f.key x ≡ true → is_shared f ≡ true → (is_shared x ≡ true) × (shares x.key f ≡ true)
 turned x f h s =
     let parts = both (is_shared x) (bytes_eq x.key f.key) h in
@@ -38,7 +38,7 @@ any_mid t (x ∷ a) f b h = ap (λ v. t x || v) (any_mid t a f b h) ∙ or_true 
     or_true true = refl
     or_true false = refl
 
--- the parts of a list without a key shared twice
+-- parts of a list in which no two shared fetches have the same key
 first_alone : (x : PendingFetch) (list : List PendingFetch) → is_alone (x ∷ list) ≡ true → (is_shared x ≡ true → list_any (shares x.key) list ≡ false) × (is_alone list ≡ true)
 first_alone x list h =
     let parts = both (not (is_shared x && list_any (shares x.key) list)) (is_alone list) h in
@@ -160,7 +160,7 @@ found_cut t (x ∷ a) f b h =
 of_key : (key : List ℕ) (f : PendingFetch) → shares key f ≡ true → (is_shared f ≡ true) × (f.key ≡ key)
 of_key key f h = let parts = both (is_shared f) (bytes_eq f.key key) h in (parts.0, same_key f.key key parts.1)
 
--- one fetch more
+-- one more fetch
 pub keyed_push : (list : List PendingFetch) (f : PendingFetch) → (is_shared f ≡ true → list_any (shares f.key) list ≡ false) →
     (key : List ℕ) → (if shares key f then Some f.number else shared_number key list) ≡ shared_number key (list ++ f ∷ [])
 keyed_push list f h key =
@@ -172,7 +172,7 @@ keyed_push list f h key =
       | false ↦ λ e. sym (ap number_in (found_last (shares key) list f e))
     ] refl
 
--- one fetch less
+-- one fetch fewer
 pub keyed_cut : (a : List PendingFetch) (f : PendingFetch) (b : List PendingFetch) → is_alone (a ++ f ∷ b) ≡ true →
     (key : List ℕ) → (if shares key f then None else shared_number key (a ++ f ∷ b)) ≡ shared_number key (a ++ b)
 keyed_cut a f b h key =

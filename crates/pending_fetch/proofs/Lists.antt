@@ -1,4 +1,4 @@
--- Lists of numbers that differ, or that rise.
+-- Lists of distinct numbers, and of non-descending ones.
 use Rattle.std.proofs.Common.{◌≡◌, ℕ, ◌≤◌, Bool, true, false, List, [], ◌∷◌, ◌++◌, length, refl, arith, nat_eq, nat_le, ◌==◌, if◌then◌else◌}
 use Rattle.std.proofs.lemmas.Bool.Decides.{nat_tests}
 use Rattle.std.specs.List.{list_any, list_all, IsDistinct, AllByRecursion, filter}
@@ -27,7 +27,7 @@ none_of c (x ∷ xs) h =
     let there : list_any (λ w. w == c) xs ≡ false = grind arith in
     (here, none_of c xs there)
 
--- one that is new, anywhere
+-- a new number inserted anywhere
 pub IsDistinct-insert : (a b : List ℕ) (c : ℕ) → IsDistinct nat_eq (a ++ b) → list_any (λ w. w == c) (a ++ b) ≡ false → IsDistinct nat_eq (a ++ c ∷ b)
 unfolding IsDistinct
 IsDistinct-insert [] b c h k = (none_of c b k, h)
@@ -85,7 +85,7 @@ list_all-last p (y ∷ xs) x h k =
     let rest : list_all p xs ≡ true = grind arith in
     rw (here, list_all-last p xs x rest k) refl
 
--- one more, no less than the others
+-- one more at the end, no less than the others
 pub is_rising-push : (xs : List ℕ) (x : ℕ) → is_rising xs ≡ true → list_all (λ other. nat_le other x) xs ≡ true → is_rising (xs ++ x ∷ []) ≡ true
 is_rising-push [] x h k = refl
 is_rising-push (y ∷ xs) x h k =

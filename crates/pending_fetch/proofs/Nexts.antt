@@ -2,8 +2,9 @@
 use Rattle.std.proofs.Common.{◌≡◌, ℕ, zero, suc, ◌+◌, ◌-◌, ◌<◌, ◌≤◌, true, false, List, length, refl, ap, sym, ◌∙◌, arith, below_more, if◌then◌else◌}
 use Rattle.pending_fetch.specs.Numbers.{nth_after, is_taken, IsNext, free_from, next_of}
 use Rattle.pending_fetch.proofs.Runs.{free_at_last}
+use Rattle.pending_fetch.specs.Bounds.{most_fetches}
 
-search_is : (taken : List ℕ) (last i k : ℕ) → length taken ≤ 256 → i + k ≡ length taken → ((j : ℕ) → j < i → is_taken taken (nth_after last j) ≡ true) → IsNext taken last (free_from taken last i k)
+search_is : (taken : List ℕ) (last i k : ℕ) → length taken ≤ most_fetches → i + k ≡ length taken → ((j : ℕ) → j < i → is_taken taken (nth_after last j) ≡ true) → IsNext taken last (free_from taken last i k)
 search_is taken last i zero few e passed =
     let all : i ≡ length taken = omega arith in
     record {
@@ -18,7 +19,7 @@ search_is taken last i (suc k) few e passed =
       | false ↦ λ t. record { steps = i; place = refl; free = t; passed = passed }
     ] refl
 
-pub next_is : (taken : List ℕ) (last : ℕ) → length taken ≤ 256 → IsNext taken last (next_of taken last)
+pub next_is : (taken : List ℕ) (last : ℕ) → length taken ≤ most_fetches → IsNext taken last (next_of taken last)
 next_is taken last few = search_is taken last 0 (length taken) few (omega arith) (λ j h. absurd (omega arith))
 
 -- one step of the search

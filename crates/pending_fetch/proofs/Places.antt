@@ -1,4 +1,4 @@
--- The fetch of a number, and the first that is due.
+-- The fetch with a number, and the first due fetch.
 use Rattle.std.proofs.Common.{◌≡◌, ℕ, ◌+◌, Bool, true, false, not, eqb, List, [], ◌∷◌, ◌++◌, refl, ap, sym, ◌∙◌, subst, arith, nat_eq, nat_le, ◌==◌, ◌&&◌, if◌then◌else◌, Some, None, eq-eqb}
 use Rattle.std.proofs.lemmas.Bool.Decides.{nat_tests}
 use Rattle.std.proofs.lemmas.List.Elements.{filter-append}
@@ -11,7 +11,7 @@ use Rattle.pending_fetch.specs.Legal.{IsLegal}
 use Rattle.pending_fetch.specs.Places.{IsPlace, IsFirstDue}
 use Rattle.pending_fetch.proofs.Words.{changed-seam, without-seam, find-seam, none_later}
 
--- what a search finds, with what stands before and after it
+-- the result of a search, with the parts of the list before and after it
 pub record IsFound (test : PendingFetch → Bool) (list : List PendingFetch) (f : PendingFetch) : Type 0 where
   pub before : List PendingFetch
   pub after : List PendingFetch
@@ -64,7 +64,7 @@ apart_from : (n : ℕ) (a : List PendingFetch) (f : PendingFetch) (b : List Pend
 apart_from n [] f b h = h.0
 apart_from n (x ∷ a) f b h = apart_from n a f b h.1
 
--- the first of distinct numbers is found by its number
+-- with distinct numbers, no fetch before f has its number
 pub number_apart : (number : ℕ) (a : List PendingFetch) (f : PendingFetch) (b : List PendingFetch) → f.number ≡ number → IsDistinct nat_eq (numbers (a ++ f ∷ b)) → has_number number a ≡ false
 unfolding IsDistinct
 number_apart number [] f b e h = refl

@@ -1,4 +1,4 @@
--- What each change of the list does to the queue of its undecided rounds.
+-- How each change of the list affects the queue of its undecided rounds.
 use Rattle.std.proofs.Common.{◌≡◌, ℕ, zero, suc, get_or, take, drop, ◌+◌, ◌<◌, ◌≤◌, Bool, true, false, not, eqb, nat_le, List, [], ◌∷◌, ◌++◌, length, map, filter, refl, ap, sym, ◌∙◌, subst, arith, nat_eq, ◌==◌, ◌||◌, ◌&&◌, if◌then◌else◌, Some, None}
 use Rattle.std.specs.Prelude.{Option, Result, Ok, Err, IfSome}
 use Rattle.std.specs.Option.{option_map}
@@ -12,10 +12,11 @@ use Rattle.std.proofs.lemmas.Bool.{eqb-true}
 use Rattle.std.proofs.lemmas.List.Elements.{filter-append}
 use Rattle.peer_select.specs.Poll.{Poll, decided, ended}
 use Rattle.pending_fetch.specs.declared.undecided.Undecided.{Undecided}
-use Rattle.pending_fetch.specs.Fetches.{PendingFetch, numbers, starts, fetch_of, has_number, changed, without, without_client, left, fresh, with_end, with_waiter, with_next, is_due, first_due}
+use Rattle.pending_fetch.specs.Fetches.{PendingFetch, numbers, starts, fetch_of, has_number, changed, without, without_client, left, opened_fetch, with_end, with_waiter, with_next, is_due, first_due}
 use Rattle.pending_fetch.specs.Legal.{IsLegal, is_rising}
 use Rattle.pending_fetch.specs.Queue.{numbers_queued, as_undecided, queue_of, entry_of, entry_at, listed, dequeued, settled, first_of_queue, IsQueue}
 use Rattle.pending_fetch.proofs.Words.{Keeps, none_later}
+use Rattle.pending_fetch.specs.Bounds.{most_fetches}
 
 nothing_more : (q : List Undecided) → q ++ [] ≡ [] ++ q
 nothing_more [] = refl
@@ -73,7 +74,7 @@ settled-other None number f q h = refl
 settled-other (Some true) number f q h = sym (dequeued-append number (entry_of f) q ∙ ap (λ e. e ++ dequeued number q) (dequeued-entry-other number f h))
 settled-other (Some false) number f q h = refl
 
--- what a change has to leave of a fetch
+-- the fields of a fetch that a change must leave unchanged
 entry_kept : (change : PendingFetch → PendingFetch) → Keeps change → (f : PendingFetch) → as_undecided (change f) ≡ as_undecided f
 entry_kept change k f =
     let one : (change f).number ≡ f.number = k.number f in
@@ -136,7 +137,7 @@ queue-without number (f ∷ list) =
           ∙ sym (dequeued-append number (entry_of f) (queue_of list)) ∙ ap (dequeued number) (sym (queue-cons f list))
     ] refl
 
--- the end of a round's time
+-- the end of a round
 pub ended_found : ((poll : Poll) → decided (ended poll) ≡ true) → (number : ℕ) (list : List PendingFetch) →
     (if has_number number list then Some true else None) ≡ option_map (λ (f : PendingFetch). decided (with_end f).round) (fetch_of number list)
 ended_found over number [] = refl
@@ -146,7 +147,7 @@ ended_found over number (f ∷ list) =
       | false ↦ ended_found over number list
     ]
 
--- ---- the first that is due
+-- ---- the first due fetch
 none_due : (now start : ℕ) (list : List PendingFetch) → list_all (λ other. nat_le start other) (starts list) ≡ true → nat_le (start + 2000) now ≡ false → find (is_due now) list ≡ None
 none_due now start [] h k = refl
 none_due now start (f ∷ list) h k =
@@ -190,17 +191,17 @@ queue_closed number room after old new queue more h same is put = record {
 pub queue_kept : (room : ℕ) (old new : List PendingFetch) (queue : List Undecided) → IsQueue room queue old → queue_of new ≡ queue_of old → IsQueue room queue new
 queue_kept room old new queue h same = record { roomy = h.roomy; queue_is = h.queue_is ∙ sym same }
 
-pub queue_opened : (room after : ℕ) (old new : List PendingFetch) (f : PendingFetch) (entry queue more : List Undecided) → IsQueue room queue old → 256 ≤ after →
+pub queue_opened : (room after : ℕ) (old new : List PendingFetch) (f : PendingFetch) (entry queue more : List Undecided) → IsQueue room queue old → most_fetches ≤ after →
     new ≡ old ++ f ∷ [] → entry ≡ entry_of f → more ≡ queue ++ entry → IsQueue after more new
 queue_opened room after old new f entry queue more h roomy is same put = record {
   roomy = roomy;
   queue_is = put ∙ ap (λ q. q ++ entry) h.queue_is ∙ ap (λ e. queue_of old ++ e) same ∙ sym (queue-push old f) ∙ ap queue_of (sym is);
 }
 
-pub entry_listed : (number : ℕ) (key : List ℕ) (client : ℕ) (shared : Bool) (round : Poll) → listed (entry_at number round) ≡ entry_of (fresh number key client shared round)
+pub entry_listed : (number : ℕ) (key : List ℕ) (client : ℕ) (shared : Bool) (round : Poll) → listed (entry_at number round) ≡ entry_of (opened_fetch number key client shared round)
 entry_listed number key client shared round =
     elim (decided round) as (λ v. listed (if v then None else Some (let e : Undecided = record { number = number; start = round.start } in e))
-    ≡ (if v then [] else as_undecided (fresh number key client shared round) ∷ [])) [ true ↦ refl | false ↦ refl ]
+    ≡ (if v then [] else as_undecided (opened_fetch number key client shared round) ∷ [])) [ true ↦ refl | false ↦ refl ]
 
 pub queue_seen : (room : ℕ) (queue : List Undecided) (a b : List PendingFetch) → a ≡ b → IsQueue room queue a → IsQueue room queue b
 queue_seen room queue a b e h = record { roomy = h.roomy; queue_is = h.queue_is ∙ ap queue_of e }
@@ -208,13 +209,13 @@ queue_seen room queue a b e h = record { roomy = h.roomy; queue_is = h.queue_is 
 is_under : (a b : ℕ) → nat_le b a ≡ false → a < b
 is_under a b h = grind arith
 
-pub queue_room : (room : ℕ) (queue : List Undecided) (list : List PendingFetch) → IsQueue room queue list → nat_le 256 (length list) ≡ false → length queue < 256
+pub queue_room : (room : ℕ) (queue : List Undecided) (list : List PendingFetch) → IsQueue room queue list → nat_le most_fetches (length list) ≡ false → length queue < most_fetches
 queue_room room queue list h few =
-    let under : length list < 256 = is_under (length list) 256 few in
+    let under : length list < most_fetches = is_under (length list) most_fetches few in
     let short : length (queue_of list) ≤ length list = length-queue list in
     omega (arith, ap length h.queue_is)
 
--- ---- a search by halves
+-- ---- a binary search
 pub found_entry : (queue : List Undecided) (number : ℕ) (r : Result ℕ ℕ) → IsSearchInRange r (length queue) → IsBinarySearchResult (λ (e : Undecided). nat_cmp e.number number) queue r →
     IfSome (result_ok r) (λ place. (place < length queue) × ((d : Undecided) → (get_or queue place d).number ≡ number))
 found_entry queue number (Ok i) in_range equal = (in_range, λ d. ranked (get_or queue i d).number number _ (sym (equal d)))

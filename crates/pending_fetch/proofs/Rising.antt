@@ -1,4 +1,4 @@
--- Numbers that rise: one more, one less, and where a search by halves finds a number.
+-- Ascending numbers: insertion, removal, and the index that a binary search finds.
 use Rattle.std.proofs.Common.{nat_cmp, ◌≡◌, ℕ, suc, zero, ◌+◌, ◌<◌, ◌≤◌, Bool, true, false, not, cond, eqb, nat_lt, nat_le, ◌&&◌, List, [], ◌∷◌, ◌++◌, length, take, drop, get_or, refl, ap, sym, ◌∙◌, arith, ◌==◌, ◌||◌, nat_eq, Some, None}
 use Rattle.std.specs.Prelude.{Option, Result, Ok, Err, is_some}
 use Rattle.std.specs.List.{list_all, list_any, position, position_or_len}
@@ -9,13 +9,13 @@ use Rattle.std.proofs.lemmas.List.{take_more}
 use Rattle.std.proofs.lemmas.List.Sorted.{searched}
 use Rattle.pending_fetch.specs.Numbers.{is_climbing, rises_to, is_taken}
 
--- what holds of all holds at a place
+-- what holds of all holds at an index
 all_at : (p : ℕ → Bool) (xs : List ℕ) (i : ℕ) → list_all p xs ≡ true → i < length xs → p (get_or xs i 0) ≡ true
 all_at p [] i h l = absurd (omega arith)
 all_at p (x ∷ xs) zero h l = let here : p x ≡ true = grind arith in here
 all_at p (x ∷ xs) (suc i) h l = let there : list_all p xs ≡ true = grind arith in all_at p xs i there (omega arith)
 
--- a climbing list has a number at one place alone
+-- a strictly ascending list has a number at one index only
 at_first : (xs : List ℕ) (x i : ℕ) → is_climbing xs ≡ true → i < length xs → get_or xs i 0 ≡ x → position_or_len (λ n. n == x) xs ≡ i
 at_first [] x i h l e = absurd (omega arith)
 at_first (y ∷ ys) x zero h l e = let same : eqb y x ≡ true = grind (arith, nat_tests) in rw same refl
@@ -54,7 +54,7 @@ past_all xs x e =
     let outside : nat_lt (position_or_len (λ n. n == x) xs) (length xs) ≡ false = grind arith in
     ap (λ v. cond v (Some (position_or_len (λ n. n == x) xs)) None) outside
 
--- a search by halves finds the place
+-- a binary search finds the index
 pub found_by_halves : (xs : List ℕ) (x : ℕ) (r : Result ℕ ℕ) → IsBinarySearchResult (λ y. nat_cmp y x) xs r → is_climbing xs ≡ true → result_ok r ≡ position (λ n. n == x) xs
 found_by_halves xs x (Ok i) h climbs =
     let at = searched xs x (Ok i) h (λ i j le l. rises xs i j climbs le l) in
@@ -70,7 +70,7 @@ found_by_halves xs x (Err i) h climbs =
           | false ↦ λ e. let over : i ≤ k = grind arith in let more : x < get_or xs k 0 = at.2 k over l in grind (arith, nat_tests)
         ] refl
 
--- one more, above all
+-- one more, above all others
 all_under : (x : ℕ) (xs : List ℕ) (top number : ℕ) → list_all (λ n. nat_le n top) xs ≡ true → nat_lt top number ≡ true → list_all (λ n. nat_lt x n) xs ≡ true → nat_lt x number ≡ true → list_all (λ n. nat_lt x n) (xs ++ number ∷ []) ≡ true
 all_under x [] top number h t k l = rw l refl
 all_under x (y ∷ xs) top number h t k l =
@@ -146,7 +146,7 @@ rises_next xs top number i d h l is above =
     let more : take (i + 1) xs ≡ take i xs ++ number ∷ [] = take_more xs i d l ∙ ap (λ n. take i xs ++ n ∷ []) (sym is) in
     ap (rises_to (Some number)) more ∙ rises_more (take i xs) top number h above
 
--- a number has a place where it is one of them
+-- a number of the list has an index
 placed-inside : (x : ℕ) (xs : List ℕ) → nat_lt (position_or_len (λ n. n == x) xs) (length xs) ≡ list_any (λ m. nat_eq x m) xs
 placed-inside x [] = refl
 placed-inside x (y ∷ ys) =

@@ -1,4 +1,4 @@
--- As many numbers in a row as are taken, and one more, are not all taken.
+-- Among one more consecutive number than are taken, one is free.
 use Rattle.std.proofs.Common.{◌≡◌, ℕ, zero, suc, ◌+◌, ◌%◌, ◌<◌, ◌≤◌, ◌≢◌, true, false, List, [], ◌∷◌, ◌++◌, length, refl, ap, sym, ◌∙◌, arith, nat_eq, ◌||◌, length-append, below_more}
 use Rattle.std.specs.List.{list_any, IsDistinct}
 use Rattle.std.specs.Cmp.{nat_eq_equiv}
@@ -6,6 +6,7 @@ use Rattle.std.proofs.lemmas.Map.Keys.{IsDistinct-push}
 use Rattle.std.proofs.lemmas.Map.Made.{length-le_from_is_member}
 use Rattle.std.proofs.lemmas.List.Folds.{list_any-append}
 use Rattle.pending_fetch.specs.Numbers.{nth_after}
+use Rattle.pending_fetch.specs.Bounds.{most_fetches}
 
 pub next_nth : (last i : ℕ) → nth_after last i % 4294967295 + 1 ≡ nth_after last (i + 1)
 next_nth last i = omega arith
@@ -24,7 +25,7 @@ length-run last (suc k) =
     let before : length (run last k) ≡ k = length-run last k in
     length-append (run last k) (nth_after last k ∷ []) ∙ omega arith
 
--- a member of the run stands at a place
+-- a member of the run has an index
 place_in : (last k q : ℕ) → list_any (nat_eq q) (run last k) ≡ true → (j : ℕ) × (j < k) × (q ≡ nth_after last j)
 place_in last zero q h = absurd (cc)
 place_in last (suc k) q h =
@@ -56,8 +57,8 @@ crowded taken last k h passed =
     let long : length (run last k) ≡ k = length-run last k in
     omega arith
 
--- where all so many are taken, the one after them is free
-pub free_at_last : (taken : List ℕ) (last n : ℕ) → length taken ≤ 256 → n ≡ nth_after last (length taken) →
+-- if as many consecutive numbers are taken as there are, the next one is free
+pub free_at_last : (taken : List ℕ) (last n : ℕ) → length taken ≤ most_fetches → n ≡ nth_after last (length taken) →
     ((i : ℕ) → i < length taken → list_any (λ m. nat_eq (nth_after last i) m) taken ≡ true) → list_any (λ m. nat_eq n m) taken ≡ false
 free_at_last taken last n few place passed =
     elim (list_any (λ m. nat_eq n m) taken) as (λ v. list_any (λ m. nat_eq n m) taken ≡ v → v ≡ false) [

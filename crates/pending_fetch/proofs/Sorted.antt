@@ -1,4 +1,4 @@
--- Clients in order: what a search by halves finds, and one more, one less, or only some of them.
+-- Sorted clients: the result of a binary search, insertion, removal, and filtering.
 use Rattle.std.proofs.Common.{◌≡◌, ℕ, zero, suc, ◌+◌, ◌<◌, ◌≤◌, ◌≢◌, Bool, true, false, not, eqb, nat_lt, ◌&&◌, ◌||◌, ◌==◌, List, [], ◌∷◌, ◌++◌, length, take, drop, filter, get_or, refl, ap, sym, ◌∙◌, subst, arith, if◌then◌else◌, Some, None, Option, Result, Ok, Err, IfOk, IfErr}
 use Rattle.std.specs.List.{insert, list_all, list_any}
 use Rattle.std.specs.List.Sorted.{IsSearchInRange, IsBinarySearchResult, IsNonDecreasingBy}
@@ -8,7 +8,7 @@ use Rattle.std.proofs.lemmas.List.Sorted.{IsNonDecreasingBy-from_default}
 use Rattle.std.proofs.lemmas.Bool.Decides.{nat_tests}
 use Rattle.pending_fetch.specs.Indexes.{Waiting, number_beside, is_number, is_sorted, client_at, IsAt, IsGapFor}
 
--- what holds of all holds at a place, and the other way round
+-- what holds of all holds at an index, and conversely
 all_at : (p : ℕ × ℕ → Bool) (l : Waiting) (i : ℕ) → list_all p l ≡ true → i < length l → p (get_or l i (0, 0)) ≡ true
 all_at p [] i h k = absurd (omega arith)
 all_at p (x ∷ l) zero h k = let here : p x ≡ true = grind arith in here
@@ -18,7 +18,7 @@ all_from : (p : ℕ × ℕ → Bool) (l : Waiting) → ((i : ℕ) → i < length
 all_from p [] h = refl
 all_from p (x ∷ l) h = rw (h 0 (omega arith), all_from p l (λ i k. h (suc i) (omega arith))) refl
 
--- by places
+-- by index
 rising : (l : Waiting) (i j : ℕ) → is_sorted l ≡ true → i < j → j < length l → client_at l i < client_at l j
 rising [] i j h u k = absurd (omega arith)
 rising (x ∷ l) i zero h u k = absurd (omega arith)
@@ -28,7 +28,7 @@ rising (x ∷ l) zero (suc j) h u k =
     grind (arith, nat_tests)
 rising (x ∷ l) (suc i) (suc j) h u k = let rest : is_sorted l ≡ true = grind arith in rising l i j rest (omega arith) (omega arith)
 
--- nobody of this name before a place
+-- this client is not before an index
 abbrev pub NoneBefore : Waiting → ℕ → ℕ → Type 0
 NoneBefore l client i = (j : ℕ) → j < i → client_at l j ≢ client
 
@@ -62,7 +62,7 @@ none_at_all (x ∷ l) client h =
     let rest : list_all (λ (other : ℕ × ℕ). nat_lt client other.0) l ≡ true = grind arith in
     grind (arith, nat_tests, none_at_all l client rest)
 
--- a search by halves
+-- a binary search
 module _ (l : Waiting) (sorted : is_sorted l ≡ true) (client : ℕ) where
   comparisons_rise : IsNonDecreasingBy (λ (pair : ℕ × ℕ). ordering_index (nat_cmp pair.0 client)) l
   comparisons_rise = IsNonDecreasingBy-from_default (λ (pair : ℕ × ℕ). ordering_index (nat_cmp pair.0 client)) l (0, 0) (λ i j le in_range.
@@ -89,7 +89,7 @@ beside_at l client i sorted at = beside_present l client i at (none_before_at l 
 pub beside_gap : (l : Waiting) (client i : ℕ) → IsGapFor l client i → number_beside l client ≡ None
 beside_gap l client i gap = beside_absent l client (λ j lt same. grind (arith, gap.smaller_before j, gap.greater_after j))
 
--- one more
+-- insertion
 all-insert : (p : ℕ × ℕ → Bool) (l : Waiting) (i : ℕ) (x : ℕ × ℕ) → list_all p l ≡ true → p x ≡ true → list_all p (insert l i x) ≡ true
 all-insert p l zero x h k = rw (k, h) refl
 all-insert p [] (suc i) x h k = rw k refl
@@ -122,7 +122,7 @@ pub beside_joined : (l : Waiting) (client number i : ℕ) → IsGapFor l client 
     (other : ℕ) → number_beside (insert l i (client, number)) other ≡ (if eqb client other then Some number else number_beside l other)
 beside_joined l client number i gap = beside-insert l client number i (λ j lt same. omega (arith, gap.smaller_before j lt))
 
--- one less
+-- removal
 all_drop : (p : ℕ × ℕ → Bool) (l : Waiting) (n : ℕ) → list_all p l ≡ true → list_all p (drop n l) ≡ true
 all_drop p l zero h = h
 all_drop p [] (suc n) h = refl
@@ -189,7 +189,7 @@ pub beside_left : (l : Waiting) (client i : ℕ) → is_sorted l ≡ true → Is
     (other : ℕ) → number_beside (take i l ++ drop (i + 1) l) other ≡ (if eqb client other then None else number_beside l other)
 beside_left l client i h at other = left_at l client i (i + 1) (omega arith) h at other
 
--- those of other fetches
+-- the clients of other fetches
 all-filter : (p q : ℕ × ℕ → Bool) (l : Waiting) → list_all p l ≡ true → list_all p (filter q l) ≡ true
 all-filter p q [] h = refl
 all-filter p q (x ∷ l) h =
@@ -210,7 +210,7 @@ sorted-filter q (x ∷ l) h =
       | false ↦ sorted-filter q l rest
     ]
 
--- the numbers but one
+-- the entries with another number
 abbrev kept_numbers : ℕ → ℕ × ℕ → Bool
 kept_numbers number pair = not (pair.1 == number)
 

@@ -1,4 +1,4 @@
--- The place of the fetch of a number: what stands there, and the list with it changed or taken out.
+-- The index of the fetch with a number: the entry there, and the list with it changed or removed.
 use Rattle.std.proofs.Common.{◌≡◌, ℕ, zero, suc, ◌+◌, ◌<◌, ◌≤◌, Bool, true, false, not, cond, nat_lt, List, [], ◌∷◌, ◌++◌, length, map, take, drop, set, get_or, refl, ap, sym, ◌∙◌, subst, arith, nat_eq, ◌==◌, ◌||◌, if◌then◌else◌, Some, None, Option}
 use Rattle.std.proofs.lemmas.Bool.{eqb-true}
 use Rattle.std.proofs.lemmas.List.Folds.{list_any-append}

@@ -1,4 +1,4 @@
--- Who waits for which fetch: what each change of the list does to the number that a client waits for, and how many wait.
+-- The index by client: how each change of the list affects the fetch number of a client, and the number of waiters.
 use Rattle.std.proofs.Common.{◌≡◌, ℕ, zero, suc, ◌+◌, ◌<◌, ◌≤◌, Bool, true, false, not, eqb, nat_lt, List, [], ◌∷◌, ◌++◌, length, map, filter, get_or, refl, ap, sym, ◌∙◌, subst, arith, nat_eq, ◌==◌, ◌||◌, ◌&&◌, if◌then◌else◌, Some, None, Option, is_some}
 use Rattle.std.proofs.lemmas.Bool.Decides.{nat_tests}
 use Rattle.std.proofs.lemmas.List.{length-map}
@@ -22,7 +22,7 @@ or_parts : (a b : Bool) → (a || b) ≡ false → (a ≡ false) × (b ≡ false
 or_parts true b h = absurd cc
 or_parts false b h = (refl, h)
 
--- who waits has a number
+-- a waiting client has a fetch number
 pub some_number : (client : ℕ) (list : List PendingFetch) → is_some (number_for client list) ≡ waits client list
 some_number client [] = refl
 some_number client (f ∷ list) =
@@ -38,7 +38,7 @@ no_number client list h = none_of (number_for client list) (some_number client l
     none_of None h = refl
     none_of (Some n) h = absurd cc
 
--- one fetch more
+-- one more fetch
 push_at : (list : List PendingFetch) (f : PendingFetch) (client : ℕ) → f.waiters ≡ client ∷ [] → waits client list ≡ false →
     (other : ℕ) → (if client == other then Some f.number else number_for other list) ≡ number_for other (list ++ f ∷ [])
 push_at [] f client one h other = sym (ap (λ w. if is_in other w then Some f.number else None) one ∙ ap (λ v. if v then Some f.number else None) (or_false (client == other)))
@@ -56,7 +56,7 @@ pub wait_push : (list : List PendingFetch) (f : PendingFetch) (client : ℕ) →
     (other : ℕ) → (if client == other then Some f.number else number_for other list) ≡ number_for other (list ++ f ∷ [])
 wait_push = push_at
 
--- one waiter more
+-- one more waiter
 joined_here : (x : PendingFetch) (client other : ℕ) (o : Option ℕ) → (if client == other then Some x.number else (if waits_in other x then Some x.number else o)) ≡ (if waits_in other (with_waiter client x) then Some x.number else o)
 joined_here x client other o =
     let joined : waits_in other (with_waiter client x) ≡ (waits_in other x || (client == other)) =
@@ -103,7 +103,7 @@ wait_changed change k number (x ∷ list) other =
       | false ↦ ap (λ o. if waits_in other x then Some x.number else o) (wait_changed change k number list other)
     ]
 
--- one client less
+-- one client fewer
 in_without : (client other : ℕ) (xs : List ℕ) → is_in other (without_client client xs) ≡ (if eqb client other then false else is_in other xs)
 in_without client other [] = elim (eqb client other) as (λ v. false ≡ (if v then false else false)) [ true ↦ refl | false ↦ refl ]
 in_without client other (x ∷ xs) =
@@ -141,7 +141,7 @@ nobody_left client (f ∷ list) h =
     let parts = or_parts (is_in client f.waiters) (is_in client (all_waiters list)) (sym (list_any-append (λ waiter. waiter == client) f.waiters (all_waiters list)) ∙ h) in
     ap (λ w. record f { waiters = w } ∷ left client list) (all_others client f.waiters parts.0) ∙ ap (λ l. f ∷ l) (nobody_left client list parts.1)
 
--- of distinct clients none waits twice
+-- among distinct waiters none waits twice
 in_back : (other : ℕ) (w b : List ℕ) → is_in other (w ++ b) ≡ false → is_in other b ≡ false
 in_back other [] b h = h
 in_back other (x ∷ w) b h = in_back other w b (or_parts (eqb x other) (is_in other (w ++ b)) h).1
@@ -285,7 +285,7 @@ own_number number f (x ∷ list) d o h other =
           | false ↦ λ t. refl
         ] refl
 
--- how many wait
+-- the number of waiters
 names : Waiting → List ℕ
 names l = map (λ (pair : ℕ × ℕ). pair.0) l
 

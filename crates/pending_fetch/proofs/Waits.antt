@@ -1,4 +1,4 @@
--- Who waits after each change, and whose neighbours the rounds are of.
+-- The waiters after each change, and the tables that the rounds match.
 use Rattle.std.proofs.Common.{◌≡◌, ℕ, ◌+◌, Bool, true, false, not, eqb, List, [], ◌∷◌, ◌++◌, length, refl, ap, sym, ◌∙◌, subst, arith, nat_eq, ◌==◌, ◌||◌, ◌&&◌, if◌then◌else◌, length-append, Some, None}
 use Rattle.std.proofs.lemmas.Bool.Decides.{nat_tests}
 use Rattle.std.proofs.lemmas.List.Folds.{list_any-append}
@@ -80,7 +80,7 @@ in_without client other (x ∷ xs) =
 pub waits-left : (list : List PendingFetch) (client other : ℕ) → waits other (left client list) ≡ (waits other list && not (other == client))
 waits-left list client other = ap (is_in other) (all_waiters-left client list) ∙ in_without client other (all_waiters list)
 
--- of distinct clients none is in two parts
+-- among distinct waiters none is in two parts of the list
 none_of_all : (x other : ℕ) (xs : List ℕ) → AllByRecursion (λ y. nat_eq x y ≡ false) xs → is_in other xs ≡ true → eqb x other ≡ false
 none_of_all x other [] h k = absurd cc
 none_of_all x other (y ∷ xs) h k =
@@ -166,7 +166,7 @@ count_by list number (Some f) h e =
 pub waits-count : (list : List PendingFetch) (number : ℕ) → IsLegal list → length (waiters_of number list) + length (all_waiters (without number list)) ≡ length (all_waiters list)
 waits-count list number h = count_by list number (fetch_of number list) h refl
 
--- rounds of one table
+-- rounds that match one table
 abbrev is_of : List Neighbour → PendingFetch → Bool
 is_of neighbours f = matches neighbours f.round.peers
 

@@ -1,4 +1,4 @@
--- The words of the list of fetches, joined.
+-- Combinations of the operations on the list of fetches.
 use Rattle.std.proofs.Common.{◌≡◌, ℕ, ◌+◌, ◌<◌, ◌≤◌, Bool, true, false, not, eqb, List, [], ◌∷◌, ◌++◌, length, refl, ap, sym, ◌∙◌, subst, arith, nat_eq, nat_le, ◌==◌, ◌||◌, if◌then◌else◌, append_assoc, length-append, Some, None}
 use Rattle.std.proofs.lemmas.Bool.Decides.{nat_tests}
 use Rattle.std.proofs.lemmas.List.{append-nil}
@@ -10,6 +10,7 @@ use Rattle.pending_fetch.specs.Numbers.{is_taken}
 use Rattle.pending_fetch.specs.Fetches.{PendingFetch, numbers, starts, all_waiters, waits, has_number, changed, with_waiter, without_client, left, without}
 use Rattle.pending_fetch.specs.Legal.{IsLegal, is_rising}
 use Rattle.pending_fetch.proofs.Lists.{IsDistinct-cut, IsDistinct-insert, IsDistinct-filter, length-filter, is_rising-cut, is_rising-push}
+use Rattle.pending_fetch.specs.Bounds.{most_fetches, most_waiters}
 
 pub all_waiters-append : (a b : List PendingFetch) → all_waiters (a ++ b) ≡ all_waiters a ++ all_waiters b
 all_waiters-append [] b = refl
@@ -23,7 +24,7 @@ pub starts-append : (a b : List PendingFetch) → starts (a ++ b) ≡ starts a +
 starts-append [] b = refl
 starts-append (f ∷ a) b = ap (λ l. f.round.start ∷ l) (starts-append a b)
 
--- where no fetch has the number
+-- if no fetch has the number
 pub changed-none : (change : PendingFetch → PendingFetch) (number : ℕ) (list : List PendingFetch) → has_number number list ≡ false → changed change number list ≡ list
 changed-none change number [] h = refl
 changed-none change number (f ∷ fs) h =
@@ -38,7 +39,7 @@ without-none number (f ∷ fs) h =
     let there : has_number number fs ≡ false = grind arith in
     rw here (ap (λ l. f ∷ l) (without-none number fs there))
 
--- at the first fetch of the number
+-- at the first fetch with the number
 pub changed-seam : (change : PendingFetch → PendingFetch) (number : ℕ) (a : List PendingFetch) (f : PendingFetch) (b : List PendingFetch) →
     has_number number a ≡ false → eqb f.number number ≡ true → changed change number (a ++ f ∷ b) ≡ a ++ change f ∷ b
 changed-seam change number [] f b h k = rw k refl
@@ -123,7 +124,7 @@ IsLegal-changed change number list k h =
     IsLegal-same list (changed change number list) (length-changed change number list) (numbers-changed change k.number number list)
     (all_waiters-changed change k.waiters number list) (starts-changed change k.start number list) h
 
--- one client more, anywhere among the others
+-- one more client, anywhere among the others
 pub record IsInserted (c : ℕ) (old new : List ℕ) : Type 0 where
   pub front : List ℕ
   pub back : List ℕ
@@ -156,7 +157,7 @@ inserted_length c old new i =
     let two : length new ≡ length i.front + length (c ∷ i.back) = ap length i.is ∙ length-append i.front (c ∷ i.back) in
     omega arith
 
-pub IsLegal-joined : (client number : ℕ) (list : List PendingFetch) → has_number number list ≡ true → waits client list ≡ false → length (all_waiters list) < 1024 →
+pub IsLegal-joined : (client number : ℕ) (list : List PendingFetch) → has_number number list ≡ true → waits client list ≡ false → length (all_waiters list) < most_waiters →
     IsLegal list → IsLegal (changed (with_waiter client) number list)
 IsLegal-joined client number list has absent room h =
     let i : IsInserted client (all_waiters list) (all_waiters (changed (with_waiter client) number list)) = all_waiters-joined client number list has in
@@ -225,7 +226,7 @@ IsLegal-cut a f b h =
       in_order = ap is_rising (starts-append a b) ∙ is_rising-cut (starts a) (f.round.start ∷ []) (starts b) (sym (ap is_rising s) ∙ h.in_order);
     }
 
-pub IsLegal-push : (list : List PendingFetch) (f : PendingFetch) (client : ℕ) → f.waiters ≡ client ∷ [] → length list < 256 → length (all_waiters list) < 1024 →
+pub IsLegal-push : (list : List PendingFetch) (f : PendingFetch) (client : ℕ) → f.waiters ≡ client ∷ [] → length list < most_fetches → length (all_waiters list) < most_waiters →
     is_taken (numbers list) f.number ≡ false → waits client list ≡ false → list_all (λ start. nat_le start f.round.start) (starts list) ≡ true →
     IsLegal list → IsLegal (list ++ f ∷ [])
 IsLegal-push list f client one few room fresh absent later h =
@@ -240,7 +241,7 @@ IsLegal-push list f client one few room fresh absent later h =
       in_order = ap is_rising (starts-append list (f ∷ [])) ∙ is_rising-push (starts list) f.round.start h.in_order later;
     }
 
--- of distinct numbers there is one
+-- with distinct numbers, at most one fetch has a given number
 none_after : (number : ℕ) (list : List PendingFetch) → AllByRecursion (λ y. nat_eq number y ≡ false) (numbers list) → has_number number list ≡ false
 none_after number [] h = refl
 none_after number (f ∷ fs) h =

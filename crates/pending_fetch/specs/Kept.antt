@@ -1,4 +1,4 @@
--- A pending fetch as it is held.
+-- The fetch that a slot in memory represents.
 use Rattle.std.specs.Prelude.{ℕ}
 use Rattle.pending_fetch.specs.declared.kept.Slot.{Slot}
 use Rattle.pending_fetch.specs.Fetches.{PendingFetch}

@@ -1,3 +1,4 @@
+pub mod Bounds
 pub mod Fetches
 pub mod Numbers
 pub mod Calls
@@ -5,5 +6,5 @@ pub mod Legal
 pub mod Kept
 pub mod Indexes
 pub mod Places
-pub mod Standing
+pub mod FetchIndex
 pub mod Queue

@@ -1,8 +1,8 @@
--- What the words of the list mean at one fetch of it, and at the first that is due.
+-- The operations on the list, described at the entry of one fetch, and at the first due fetch.
 use Rattle.std.specs.Prelude.{◌≡◌, ℕ, true, List, [], ◌∷◌, ◌++◌, filter, Some}
 use Rattle.pending_fetch.specs.Fetches.{PendingFetch, fetch_of, waiters_of, without, changed, is_due, all_due, with_end}
 
--- f is the fetch of this number: it stands between two parts of the list, and each word speaks of it alone
+-- f is the fetch with this number: the list is `before`, f, `after`, and each operation on the number affects f alone
 pub record IsPlace (number : ℕ) (list : List PendingFetch) (f : PendingFetch) : Type 0 where
   pub before : List PendingFetch
   pub after : List PendingFetch
@@ -12,7 +12,7 @@ pub record IsPlace (number : ℕ) (list : List PendingFetch) (f : PendingFetch) 
   pub closed : without number list ≡ before ++ after
   pub change : (change : PendingFetch → PendingFetch) → changed change number list ≡ before ++ change f ∷ after
 
--- the fetch of this number is the first that is due; closed or expired, it leaves the others that are due
+-- the fetch with this number is the first due one; closing or expiring it leaves exactly the other due fetches
 pub record IsFirstDue (now number : ℕ) (list : List PendingFetch) : Type 0 where
   pub fetch : PendingFetch
   pub found : fetch_of number list ≡ Some fetch

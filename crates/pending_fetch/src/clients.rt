@@ -1,58 +1,61 @@
-//! The clients that wait, in order, each with the number of its fetch.
+//! The waiting clients in ascending order, each with the number of its fetch.
 
 ghost use Rattle.std.specs.Prelude.{◌≡◌, ℕ, ◌+◌, ◌<◌, ◌≤◌, ◌==◌, ◌++◌, List, [], length, filter, take, drop, not, nat_le, is_some, Some, None, IfOk, IfErr, vec_capacity, true, if◌then◌else◌};
 ghost use Rattle.std.specs.List.{list_any, insert};
 ghost use Rattle.pending_fetch.specs.Indexes.{Waiting, number_beside, is_number, is_sorted, IsAt, IsGapFor};
+ghost use Rattle.pending_fetch.specs.Bounds.{most_waiters};
 
+use crate::bounds::MAX_WAITERS;
 use std::alloc::{AllocError, Global};
 use std::marker::Model;
 
-/// So many waiters of a closed fetch are taken out one by one; more are taken out in one pass over all clients.
+/// Up to this many waiters of a closed fetch are removed one by one; more are removed in one pass over all clients.
 const FEW: usize = 16;
 
-/// At most 1,024 clients in order, each with the number of the fetch that it waits for; found by halves. There is room for all from the
-/// start.
+/// Up to 1,024 clients, sorted, each with the number of the fetch that it waits for. Lookups are binary searches. The memory
+/// for all of them is reserved in `new`.
 #[derive(Drop)]
-pub struct Clients {
+pub struct WaitingClients {
     list: Vec<(u64, u32)>,
 }
 
-impl Model for Clients {
+impl Model for WaitingClients {
     ghost use Rattle.std.specs.Prelude.{◌≡◌, ◌≤◌, true, vec_capacity};
     ghost use Rattle.pending_fetch.specs.Indexes.{Waiting, is_sorted};
+    ghost use Rattle.pending_fetch.specs.Bounds.{most_waiters};
 
     ghost Value = { Waiting };
 
     ghost view = { λ c. c.list.items };
 
-    ghost invariant = { λ c. (1024 ≤ vec_capacity c.list) × (is_sorted c.list.items ≡ true) };
+    ghost invariant = { λ c. (most_waiters ≤ vec_capacity c.list) × (is_sorted c.list.items ≡ true) };
 }
 
-impl Clients {
-    /// Nobody waits, and there is room for 1,024.
-    pub fn new(alloc: Global) -> Result<Clients, AllocError>
+impl WaitingClients {
+    /// No clients. Reserves memory for 1,024; errors when out of memory.
+    pub fn new(alloc: Global) -> Result<WaitingClients, AllocError>
         ensures { IfOk result (λ clients. clients ≡ []) }
     {
-        let list = Vec::with_capacity(alloc, 1024)?;
-        Ok(Clients { list })
+        let list = Vec::with_capacity(alloc, MAX_WAITERS)?;
+        Ok(WaitingClients { list })
     }
 
-    /// The same clients, with memory of their own.
-    pub fn copy(&self, alloc: Global) -> Result<Clients, AllocError>
+    /// An owned copy, which also reserves memory for 1,024 clients.
+    pub fn copy(&self, alloc: Global) -> Result<WaitingClients, AllocError>
         ensures { IfOk result (λ clients. clients ≡ self.now) }
     {
         let list = copy_of(&self.list, alloc)?;
-        Ok(Clients { list })
+        Ok(WaitingClients { list })
     }
 
-    /// What holds at every time. It does nothing.
+    /// States the invariant for callers; does nothing at run time.
     pub fn facts(&self)
         ensures { is_sorted self.now ≡ true }
     {
         let _ = &self.list;
     }
 
-    /// The number of the fetch that a client waits for.
+    /// The number of the fetch that a client waits for, or `None` if it waits for none.
     pub fn number_of(&self, client: u64) -> Option<u32>
         ensures { result ≡ number_beside self.now client }
     {
@@ -62,16 +65,16 @@ impl Clients {
         }
     }
 
-    /// Whether 1,024 clients wait.
+    /// Whether 1,024 clients wait, the most there may be.
     pub fn are_crowded(&self) -> bool
-        ensures { result ≡ nat_le 1024 (length self.now) }
+        ensures { result ≡ nat_le most_waiters (length self.now) }
     {
-        1024 <= self.list.len()
+        MAX_WAITERS <= self.list.len()
     }
 
-    /// One client more waits, for the fetch of this number.
+    /// Adds a client that waits for the fetch with this number. Does not allocate.
     pub fn join(&mut self, client: u64, number: u32)
-        requires few { length self.old < 1024 }
+        requires few { length self.old < most_waiters }
         requires absent { number_beside self.old client ≡ None }
         ensures { (other : ℕ) → number_beside self.new other ≡ (if client == other then Some number else number_beside self.old other) }
     {
@@ -81,7 +84,7 @@ impl Clients {
         }
     }
 
-    /// The client waits no longer.
+    /// Removes the client; does nothing if it isn't waiting.
     pub fn leave(&mut self, client: u64)
         ensures { (other : ℕ) → number_beside self.new other ≡ (if client == other then None else number_beside self.old other) }
     {
@@ -91,7 +94,7 @@ impl Clients {
         }
     }
 
-    /// The waiters of the fetch of this number wait no longer.
+    /// Removes all waiters of the fetch with this number.
     pub fn close(&mut self, number: u32, waiters: &[u64])
         requires { (other : ℕ) → is_number number (number_beside self.old other) ≡ list_any (λ waiter. waiter == other) waiters.now }
         ensures { (other : ℕ) → number_beside self.new other ≡ (if list_any (λ waiter. waiter == other) waiters.now then None else number_beside self.old other) }
@@ -103,7 +106,7 @@ impl Clients {
         }
     }
 
-    // These clients wait no longer.
+    // Removes each of these clients.
     fn leave_all(&mut self, waiters: &[u64])
         ensures { (other : ℕ) → number_beside self.new other ≡ (if list_any (λ waiter. waiter == other) waiters.now then None else number_beside self.old other) }
     {
@@ -112,14 +115,14 @@ impl Clients {
         }
     }
 
-    // Nobody waits for the fetch of this number any longer.
+    // Removes every client that waits for the fetch with this number, in one pass.
     fn forget(&mut self, number: u32)
         ensures { (other : ℕ) → number_beside self.new other ≡ (if is_number number (number_beside self.old other) then None else number_beside self.old other) }
     {
         retain_others(&mut self.list, number);
     }
 
-    // Where the client is, or where it would go.
+    // `Ok` with the client's index, or `Err` with the index to insert it at.
     fn search(&self, client: u64) -> Result<usize, usize>
         ensures found { IfOk result (IsAt self.now client) }
         ensures absent { IfErr result (IsGapFor self.now client) }
@@ -130,19 +133,19 @@ impl Clients {
 
 fn copy_of(list: &[(u64, u32)], alloc: Global) -> Result<Vec<(u64, u32)>, AllocError>
     ensures items { IfOk result (λ copy. copy.items ≡ list.now) }
-    ensures room { IfOk result (λ copy. 1024 ≤ vec_capacity copy) }
+    ensures room { IfOk result (λ copy. most_waiters ≤ vec_capacity copy) }
 {
-    let mut copy = Vec::with_capacity(alloc, 1024)?;
+    let mut copy = Vec::with_capacity(alloc, MAX_WAITERS)?;
     copy.extend_from_slice(list)?;
     Ok(copy)
 }
 
 fn insert_into(list: &mut Vec<(u64, u32)>, at: usize, client: u64, number: u32)
     requires place { at ≤ length list.old.items }
-    requires few { length list.old.items < 1024 }
-    requires room { 1024 ≤ vec_capacity list.old }
+    requires few { length list.old.items < most_waiters }
+    requires room { most_waiters ≤ vec_capacity list.old }
     ensures items { list.new.items ≡ insert list.old.items at (client, number) }
-    ensures room { 1024 ≤ vec_capacity list.new }
+    ensures room { most_waiters ≤ vec_capacity list.new }
 {
     list.insert(at, (client, number)).unwrap();
 }

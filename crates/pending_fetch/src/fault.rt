@@ -1,8 +1,8 @@
-//! Why a fetch was not opened or joined.
+//! Errors of opening and joining a fetch.
 
 use thiserror::Error;
 
-/// Why no fetch was opened: the first that applies.
+/// Why no fetch was opened. If both apply, it is `Full`.
 #[derive(Clone, Copy, Debug, PartialEq, Eq, Error)]
 pub enum OpenFault {
     #[error("256 fetches are pending, or 1024 clients wait")]
@@ -11,7 +11,7 @@ pub enum OpenFault {
     NoMemory,
 }
 
-/// Why a client did not join: the first that applies.
+/// Why a client did not join a fetch. If both apply, it is `Full`.
 #[derive(Clone, Copy, Debug, PartialEq, Eq, Error)]
 pub enum JoinFault {
     #[error("1024 clients wait")]

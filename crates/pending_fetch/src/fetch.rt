@@ -1,10 +1,10 @@
-//! A pending fetch as it is lent.
+//! Borrowed views of a pending fetch.
 
 use object_store::CacheKey;
 use peer_select::Round;
 
-/// What a pending fetch tells: its key, whether it is shared, its owner if it isn't, its attempt (the first is 0), and
-/// its round.
+/// A borrowed view of a pending fetch: its key, whether it is shared, its owner if it is private, its attempt (counted from
+/// 0) and its round.
 #[derive(Clone, Copy)]
 pub struct Fetch<'a> {
     pub key: &'a CacheKey,
@@ -14,7 +14,7 @@ pub struct Fetch<'a> {
     pub round: &'a Round,
 }
 
-/// A pending fetch, and its place among all of them.
+/// A borrowed view of a pending fetch, with its index in the order of opening.
 #[derive(Clone, Copy)]
 pub struct Located<'a> {
     pub place: usize,

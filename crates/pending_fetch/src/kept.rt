@@ -1,11 +1,13 @@
-//! A pending fetch in memory of its own, with room for all who may wait, so that a list of fetches is small and cheap to move.
+//! A boxed pending fetch with memory reserved for all waiters, so that a list of fetches is a list of pointers and cheap to move.
 
 ghost use Rattle.std.specs.Prelude.{◌≡◌, ◌<◌, ◌≤◌, ◌==◌, ◌++◌, ◌∷◌, [], length, filter, not, nat_lt, nat_eq, true, IfOk, vec_capacity, is_none, if◌then◌else◌};
 ghost use Rattle.peer_select.specs.Poll.{decided, matches};
-ghost use Rattle.pending_fetch.specs.Fetches.{is_shared, fresh, owner_of, without_client, with_waiter, with_reply, with_end, with_next};
+ghost use Rattle.pending_fetch.specs.Fetches.{is_shared, opened_fetch, owner_of, without_client, with_waiter, with_reply, with_end, with_next};
 ghost use Rattle.pending_fetch.specs.Calls.{told, shown};
 ghost use Rattle.pending_fetch.specs.Kept.{as_fetch};
+ghost use Rattle.pending_fetch.specs.Bounds.{most_waiters};
 
+use crate::bounds::MAX_WAITERS;
 use crate::fetch::Fetch;
 use neighbours::Table;
 use object_store::CacheKey;
@@ -13,7 +15,7 @@ use peer_select::{Kind, Round};
 use std::alloc::{AllocError, Global};
 use std::marker::Model;
 
-/// A pending fetch, with the clients that wait for it in order of joining.
+/// The fields of a pending fetch, with its waiters in the order of joining.
 #[derive(Drop)]
 pub struct Slot {
     pub number: u32,
@@ -24,7 +26,7 @@ pub struct Slot {
     pub waiters: Vec<u64>,
 }
 
-/// A slot in memory of its own, with room for 1,024 waiters. Contracts see the fetch.
+/// A boxed slot whose memory for 1,024 waiters is reserved. Contracts see the fetch that it holds.
 #[derive(Drop)]
 pub struct KeptFetch {
     slot: Box<Slot>,
@@ -35,16 +37,17 @@ impl Model for KeptFetch {
     ghost use Rattle.std.specs.Box.{box_value};
     ghost use Rattle.pending_fetch.specs.Fetches.{PendingFetch};
     ghost use Rattle.pending_fetch.specs.Kept.{as_fetch};
+    ghost use Rattle.pending_fetch.specs.Bounds.{most_waiters};
 
     ghost Value = { PendingFetch };
 
     ghost view = { λ kept. as_fetch (box_value kept.slot) };
 
-    ghost invariant = { λ kept. 1024 ≤ vec_capacity (box_value kept.slot).waiters };
+    ghost invariant = { λ kept. most_waiters ≤ vec_capacity (box_value kept.slot).waiters };
 }
 
 impl KeptFetch {
-    /// A fetch with its first waiter, who owns it unless it is shared.
+    /// A new fetch at attempt 0. The client is its first waiter, and its owner unless the fetch is shared. Errors: out of memory.
     pub fn new(
         alloc: Global,
         number: u32,
@@ -53,7 +56,7 @@ impl KeptFetch {
         shared: bool,
         round: Round,
     ) -> Result<KeptFetch, AllocError>
-        ensures { IfOk result (λ kept. kept ≡ fresh number key client shared round) }
+        ensures { IfOk result (λ kept. kept ≡ opened_fetch number key client shared round) }
     {
         let waiters = only(alloc, client)?;
         let slot = Slot {
@@ -70,7 +73,8 @@ impl KeptFetch {
         }
     }
 
-    /// The same fetch, as one more owner of its key, with memory of its own.
+    /// An owned copy. The key is reference-counted and shared with the original. Errors: out of memory, or too many owners of
+    /// the key.
     pub fn copy(&self, alloc: Global) -> Result<KeptFetch, AllocError>
         ensures { IfOk result (λ kept. kept ≡ self.now) }
     {
@@ -81,42 +85,42 @@ impl KeptFetch {
         }
     }
 
-    /// Its number.
+    /// The number of the fetch.
     pub fn number(&self) -> u32
         ensures { result ≡ self.now.number }
     {
         self.slot.number
     }
 
-    /// Its key.
+    /// The cache key.
     pub fn key(&self) -> &CacheKey
         ensures { result.now ≡ self.now.key }
     {
         &self.slot.key
     }
 
-    /// Whether it is shared.
+    /// Whether the fetch is shared, that is, has no owner.
     pub fn is_shared(&self) -> bool
         ensures { result ≡ is_shared self.now }
     {
         self.slot.owner.is_none()
     }
 
-    /// Who waits for it, in order of joining.
+    /// The waiters in the order of joining.
     pub fn waiters(&self) -> &[u64]
         ensures { result.now ≡ self.now.waiters }
     {
         &self.slot.waiters
     }
 
-    /// Whether its round is decided.
+    /// Whether the round is decided.
     pub fn is_decided(&self) -> bool
         ensures { result ≡ decided self.now.round }
     {
         self.slot.round.decided()
     }
 
-    /// What it tells.
+    /// A borrowed view of the fetch.
     pub fn lent(&self) -> Fetch<'_>
         ensures { shown result ≡ told self.now }
     {
@@ -129,22 +133,23 @@ impl KeptFetch {
         }
     }
 
-    /// One client more waits for it.
+    /// Appends a waiter. Does not allocate.
     pub fn join(&mut self, client: u64)
-        requires { length self.old.waiters < 1024 }
+        requires { length self.old.waiters < most_waiters }
         ensures { self.new ≡ with_waiter client self.old }
     {
         push_into(&mut self.slot.waiters, client);
     }
 
-    /// The client waits for it no longer.
+    /// Removes a waiter; does nothing if the client isn't one.
     pub fn leave(&mut self, client: u64)
         ensures { self.new ≡ record self.old { waiters = without_client client self.old.waiters } }
     {
         remove_from(&mut self.slot.waiters, client);
     }
 
-    /// The peer at a place replies, with its smoothed time just after this reply's sample. Whether the round is decided then.
+    /// Adds a reply to the round: `n` is the peer's index in the table, `s` its smoothed round-trip time after this reply's
+    /// sample. Returns whether the round is decided afterwards.
     pub fn reply(&mut self, table: &Table, n: usize, kind: Kind, s: u32) -> bool
         requires place { n < length table.now.neighbours }
         requires table { matches table.now.neighbours self.old.round.peers ≡ true }
@@ -155,14 +160,14 @@ impl KeptFetch {
         self.slot.round.decided()
     }
 
-    /// The time of its round is up.
+    /// Ends the round for lack of replies, which decides it.
     pub fn expire(&mut self)
         ensures { self.new ≡ with_end self.old }
     {
         self.slot.round.expire();
     }
 
-    /// It goes on to its next attempt, where it has one left. Whether it could.
+    /// Moves on to the next attempt. Returns `false`, and changes nothing, if the attempt is 65,535, the last.
     pub fn advance(&mut self) -> bool
         ensures fetch { self.new ≡ with_next self.old }
         ensures may { result ≡ nat_lt self.old.attempt 65535 }
@@ -177,7 +182,7 @@ impl KeptFetch {
 
 fn copy_of_slot(slot: &Slot, alloc: Global) -> Result<Slot, AllocError>
     ensures fetch { IfOk result (λ copy. as_fetch copy ≡ as_fetch slot.now) }
-    ensures room { IfOk result (λ copy. 1024 ≤ vec_capacity copy.waiters) }
+    ensures room { IfOk result (λ copy. most_waiters ≤ vec_capacity copy.waiters) }
 {
     let key = slot.key.share()?;
     let waiters = copy_of(&slot.waiters, alloc)?;
@@ -202,27 +207,27 @@ fn owner_for(client: u64, shared: bool) -> Option<u64>
 
 fn only(alloc: Global, client: u64) -> Result<Vec<u64>, AllocError>
     ensures items { IfOk result (λ waiters. waiters.items ≡ client ∷ []) }
-    ensures room { IfOk result (λ waiters. 1024 ≤ vec_capacity waiters) }
+    ensures room { IfOk result (λ waiters. most_waiters ≤ vec_capacity waiters) }
 {
-    let mut waiters = Vec::with_capacity(alloc, 1024)?;
+    let mut waiters = Vec::with_capacity(alloc, MAX_WAITERS)?;
     push_into(&mut waiters, client);
     Ok(waiters)
 }
 
 fn copy_of(waiters: &[u64], alloc: Global) -> Result<Vec<u64>, AllocError>
     ensures items { IfOk result (λ copy. copy.items ≡ waiters.now) }
-    ensures room { IfOk result (λ copy. 1024 ≤ vec_capacity copy) }
+    ensures room { IfOk result (λ copy. most_waiters ≤ vec_capacity copy) }
 {
-    let mut copy = Vec::with_capacity(alloc, 1024)?;
+    let mut copy = Vec::with_capacity(alloc, MAX_WAITERS)?;
     copy.extend_from_slice(waiters)?;
     Ok(copy)
 }
 
 fn push_into(waiters: &mut Vec<u64>, client: u64)
-    requires few { length waiters.old.items < 1024 }
-    requires room { 1024 ≤ vec_capacity waiters.old }
+    requires few { length waiters.old.items < most_waiters }
+    requires room { most_waiters ≤ vec_capacity waiters.old }
     ensures items { waiters.new.items ≡ waiters.old.items ++ client ∷ [] }
-    ensures room { 1024 ≤ vec_capacity waiters.new }
+    ensures room { most_waiters ≤ vec_capacity waiters.new }
 {
     waiters.push(client).unwrap();
 }

@@ -1,4 +1,4 @@
-//! The numbers of the shared fetches by their keys.
+//! An index of the shared fetches: cache key to fetch number.
 
 ghost use Rattle.std.specs.Prelude.{◌≡◌, ℕ, List, Some, None, OnOk, OnErr, if◌then◌else◌};
 ghost use Rattle.pending_fetch.specs.Fetches.{shares};
@@ -10,7 +10,7 @@ use std::alloc::{AllocError, Global};
 use std::collections::HashMap;
 use std::marker::Model;
 
-/// The numbers of the shared fetches by their keys. Contracts see each key with its number.
+/// A hash map from the keys of the shared fetches to their numbers. Contracts see the list of its entries.
 #[derive(Drop)]
 pub struct Keys {
     map: HashMap<CacheKey, u32>,
@@ -25,7 +25,7 @@ impl Model for Keys {
 }
 
 impl Keys {
-    /// No keys. It takes no memory.
+    /// An empty index. Does not allocate.
     pub fn new(alloc: Global) -> Keys
         ensures { (key : List ℕ) → number_under key result ≡ None }
     {
@@ -34,14 +34,15 @@ impl Keys {
         }
     }
 
-    /// The number of the shared fetch of a key.
+    /// The number of the shared fetch for this key, or `None` if there is none.
     pub fn number_of(&self, key: &[u8]) -> Option<u32>
         ensures { result ≡ number_under key.now self.now }
     {
         self.map.get(key).copied()
     }
 
-    /// A fetch is opened: a shared one is found by its key from now on.
+    /// Adds a fetch if it is shared; a private one is not indexed. On an error (out of memory, or too many owners of the key)
+    /// nothing changes.
     pub fn open(&mut self, fetch: &KeptFetch) -> Result<(), AllocError>
         ensures ok { OnOk result ((key : List ℕ) → number_under key self.new ≡ (if shares key fetch.now then Some fetch.now.number else number_under key self.old)) }
         ensures err { OnErr result ((key : List ℕ) → number_under key self.new ≡ number_under key self.old) }
@@ -56,7 +57,7 @@ impl Keys {
         }
     }
 
-    /// A fetch is closed: it is no longer found by its key.
+    /// Removes a fetch, if it is shared.
     pub fn close(&mut self, fetch: &KeptFetch)
         ensures { (key : List ℕ) → number_under key self.new ≡ (if shares key fetch.now then None else number_under key self.old) }
     {

@@ -1,4 +1,5 @@
-//! Laws of the list of pending fetches, for the crates above. No function here does anything.
+//! Lemmas on the list of pending fetches, for proofs in other crates. The functions have contracts only and do nothing at run
+//! time.
 
 ghost use Rattle.std.specs.Prelude.{◌≡◌, ℕ, ◌≤◌, ◌+◌, ◌==◌, ◌||◌, ◌&&◌, not, Bool, true, List, [], ◌∷◌, ◌++◌, length, Some, None};
 ghost use Rattle.std.specs.List.{list_any};
@@ -10,20 +11,22 @@ ghost use Rattle.pending_fetch.specs.Fetches.{PendingFetch, fetch_of, has_number
 ghost use Rattle.pending_fetch.specs.Calls.{fits, all_fit};
 ghost use Rattle.pending_fetch.specs.Legal.{IsLegal};
 ghost use Rattle.pending_fetch.specs.Places.{IsPlace, IsFirstDue};
+ghost use Rattle.pending_fetch.specs.Bounds.{most_fetches};
 
 use peer_select::unchanged_law;
 
-/// The number that comes next is the first one after the last that no fetch has.
+/// The next number is the first after the last one given that no fetch has.
 pub fn next_law()
-    ensures { (taken : List ℕ) (last : ℕ) → length taken ≤ 256 → IsNext taken last (next_of taken last) }
+    ensures { (taken : List ℕ) (last : ℕ) → length taken ≤ most_fetches → IsNext taken last (next_of taken last) }
 {}
 
-/// The fetch of a number stands at one place, and closing or changing it leaves all others.
+/// A fetch that is found by its number is the only entry of a legal list with it, and closing or changing it affects no other
+/// entry.
 pub fn place_law()
     ensures { (list : List PendingFetch) (number : ℕ) (f : PendingFetch) → IsLegal list → fetch_of number list ≡ Some f → IsPlace number list f }
 {}
 
-/// What closing or expiring the first fetch that is due leaves, and that nothing is due where there is no first.
+/// Closing or expiring the first due fetch leaves exactly the other due fetches; if there is no first, none is due.
 pub fn due_law()
     ensures some { (list : List PendingFetch) (now number : ℕ) → IsLegal list → first_due now list ≡ Some number → IsFirstDue now number list }
     ensures none { (list : List PendingFetch) (now : ℕ) → first_due now list ≡ None → all_due now list ≡ [] }
@@ -31,7 +34,7 @@ pub fn due_law()
     unchanged_law();
 }
 
-/// Who waits after each change: only joining, leaving and closing matter.
+/// The waiters after each operation: opening, joining, leaving and closing change them, and replies, expiry and attempts do not.
 pub fn waits_law()
     ensures opened { (list : List PendingFetch) (f : PendingFetch) (client other : ℕ) → f.waiters ≡ client ∷ [] → waits other (list ++ f ∷ []) ≡ (waits other list || (client == other)) }
     ensures joined { (list : List PendingFetch) (number client other : ℕ) → has_number number list ≡ true →
@@ -45,7 +48,7 @@ pub fn waits_law()
     ensures count { (list : List PendingFetch) (number : ℕ) → IsLegal list → length (waiters_of number list) + length (all_waiters (without number list)) ≡ length (all_waiters list) }
 {}
 
-/// Where all rounds are of these neighbours, so is each; and every change keeps it.
+/// If every round matches a table of neighbours, so does each single one, and every operation preserves this.
 pub fn fitting_law()
     ensures each { (neighbours : List Neighbour) (list : List PendingFetch) (number : ℕ) →
         all_fit neighbours list ≡ true → fits neighbours (fetch_of number list) ≡ true }

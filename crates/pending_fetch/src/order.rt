@@ -1,12 +1,15 @@
-//! The numbers of the fetches in order of opening, searched by halves while they rise.
+//! The fetch numbers in the order of opening, with binary search while they are ascending.
 
 ghost use Rattle.std.specs.Prelude.{◌≡◌, ◌<◌, ◌≤◌, ◌+◌, ◌%◌, ◌==◌, ◌++◌, ◌∷◌, [], ℕ, List, length, take, drop, position, true, IfOk, vec_capacity};
 ghost use Rattle.pending_fetch.specs.Numbers.{is_taken, next_of, nth_after, rises_to};
+ghost use Rattle.pending_fetch.specs.Bounds.{most_fetches};
 
+use crate::bounds::MAX_PENDING_FETCHES;
 use std::alloc::{AllocError, Global};
 use std::marker::Model;
 
-/// At most 256 numbers in order. They rise until they go round to 1 again; while they do, a number is found by halves.
+/// Up to 256 fetch numbers in the order of opening. They are ascending until the counter wraps around to 1. From then on
+/// `top` is `None` and lookups are linear instead of binary, until a removal leaves the list ascending.
 #[derive(Drop)]
 pub struct Order {
     list: Vec<u32>,
@@ -16,24 +19,25 @@ pub struct Order {
 impl Model for Order {
     ghost use Rattle.std.specs.Prelude.{◌≡◌, ◌≤◌, ℕ, List, true, vec_capacity};
     ghost use Rattle.pending_fetch.specs.Numbers.{rises_to};
+    ghost use Rattle.pending_fetch.specs.Bounds.{most_fetches};
 
     ghost Value = { List ℕ };
 
     ghost view = { λ n. n.list.items };
 
-    ghost invariant = { λ n. (256 ≤ vec_capacity n.list) × (rises_to n.top n.list.items ≡ true) };
+    ghost invariant = { λ n. (most_fetches ≤ vec_capacity n.list) × (rises_to n.top n.list.items ≡ true) };
 }
 
 impl Order {
-    /// No numbers, and room for 256.
+    /// No numbers. Reserves memory for 256; errors when out of memory.
     pub fn new(alloc: Global) -> Result<Order, AllocError>
         ensures { IfOk result (λ order. order ≡ []) }
     {
-        let list = Vec::with_capacity(alloc, 256)?;
+        let list = Vec::with_capacity(alloc, MAX_PENDING_FETCHES)?;
         Ok(Order { list, top: Some(0) })
     }
 
-    /// The same numbers, with memory of their own.
+    /// An owned copy, which also reserves memory for 256 numbers.
     pub fn copy(&self, alloc: Global) -> Result<Order, AllocError>
         ensures { IfOk result (λ order. order ≡ self.now) }
     {
@@ -44,21 +48,21 @@ impl Order {
         })
     }
 
-    /// The place of a number.
-    pub fn place_of(&self, number: u32) -> Option<usize>
+    /// The index of a number, or `None` if it isn't in the list.
+    pub fn fetch_index(&self, number: u32) -> Option<usize>
         ensures { result ≡ position (λ n. n == number) self.now }
     {
         place_in(&self.list, self.top, number)
     }
 
-    /// Whether a number is one of these.
+    /// Whether a number is in the list.
     pub fn has(&self, number: u32) -> bool
         ensures { result ≡ is_taken self.now number }
     {
-        self.place_of(number).is_some()
+        self.fetch_index(number).is_some()
     }
 
-    /// The first number after the last one that is none of these, round from the greatest to 1.
+    /// The first number after `last` that is not in the list; 4,294,967,295 wraps around to 1.
     pub fn free_number(&self, last: u32) -> u32
         ensures { result ≡ next_of self.now last }
     {
@@ -78,16 +82,16 @@ impl Order {
         self.list.len()
     }
 
-    /// One more number, at the end.
+    /// Appends a number. Does not allocate.
     pub fn push(&mut self, number: u32)
-        requires { length self.old < 256 }
+        requires { length self.old < most_fetches }
         ensures { self.new ≡ self.old ++ number ∷ [] }
     {
         self.top = top_with(self.top, number);
         push_into(&mut self.list, number);
     }
 
-    /// The number at a place is gone.
+    /// Removes the number at an index, and checks whether a list that was not ascending is so now.
     pub fn remove(&mut self, place: usize)
         requires { place < length self.old }
         ensures { self.new ≡ take place self.old ++ drop (place + 1) self.old }
@@ -107,14 +111,14 @@ fn after(n: u32) -> u32
 
 fn copy_of(list: &[u32], alloc: Global) -> Result<Vec<u32>, AllocError>
     ensures items { IfOk result (λ copy. copy.items ≡ list.now) }
-    ensures room { IfOk result (λ copy. 256 ≤ vec_capacity copy) }
+    ensures room { IfOk result (λ copy. most_fetches ≤ vec_capacity copy) }
 {
-    let mut copy = Vec::with_capacity(alloc, 256)?;
+    let mut copy = Vec::with_capacity(alloc, MAX_PENDING_FETCHES)?;
     copy.extend_from_slice(list)?;
     Ok(copy)
 }
 
-// The place of a number, by halves where the list rises.
+// The index of a number: by binary search if the list is ascending, else by linear search.
 fn place_in(list: &[u32], top: Option<u32>, number: u32) -> Option<usize>
     requires { rises_to top list.now ≡ true }
     ensures { result ≡ position (λ n. n == number) list.now }
@@ -133,7 +137,7 @@ fn place_in_rising(list: &[u32], top: u32, number: u32) -> Option<usize>
     list.binary_search(&number).ok()
 }
 
-// To which number a list rises with one more at its end.
+// The `top` after `number` is appended: `number` if the list stays ascending, else `None`.
 fn top_with(top: Option<u32>, number: u32) -> Option<u32>
     ensures { (list : List ℕ) → rises_to top list ≡ true → rises_to result (list ++ number ∷ []) ≡ true }
 {
@@ -144,10 +148,10 @@ fn top_with(top: Option<u32>, number: u32) -> Option<u32>
 }
 
 fn push_into(list: &mut Vec<u32>, number: u32)
-    requires few { length list.old.items < 256 }
-    requires room { 256 ≤ vec_capacity list.old }
+    requires few { length list.old.items < most_fetches }
+    requires room { most_fetches ≤ vec_capacity list.old }
     ensures items { list.new.items ≡ list.old.items ++ number ∷ [] }
-    ensures room { 256 ≤ vec_capacity list.new }
+    ensures room { most_fetches ≤ vec_capacity list.new }
 {
     list.push(number).unwrap();
 }
@@ -160,7 +164,7 @@ fn remove_from(list: &mut Vec<u32>, place: usize)
     list.remove(place);
 }
 
-// To which number the list rises, if it does.
+// The greatest number if the list is ascending (0 if it is empty), else `None`.
 fn top_of(list: &[u32]) -> Option<u32>
     ensures { rises_to result list.now ≡ true }
 {

@@ -1,16 +1,18 @@
-//! All pending fetches.
+//! The table of pending fetches.
 
 ghost use Rattle.std.specs.Prelude.{◌≡◌, ◌<◌, ◌≤◌, ◌↔◌, ◌&&◌, [], ◌∷◌, length, Some, None, IfOk, IfErr, OnOk, OnErr, IsTrue, true, false, nat_le, option_map, if◌then◌else◌};
 ghost use Rattle.std.specs.List.{list_all, list_any};
 ghost use Rattle.pending_fetch.specs.Numbers.{IsNext};
 ghost use Rattle.peer_select.specs.Poll.{decided};
-ghost use Rattle.pending_fetch.specs.Fetches.{PendingFetch, changed, with_reply, with_end, with_next, numbers, starts, fetch_of, has_number, shared_number, all_waiters, waits, waiters_of, left, without, first_due, next_number, opened, fresh, owner_of};
+ghost use Rattle.pending_fetch.specs.Fetches.{PendingFetch, changed, with_reply, with_end, with_next, numbers, starts, fetch_of, has_number, shared_number, all_waiters, waits, waiters_of, left, without, first_due, next_number, opened, opened_fetch, owner_of};
 ghost use Rattle.pending_fetch.specs.Calls.{is_crowded, is_full, join_fault, join_answer, join_list, may_advance, fits, told, shown};
 ghost use Rattle.pending_fetch.specs.Legal.{IsLegal};
-ghost use Rattle.pending_fetch.specs.Standing.{place_of};
+ghost use Rattle.pending_fetch.specs.FetchIndex.{fetch_index};
 ghost use Rattle.pending_fetch.specs.declared.fetch.Located.{Located as LocatedFetch};
+ghost use Rattle.pending_fetch.specs.Bounds.{most_fetches};
 
-use crate::clients::Clients;
+use crate::bounds::MAX_PENDING_FETCHES;
+use crate::clients::WaitingClients;
 use crate::fault::{JoinFault, OpenFault};
 use crate::fetch::{Fetch, Located};
 use crate::kept::KeptFetch;
@@ -18,8 +20,8 @@ use crate::keys::Keys;
 use crate::order::Order;
 use crate::queue::{close_entry, copy_of_queue, due_in, enqueue, entry_for, settle};
 use crate::slots::{
-    add, advance_in, are_many, copies_of, expire_in, join_in, keys_of, leave_in, place_of, prepare,
-    reply_in, take_out, waiters_in,
+    add, advance_in, are_many, copies_of, expire_in, fetch_index, join_in, keys_of, leave_in,
+    prepare, reply_in, take_out, waiters_in,
 };
 use crate::undecided::Undecided;
 use neighbours::{Moment, Table};
@@ -28,15 +30,15 @@ use peer_select::{Kind, Round, matching_law, unchanged_law};
 use std::alloc::{AllocError, Global};
 use std::marker::Model;
 
-/// The pending fetches in order of opening. At most 256 are pending, and at most 1,024 clients wait for them. Beside them stand their
-/// numbers, the numbers by key and by client, and the queue of those whose rounds are undecided.
+/// The pending fetches in the order of opening: at most 256, with at most 1,024 waiting clients in all. Private indexes hold
+/// the numbers by position, by key and by client, and a queue holds the undecided rounds.
 #[derive(Drop)]
 pub struct Pending {
     last: u32,
     order: Order,
     slots: Vec<KeptFetch>,
     keys: Keys,
-    clients: Clients,
+    clients: WaitingClients,
     undecided: Vec<Undecided>,
 }
 
@@ -56,12 +58,12 @@ impl Model for Pending {
 }
 
 impl Pending {
-    /// No fetches, and room for 1,024 waiters.
+    /// An empty table. Reserves memory for 1,024 waiting clients and 256 queue entries; errors when out of memory.
     pub fn new(alloc: Global) -> Result<Pending, AllocError>
         ensures { IfOk result (λ pending. pending ≡ record { last = 0; list = [] }) }
     {
-        let clients = Clients::new(alloc)?;
-        let undecided = Vec::with_capacity(alloc, 256)?;
+        let clients = WaitingClients::new(alloc)?;
+        let undecided = Vec::with_capacity(alloc, MAX_PENDING_FETCHES)?;
         let order = Order::new(alloc)?;
         Ok(Pending {
             last: 0,
@@ -73,7 +75,8 @@ impl Pending {
         })
     }
 
-    /// An equal value, with memory of its own and room for 1,024 waiters. It shares the keys.
+    /// An owned copy with the same reserved memory. Keys are reference-counted and shared. Errors: out of memory, or too many
+    /// owners of a key.
     pub fn copy(&self, alloc: Global) -> Result<Pending, AllocError>
         ensures { IfOk result (λ pending. pending ≡ self.now) }
     {
@@ -92,15 +95,15 @@ impl Pending {
         })
     }
 
-    /// What holds at every time. It does nothing.
+    /// States for callers that the list is legal (specs/Legal.antt); does nothing at run time.
     pub fn facts(&self)
         ensures { IsLegal self.now.list }
     {
         let _ = &self.slots;
     }
 
-    /// The number that the next fetch gets: the first after the last given that no pending fetch has, round from
-    /// 4,294,967,295 to 1.
+    /// The number that the next fetch gets: the first after the last one given that no pending fetch has. 4,294,967,295 wraps
+    /// around to 1.
     pub fn next_number(&self) -> u32
         ensures { result ≡ next_number self.now }
     {
@@ -122,7 +125,7 @@ impl Pending {
     }
 
     fn is_many(&self) -> bool
-        ensures { result ≡ nat_le 256 (length self.now.list) }
+        ensures { result ≡ nat_le most_fetches (length self.now.list) }
     {
         are_many(&self.slots)
     }
@@ -146,9 +149,10 @@ impl Pending {
         None
     }
 
-    /// Opens a fetch with its first waiter, who owns it unless it is shared, and gives its number. The client waits for
-    /// no fetch, no pending round starts after this one, and there is no shared fetch of the key where this
-    /// one is shared. Errors: 256 fetches or 1,024 waiters, or out of memory.
+    /// Opens a fetch and returns its number. The client is the first waiter, and the owner unless the fetch is shared. The
+    /// caller ensures that the client waits for no fetch, that no pending round starts after this one, and that no shared
+    /// fetch has the key if this one is shared. Errors, which leave the table as it was: 256 fetches or 1,024 waiters, or out
+    /// of memory.
     pub fn open(
         &mut self,
         alloc: Global,
@@ -186,8 +190,8 @@ impl Pending {
         Ok(number)
     }
 
-    /// The client joins the shared fetch of this key. None where there is none. Errors: 1,024 clients wait, or else
-    /// this one waits already.
+    /// Adds the client to the waiters of the shared fetch for this key. Returns `None` if there is no such fetch. Errors:
+    /// 1,024 clients wait, or else this client already waits. Does not allocate.
     pub fn join(&mut self, key: &CacheKey, client: u64) -> Option<Result<(), JoinFault>>
         ensures answer { result ≡ join_answer (shared_number key.now self.old.list) (join_fault client self.old.list) }
         ensures last { self.new.last ≡ self.old.last }
@@ -205,7 +209,7 @@ impl Pending {
         Some(Ok(()))
     }
 
-    /// The client waits no longer; its fetch goes on.
+    /// Removes the client from the fetch that it waits for, if any. The fetch itself stays.
     pub fn leave(&mut self, client: u64)
         ensures { self.new ≡ record self.old { list = left client self.old.list } }
     {
@@ -216,14 +220,14 @@ impl Pending {
         self.clients.leave(client);
     }
 
-    /// The clients that wait for the fetch of this number, in order of joining.
+    /// The waiters of the fetch with this number, in the order of joining; empty if there is no such fetch.
     pub fn waiters(&self, number: u32) -> &[u64]
         ensures { result.now ≡ waiters_of number self.now.list }
     {
         waiters_in(&self.slots, &self.order, number)
     }
 
-    /// Removes the fetch of this number with its waiters.
+    /// Removes the fetch with this number and its waiters; does nothing if there is none.
     pub fn close(&mut self, number: u32)
         ensures { self.new ≡ record self.old { list = without number self.old.list } }
     {
@@ -235,14 +239,15 @@ impl Pending {
         close_entry(&mut self.undecided, number, fetch.is_decided());
     }
 
-    /// The number of the first fetch, in order of opening, whose round is undecided and started 2,000 ms ago or earlier.
+    /// The number of the first fetch, in the order of opening, whose round is undecided and started at least 2,000 ms before
+    /// `now`.
     pub fn due(&self, now: Moment) -> Option<u32>
         ensures { result ≡ first_due now self.now.list }
     {
         due_in(&self.undecided, now)
     }
 
-    /// The fetch of this number.
+    /// The fetch with this number, or `None` if it isn't pending.
     pub fn fetch(&self, number: u32) -> Option<Fetch<'_>>
         ensures { option_map shown result ≡ option_map told (fetch_of number self.now.list) }
     {
@@ -252,10 +257,10 @@ impl Pending {
         Some(self.fetch_at(number, place))
     }
 
-    /// The fetch of this number, and where it stands: for `fetch_at` and `reply_at`, until a fetch is closed.
+    /// The fetch with this number, with its index for `fetch_at` and `reply_at`. The index is valid until a fetch is closed.
     pub fn locate(&self, number: u32) -> Option<Located<'_>>
         ensures fetch { option_map (λ (it : LocatedFetch). shown it.fetch) result ≡ option_map told (fetch_of number self.now.list) }
-        ensures place { option_map (λ (it : LocatedFetch). it.place) result ≡ place_of number self.now.list }
+        ensures place { option_map (λ (it : LocatedFetch). it.place) result ≡ fetch_index number self.now.list }
     {
         let Some(place) = self.place(number) else {
             return None;
@@ -264,24 +269,25 @@ impl Pending {
         Some(Located { place, fetch })
     }
 
-    /// The fetch of this number, which stands at this place.
+    /// The fetch with this number, whose index is `place`.
     pub fn fetch_at(&self, number: u32, place: usize) -> Fetch<'_>
-        requires { place_of number self.now.list ≡ Some place }
+        requires { fetch_index number self.now.list ≡ Some place }
         ensures { Some (shown result) ≡ option_map told (fetch_of number self.now.list) }
     {
         let _ = number;
         self.slots[place].lent()
     }
 
-    // The place of the fetch of this number.
+    // The index of the fetch with this number, or `None` if there is none.
     fn place(&self, number: u32) -> Option<usize>
-        ensures { result ≡ place_of number self.now.list }
+        ensures { result ≡ fetch_index number self.now.list }
     {
-        place_of(&self.slots, &self.order, number)
+        fetch_index(&self.slots, &self.order, number)
     }
 
-    /// The peer at place n replies to the round of this fetch; s is its smoothed time just after this reply's sample.
-    /// The table has the kinds and weights of the one that the round was made with. Whether the fetch is pending.
+    /// Adds a reply to the round of the fetch with this number: `n` is the peer's index in the table, `s` its smoothed
+    /// round-trip time after this reply's sample. The table has the kinds and weights of the one that the round was started
+    /// with. Returns whether the fetch is pending.
     pub fn reply(&mut self, number: u32, table: &Table, n: usize, kind: Kind, s: u32) -> bool
         requires place { n < length table.now.neighbours }
         requires table { fits table.now.neighbours (fetch_of number self.old.list) ≡ true }
@@ -295,7 +301,7 @@ impl Pending {
         true
     }
 
-    /// The same for the fetch of this number that stands at this place, and stays there. Whether its round is decided then.
+    /// As `reply`, for a fetch whose index is known to be `place`, and stays so. Returns whether the round is decided afterwards.
     pub fn reply_at(
         &mut self,
         number: u32,
@@ -305,11 +311,11 @@ impl Pending {
         kind: Kind,
         s: u32,
     ) -> bool
-        requires here { place_of number self.old.list ≡ Some place }
+        requires here { fetch_index number self.old.list ≡ Some place }
         requires place { n < length table.now.neighbours }
         requires table { fits table.now.neighbours (fetch_of number self.old.list) ≡ true }
         ensures list { self.new ≡ record self.old { list = changed (with_reply (record { s = s; n = n; kind = kind })) number self.old.list } }
-        ensures here { place_of number self.new.list ≡ Some place }
+        ensures here { fetch_index number self.new.list ≡ Some place }
         ensures decided { Some result ≡ option_map (λ (fetch : PendingFetch). decided fetch.round) (fetch_of number self.new.list) }
     {
         matching_law();
@@ -319,7 +325,7 @@ impl Pending {
         decided
     }
 
-    /// The time of this fetch's round is up. Whether the fetch is pending.
+    /// Ends the round of this fetch, which decides it. Returns whether the fetch is pending.
     pub fn expire(&mut self, number: u32) -> bool
         ensures list { self.new ≡ record self.old { list = changed with_end number self.old.list } }
         ensures found { result ≡ has_number number self.old.list }
@@ -331,7 +337,8 @@ impl Pending {
         found
     }
 
-    /// The fetch goes on to its next attempt. False where it isn't pending, or its attempt is 65,535.
+    /// Moves this fetch on to its next attempt. Returns `false`, and changes nothing, if it isn't pending or its attempt is
+    /// 65,535.
     pub fn next_attempt(&mut self, number: u32) -> bool
         ensures list { self.new ≡ record self.old { list = changed with_next number self.old.list } }
         ensures found { result ≡ may_advance (fetch_of number self.old.list) }
@@ -340,7 +347,7 @@ impl Pending {
     }
 }
 
-// That the round of a fetch is decided, where there is one.
+// `Some(true)` if the fetch was found, for `settle`: its round is decided now.
 fn decided_where(found: bool) -> Option<bool>
     ensures { result ≡ (if found then Some true else None) }
 {

@@ -1,27 +1,30 @@
-//! The queue of undecided rounds in order of opening, which is the order of their ends since the clock never goes back.
+//! The queue of undecided rounds in the order of opening. The clock never goes back, so this is also the order in which they
+//! time out.
 
 ghost use Rattle.std.specs.Prelude.{◌≡◌, ℕ, ◌+◌, ◌<◌, ◌≤◌, ◌++◌, ◌∷◌, [], length, take, drop, nat_eq, Some, None, IfOk, IfSome, vec_capacity, slice_index_or, if◌then◌else◌};
 ghost use Rattle.std.specs.List.{IsDistinct};
 ghost use Rattle.peer_select.specs.Poll.{decided};
 ghost use Rattle.pending_fetch.specs.declared.undecided.Undecided.{Undecided};
 ghost use Rattle.pending_fetch.specs.Queue.{numbers_queued, entry_at, listed, dequeued, settled, first_of_queue};
+ghost use Rattle.pending_fetch.specs.Bounds.{most_fetches};
 
+use crate::bounds::MAX_PENDING_FETCHES;
 use crate::undecided::Undecided;
 use neighbours::Moment;
 use peer_select::Round;
 use std::alloc::{AllocError, Global};
 
-/// A queue of the same entries, with room for 256.
+/// An owned copy of a queue, with memory reserved for 256 entries.
 pub fn copy_of_queue(queue: &[Undecided], alloc: Global) -> Result<Vec<Undecided>, AllocError>
     ensures items { IfOk result (λ copy. copy.items ≡ queue.now) }
-    ensures room { IfOk result (λ copy. 256 ≤ vec_capacity copy) }
+    ensures room { IfOk result (λ copy. most_fetches ≤ vec_capacity copy) }
 {
-    let mut copy = Vec::with_capacity(alloc, 256)?;
+    let mut copy = Vec::with_capacity(alloc, MAX_PENDING_FETCHES)?;
     copy.extend_from_slice(queue)?;
     Ok(copy)
 }
 
-/// What the queue gets of a fetch that is opened.
+/// The queue entry for a newly opened fetch, or `None` if its round is already decided.
 pub fn entry_for(number: u32, round: &Round) -> Option<Undecided>
     ensures { result ≡ entry_at number round.now }
 {
@@ -34,12 +37,12 @@ pub fn entry_for(number: u32, round: &Round) -> Option<Undecided>
     })
 }
 
-/// The entry goes to the end.
+/// Appends the entry, if there is one. Does not allocate.
 pub fn enqueue(queue: &mut Vec<Undecided>, entry: Option<Undecided>)
-    requires few { length queue.old.items < 256 }
-    requires room { 256 ≤ vec_capacity queue.old }
+    requires few { length queue.old.items < most_fetches }
+    requires room { most_fetches ≤ vec_capacity queue.old }
     ensures items { queue.new.items ≡ queue.old.items ++ listed entry }
-    ensures room { 256 ≤ vec_capacity queue.new }
+    ensures room { most_fetches ≤ vec_capacity queue.new }
 {
     match entry {
         None => {}
@@ -47,20 +50,21 @@ pub fn enqueue(queue: &mut Vec<Undecided>, entry: Option<Undecided>)
     }
 }
 
-/// The fetch of this number is gone from the queue.
+/// Removes the entry with this number, if there is one.
 pub fn dequeue(queue: &mut Vec<Undecided>, number: u32)
     requires { IsDistinct nat_eq (numbers_queued queue.old.items) }
     ensures items { queue.new.items ≡ dequeued number queue.old.items }
     ensures room { vec_capacity queue.new ≡ vec_capacity queue.old }
 {
-    match place_of(queue, number) {
+    match queue_index(queue, number) {
         Some(place) => remove_at(queue, place),
         None => remove_all(queue, number),
     }
 }
 
-// A place where the number stands. It is looked for by halves, which finds it while the numbers rise; else it may be missed.
-fn place_of(queue: &[Undecided], number: u32) -> Option<usize>
+// An index of the number, by binary search. While the numbers are ascending the search finds it; after a wraparound it may
+// miss it.
+fn queue_index(queue: &[Undecided], number: u32) -> Option<usize>
     ensures { IfSome result (λ place. (place < length queue.now) × ((d : Undecided) → (slice_index_or queue.now place d).number ≡ number)) }
 {
     queue
@@ -83,7 +87,8 @@ fn remove_all(queue: &mut Vec<Undecided>, number: u32)
     queue.retain(|entry| entry.number != number);
 }
 
-/// The fetch of this number was changed, by whether its round is decided now.
+/// Updates the queue after a change of the fetch with this number: `decided` tells whether its round is decided now, and is
+/// `None` if there is no such fetch.
 pub fn settle(queue: &mut Vec<Undecided>, number: u32, decided: Option<bool>)
     requires { IsDistinct nat_eq (numbers_queued queue.old.items) }
     ensures items { queue.new.items ≡ settled decided number queue.old.items }
@@ -96,7 +101,7 @@ pub fn settle(queue: &mut Vec<Undecided>, number: u32, decided: Option<bool>)
     }
 }
 
-/// The fetch of this number is closed; where its round was decided, it isn't in the queue.
+/// Updates the queue after the fetch with this number was closed. If its round was decided, the queue has no entry of it.
 pub fn close_entry(queue: &mut Vec<Undecided>, number: u32, decided: bool)
     requires { IsDistinct nat_eq (numbers_queued queue.old.items) }
     ensures items { queue.new.items ≡ (if decided then queue.old.items else dequeued number queue.old.items) }
@@ -107,7 +112,7 @@ pub fn close_entry(queue: &mut Vec<Undecided>, number: u32, decided: bool)
     }
 }
 
-/// The number of the first of the queue, where its time is up.
+/// The number of the first entry, if its round started at least 2,000 ms before `now`.
 pub fn due_in(queue: &[Undecided], now: Moment) -> Option<u32>
     ensures { result ≡ first_of_queue now queue.now }
 {

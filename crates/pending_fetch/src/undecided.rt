@@ -1,4 +1,4 @@
-//! An undecided round in the queue.
+//! Entries of the queue of undecided rounds.
 
 use neighbours::Moment;
 

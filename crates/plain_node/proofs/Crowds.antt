@@ -1,4 +1,4 @@
--- How many wait for one fetch, and after each change of it.
+-- The number of waiters of one fetch, and after each change of it.
 use Rattle.std.proofs.Common.{◌≡◌, ◌≤◌, ◌==◌, ◌+◌, ℕ, true, false, List, [], ◌∷◌, ◌++◌, length, Some, refl, arith, length-append, if◌then◌else◌}
 use Rattle.pending_fetch.specs.Fetches.{PendingFetch, fetch_of, waiters_in, waiters_of, all_waiters, with_next}
 

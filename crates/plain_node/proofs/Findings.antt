@@ -1,4 +1,4 @@
--- What a request comes to is one of its operation's, and a code fits four bits.
+-- The result of a request suits its operation, and its code fits four bits.
 use Rattle.std.proofs.Common.{◌≡◌, ◌==◌, ◌<◌, ℕ, Bool, true, false, cond, Some, None, if◌then◌else◌, not, ◌&&◌, arith, refl}
 use Rattle.std.proofs.lemmas.Bool.Decides.{nat_tests}
 use Rattle.bpf_run.specs.declared.ends.End.{End}
@@ -8,8 +8,8 @@ use Rattle.htcp_packet.specs.Writing.{FitsForm}
 use Rattle.plain_node.specs.declared.finding.Finding.TheVariants.{Found, NotFound, Cleared, NotCleared}
 use Rattle.plain_node.specs.Settings.{is_allowed}
 use Rattle.plain_node.specs.PlainNode.{PlainNode}
-use Rattle.plain_node.specs.Signatures.{Standing, is_absent, is_bad}
-use Rattle.plain_node.specs.HtcpRequests.{is_served, refusal, served, comes_to, has_fresh, has_stored}
+use Rattle.plain_node.specs.Signatures.{SignatureStanding, is_absent, is_bad}
+use Rattle.plain_node.specs.HtcpRequests.{is_served, refusal_code, served, comes_to, has_fresh, has_stored}
 use Rattle.plain_node.specs.Signed.{Suits}
 
 number_is : (a b : ℕ) → (a == b) ≡ true → a ≡ b
@@ -61,9 +61,9 @@ refused-suits false false true unsigned node body opcode suits = omega arith
 refused-suits false false false true node body opcode suits = omega arith
 refused-suits false false false false node body opcode suits = suits
 
-pub finding-suits : (node : PlainNode) (from : End) (body : Body) (opcode : ℕ) (worth : Standing) → FitsForm (request_form opcode) body →
-    Suits opcode (comes_to node body (refusal node from opcode worth))
-unfolding refusal
+pub finding-suits : (node : PlainNode) (from : End) (body : Body) (opcode : ℕ) (worth : SignatureStanding) → FitsForm (request_form opcode) body →
+    Suits opcode (comes_to node body (refusal_code node from opcode worth))
+unfolding refusal_code
 finding-suits node from body opcode worth fits =
     refused-suits (not (is_allowed node.settings from.addr)) (not (is_served opcode)) (is_bad worth) ((opcode == 4) && is_absent worth) node body opcode
     (served-suits node body opcode fits)

@@ -1,4 +1,4 @@
--- What joining comes to, by the shared fetch of the key.
+-- The effect of joining, given the shared fetch for the key.
 use Rattle.std.proofs.Common.{◌≡◌, ℕ, true, false, List, [], ◌∷◌, Option, Some, None, Result, Ok, Err, refl, ap, ◌∙◌, if◌then◌else◌}
 use Rattle.std.specs.Prelude.{is_some}
 use Rattle.std.specs.List.{list_all}
@@ -9,7 +9,7 @@ use Rattle.pending_fetch.specs.Fetches.{PendingFetch, waits, changed, with_waite
 use Rattle.pending_fetch.specs.Calls.{is_crowded, join_answer, join_fault, join_list}
 use Rattle.plain_node.specs.declared.action.Action.TheVariants.{Serve}
 use Rattle.plain_node.specs.declared.action.Answer.TheVariants.{Fail}
-use Rattle.plain_node.specs.PlainNode.{PlainNode, moved, with_fetches}
+use Rattle.plain_node.specs.PlainNode.{PlainNode, at_clock, with_fetches}
 use Rattle.plain_node.specs.Requests.{fails, join_step, looked_up, wait_step}
 use Rattle.plain_node.specs.Fitting.{is_of, joining}
 use Rattle.plain_node.proofs.Keeps.{all_changed}
@@ -67,12 +67,12 @@ told_err node client (Some n) fault w e =
       | false ↦ λ h. absurd cc
     ]) (e ∙ ap (join_answer (Some n)) (crowded_is client list w))
 
--- joining, and then asking the store, is what waiting for a shared fetch is
-pub waited : (old : PlainNode) (client now : ℕ) (key : List ℕ) (o : Option ℕ) → true ≡ is_some o → (looked_up (moved (joining old client o).0 now) key, (joining old client o).1) ≡ wait_step (looked_up (moved old now) key) client key o
+-- joining and then looking up the store equals waiting for a shared fetch
+pub waited : (old : PlainNode) (client now : ℕ) (key : List ℕ) (o : Option ℕ) → true ≡ is_some o → (looked_up (at_clock (joining old client o).0 now) key, (joining old client o).1) ≡ wait_step (looked_up (at_clock old now) key) client key o
 unfolding join_step
 waited old client now key None t = absurd cc
 waited old client now key (Some n) t =
-    elim (is_crowded old.fetches.list) as (λ v. (looked_up (moved (if v then fails old client 503 else (with_fetches old (changed (with_waiter client) n old.fetches.list), [])).0 now) key, (if v then fails old client 503 else (with_fetches old (changed (with_waiter client) n old.fetches.list), [])).1) ≡ (if v then fails (looked_up (moved old now) key) client 503 else (with_fetches (looked_up (moved old now) key) (changed (with_waiter client) n old.fetches.list), []))) [
+    elim (is_crowded old.fetches.list) as (λ v. (looked_up (at_clock (if v then fails old client 503 else (with_fetches old (changed (with_waiter client) n old.fetches.list), [])).0 now) key, (if v then fails old client 503 else (with_fetches old (changed (with_waiter client) n old.fetches.list), [])).1) ≡ (if v then fails (looked_up (at_clock old now) key) client 503 else (with_fetches (looked_up (at_clock old now) key) (changed (with_waiter client) n old.fetches.list), []))) [
       | true ↦ refl
       | false ↦ refl
     ]

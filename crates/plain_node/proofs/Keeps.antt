@@ -1,4 +1,5 @@
--- What keeps each pending round fitting: of the table's neighbours, and started no later than the clock.
+-- The operations that preserve the invariant: each pending round matches the table's neighbours, and started no later than
+-- the clock.
 use Rattle.std.proofs.Common.{◌≡◌, ◌==◌, ◌+◌, ℕ, max, nat_le, Bool, true, false, ◌&&◌, List, [], ◌∷◌, ◌++◌, filter, Some, option_map, refl, ap, ◌∙◌, arith, if◌then◌else◌}
 use Rattle.std.specs.List.{list_all}
 use Rattle.std.proofs.lemmas.Bool.Decides.{nat_tests}
@@ -61,7 +62,7 @@ starts_before neighbours clock [] all = refl
 starts_before neighbours clock (f ∷ list) all =
     both (nat_le f.round.start clock) (list_all (λ (start : ℕ). nat_le start clock) (starts list)) (second (matches neighbours f.round.peers) (nat_le f.round.start clock) (first (is_of neighbours clock f) (list_all (is_of neighbours clock) list) all)) (starts_before neighbours clock list (second (is_of neighbours clock f) (list_all (is_of neighbours clock) list) all))
 
--- each pending round is of the neighbours
+-- each pending round matches the neighbours
 pub fits_each : (neighbours : List Neighbour) (clock number : ℕ) (list : List PendingFetch) → list_all (is_of neighbours clock) list ≡ true → fits neighbours (fetch_of number list) ≡ true
 fits_each neighbours clock number [] all = refl
 fits_each neighbours clock number (f ∷ list) all =
@@ -70,7 +71,7 @@ fits_each neighbours clock number (f ∷ list) all =
       | false ↦ fits_each neighbours clock number list (second (is_of neighbours clock f) (list_all (is_of neighbours clock) list) all)
     ]
 
--- the fetch of a number after a change that keeps numbers
+-- the fetch with a number after a change that keeps numbers
 pub fetch_changed : (change : PendingFetch → PendingFetch) (number : ℕ) (list : List PendingFetch) (f : PendingFetch) → ((g : PendingFetch) → (change g).number ≡ g.number) → fetch_of number list ≡ Some f → fetch_of number (changed change number list) ≡ Some (change f)
 fetch_changed change number [] f same found = absurd cc
 fetch_changed change number (g ∷ list) f same found =

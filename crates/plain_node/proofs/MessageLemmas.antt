@@ -1,4 +1,4 @@
--- What a reply does to the fetch of its number, and that each reply to a query fits its opcode.
+-- The effect of a reply on the fetch with its number, and the form of each reply to a query.
 use Rattle.std.proofs.Common.{◌≡◌, ℕ, ◌+◌, ◌-◌, Bool, true, false, cond, eqb, List, [], ◌∷◌, length, Some, refl, ap, sym, ◌∙◌, arith, if◌then◌else◌, not, ◌||◌, ◌++◌, length-append}
 use Rattle.std.specs.Option.{is_some}
 use Rattle.std.proofs.lemmas.Bool.Decides.{nat_tests}
@@ -20,7 +20,7 @@ use Rattle.plain_node.specs.Fitting.{is_of}
 use Rattle.plain_node.proofs.Keeps.{fetch_changed, all_changed}
 use Rattle.plain_node.specs.Messages.{is_http, reply_code, timed, with_time, counted_step}
 
--- each of the five opcodes has a URL alone
+-- the body of each of the five opcodes is a URL
 fits-any : (denied other fresh closed : Bool) (url : List ℕ) → HasNoZero url → FitsOpcode (cond denied Denied (cond other Error (cond fresh Hit (cond closed MissNoFetch Miss)))) (url_only url)
 fits-any true other fresh closed url whole = whole
 fits-any false true fresh closed url whole = whole
@@ -36,7 +36,7 @@ reply_code-fits node from url whole =
 number_is : (a b : ℕ) → eqb a b ≡ true → a ≡ b
 number_is a b h = grind (arith, nat_tests)
 
--- the fetch of a number has it
+-- the fetch found by a number has that number
 pub fetch_of-number : (number : ℕ) (list : List PendingFetch) (f : PendingFetch) → fetch_of number list ≡ Some f → f.number ≡ number
 fetch_of-number number [] f e = absurd cc
 fetch_of-number number (g ∷ list) f e =
@@ -45,7 +45,7 @@ fetch_of-number number (g ∷ list) f e =
       | false ↦ λ t s. fetch_of-number number list f s
     ] refl e
 
--- a reply that counts is what adding it and deciding come to
+-- a reply that counts equals adding it and then deciding
 pub counted_at : (old sampled added : PlainNode) (number n start : ℕ) (kind : Kind) (fetch : PendingFetch) →
     sampled ≡ timed old n (old.clock - start) → added ≡ with_fetches sampled (changed (with_reply (with_time sampled n kind)) number sampled.fetches.list) →
     fetch_of number old.fetches.list ≡ Some fetch → fetch.round.start ≡ start →
@@ -58,7 +58,7 @@ counted_at old sampled added number n start kind fetch s a found began =
       rw (a, s, ← began, ← named) refl,
     )
 
--- how many octets the message of one URL has
+-- the length of the message of one URL
 pub length-spelling : (op : Opcode) (number : ℕ) (sender url : List ℕ) → length sender ≡ 4 →
     length (spelling (record { op = op; number = number; options = 0; option_data = 0; sender = sender; body = url_only url })) ≡ length url + 21
 length-spelling op number sender url four = omega (arith, length-append sender (payload (url_only url)), length-append {A = ℕ}, four)

@@ -1,4 +1,4 @@
--- What the end of a round does: the misses, the list of fetches and what is due.
+-- The end of a round: its misses, the list of fetches, and the due fetches.
 use Rattle.std.proofs.Common.{◌≡◌, ◌≤◌, ◌<◌, ℕ, zero, suc, add-one, ◌+◌, Bool, true, false, not, eqb, List, [], ◌∷◌, ◌++◌, length, take, drop, Option, Some, None, refl, ap, sym, ◌∙◌, arith, if◌then◌else◌, length-append, append_assoc}
 use Rattle.std.specs.Prelude.{slice_set}
 use Rattle.std.proofs.lemmas.List.{length-map, length-set, append-nil}
@@ -12,7 +12,7 @@ use Rattle.pending_fetch.specs.Fetches.{PendingFetch, fetch_of, waiters_of, wait
 use Rattle.pending_fetch.specs.Places.{IsFirstDue}
 use Rattle.plain_node.specs.declared.action.Action.{Action}
 use Rattle.plain_node.specs.PlainNode.{PlainNode, with_fetches, sending}
-use Rattle.plain_node.specs.Sources.{tried, decision_step, source_of}
+use Rattle.plain_node.specs.Sources.{attempt_step, decision_step, source_of}
 use Rattle.plain_node.specs.Rounds.{missed_from, with_misses, expired_step, expired_steps, timer_step}
 use Rattle.std.specs.List.{list_all}
 use Rattle.neighbours.specs.declared.neighbour.Neighbour.{Neighbour}
@@ -22,6 +22,8 @@ use Rattle.plain_node.specs.declared.action.Answer.TheVariants.{Fail}
 use Rattle.plain_node.specs.Fitting.{is_of}
 use Rattle.plain_node.proofs.Keeps.{fetch_changed, all_changed}
 use Rattle.plain_node.proofs.MessageLemmas.{fetch_of-number}
+use Rattle.pending_fetch.specs.Bounds.{most_fetches, most_waiters}
+use Rattle.plain_node.specs.Bounds.{most_actions}
 
 after_skip : (replies : List Reply) (k n : ℕ) (marks : List Mark) → n < length marks → has_reply replies k ≡ true →
     take (suc n) marks ++ missed_from replies (k + 1) (drop (suc n) marks) ≡ take n marks ++ missed_from replies k (drop n marks)
@@ -43,14 +45,14 @@ skipped replies n next marks lt h e =
     let up : next ≡ suc n = e ∙ add-one n in
     ap (λ k. take k marks ++ missed_from replies next (drop k marks)) up ∙ ap (λ k. take (suc n) marks ++ missed_from replies k (drop (suc n) marks)) e ∙ after_skip replies n n marks lt h
 
--- it has none: its mark has one miss more
+-- it has none: its mark gets a miss
 silent : (replies : List Reply) (n next : ℕ) (marks after : List Mark) → n < length marks → has_reply replies n ≡ false → after ≡ slice_set marks n (missed (mark_at marks n)) → next ≡ n + 1 →
     take next after ++ missed_from replies next (drop next after) ≡ take n marks ++ missed_from replies n (drop n marks)
 silent replies n next marks after lt h s e =
     let up : next ≡ suc n = e ∙ add-one n in
     ap (λ k. take k after ++ missed_from replies next (drop k after)) up ∙ ap (λ k. take (suc n) after ++ missed_from replies k (drop (suc n) after)) e ∙ ap (λ l. take (suc n) l ++ missed_from replies (n + 1) (drop (suc n) l)) s ∙ after_miss replies n n marks lt h
 
--- either way one place more is done
+-- either way one more index is done
 pub missed_more : (replies : List Reply) (n next : ℕ) (marks after : List Mark) → n < length marks →
     after ≡ (if has_reply replies n then marks else slice_set marks n (missed (mark_at marks n))) → next ≡ n + 1 →
     take next after ++ missed_from replies next (drop next after) ≡ take n marks ++ missed_from replies n (drop n marks)
@@ -61,12 +63,12 @@ missed_more replies n next marks after lt is e =
       | false ↦ λ h s. silent replies n next marks after lt h s e
     ] refl is
 
--- and there are as many marks
+-- the number of marks stays the same
 pub as_many : (b : Bool) (n : ℕ) (mark : Mark) (marks : List Mark) → length (if b then marks else slice_set marks n mark) ≡ length marks
 as_many true n mark marks = refl
 as_many false n mark marks = length-set marks n mark
 
--- behind the last place nothing is left
+-- past the last index nothing is left
 pub all_done : (replies : List Reply) (k n : ℕ) (marks : List Mark) → length marks ≤ n → take n marks ++ missed_from replies k (drop n marks) ≡ marks
 all_done replies k zero [] h = refl
 all_done replies k (suc n) [] h = refl
@@ -76,7 +78,7 @@ all_done replies k (suc n) (m ∷ marks) h = ap (λ l. m ∷ l) (all_done replie
 pub rows_is : (rows old : Rows) (marks : List Mark) → rows.neighbours ≡ old.neighbours → rows.keys ≡ old.keys → rows.marks ≡ marks → rows ≡ record old { marks = marks }
 rows_is rows old marks a b c = rw (← a, ← b, ← c) refl
 
--- the end of a round is what counting its misses, ending it and deciding come to
+-- the end of a round equals counting its misses, ending it and deciding
 pub expired_at : (old counted ended : PlainNode) (number : ℕ) (fetch : PendingFetch) →
     counted ≡ with_misses old fetch.round.replies → ended ≡ with_fetches counted (changed with_end number counted.fetches.list) →
     fetch_of number old.fetches.list ≡ Some fetch →
@@ -89,7 +91,7 @@ expired_at old counted ended number fetch m e found =
       rw (e, m, ← named) refl,
     )
 
--- who waits for a fetch does so after the end of its round
+-- the waiters of a fetch stay the same at the end of its round
 pub waiters_of-ended : (number : ℕ) (list : List PendingFetch) → waiters_of number (changed with_end number list) ≡ waiters_of number list
 waiters_of-ended number [] = refl
 waiters_of-ended number (g ∷ list) =
@@ -117,7 +119,7 @@ without-ended number (g ∷ list) =
       | false ↦ λ t. rw t (ap (λ l. g ∷ l) (without-ended number list))
     ] refl
 
--- what the end of the first round that is due leaves: the others that are due, and no more clients than were not told
+-- the end of the first due round leaves the other due fetches, and no more waiters than were not answered
 pub record HasExpired (node next : PlainNode) (number : ℕ) (sent : List Action) : Type 0 where
   pub due : all_due node.clock node.fetches.list ≡ number ∷ all_due next.clock next.fetches.list
   pub room : length sent + length (all_waiters next.fetches.list) ≤ 1 + length (all_waiters node.fetches.list)
@@ -126,8 +128,8 @@ tried_one : (node ended : PlainNode) (number : ℕ) (fetch : PendingFetch) (sour
     all_due node.clock node.fetches.list ≡ number ∷ all_due node.clock (without number node.fetches.list) → all_due node.clock node.fetches.list ≡ number ∷ all_due node.clock (changed with_end number node.fetches.list) →
     waiters_of number node.fetches.list ≡ fetch.waiters → all_waiters (changed with_end number node.fetches.list) ≡ all_waiters node.fetches.list →
     length (waiters_of number node.fetches.list) + length (all_waiters (without number node.fetches.list)) ≡ length (all_waiters node.fetches.list) →
-    HasExpired node (tried ended 503 (with_end fetch) source).0 number (tried ended 503 (with_end fetch) source).1
-unfolding tried
+    HasExpired node (attempt_step ended 503 (with_end fetch) source).0 number (attempt_step ended 503 (with_end fetch) source).1
+unfolding attempt_step
 tried_one node ended number fetch (Some source) named clock list closing expiring waiting kept count =
     let waits : length (all_waiters ended.fetches.list) ≡ length (all_waiters node.fetches.list) = ap (λ l. length (all_waiters l)) list ∙ ap length kept in
     record { due = rw (clock, list) expiring; room = omega (arith, waits) }
@@ -146,11 +148,11 @@ expired_one node number w over kept count =
     rw (over w.fetch.round)
     (tried_one node after number w.fetch (source_of after (with_end w.fetch)) w.place.here refl (ap (λ n. changed with_end n node.fetches.list) w.place.here) w.closing w.expiring w.place.waiting kept count)
 
--- how far a tick has come: what is left to expire gives what the whole tick does, and there is room for it
+-- the progress of a tick: expiring what is left gives the result of the whole tick, and there is room for its actions
 pub record IsRunning (start node : PlainNode) (out : List Action) : Type 0 where
   pub plain : (expired_steps node (all_due node.clock node.fetches.list)).0 ≡ (timer_step start).0
   pub actions : out ++ (expired_steps node (all_due node.clock node.fetches.list)).1 ≡ (timer_step start).1
-  pub room : length out + (length (all_due node.clock node.fetches.list) + length (all_waiters node.fetches.list)) ≤ 1280
+  pub room : length out + (length (all_due node.clock node.fetches.list) + length (all_waiters node.fetches.list)) ≤ most_fetches + most_waiters
 
 steps_one : (node next : PlainNode) (number : ℕ) (fetch : PendingFetch) (rest : List ℕ) → fetch_of number node.fetches.list ≡ Some fetch → next ≡ (expired_step node (Some fetch)).0 →
     expired_steps node (number ∷ rest) ≡ sending (expired_step node (Some fetch)).1 (expired_steps next rest)
@@ -186,7 +188,7 @@ running_first start node out e none legal =
       room = omega (arith, ap length none, few, legal.few, legal.uncrowded);
     }
 
--- where nothing is due any more, the tick is over
+-- if nothing is due any more, the tick is over
 pub running_last : (start node : PlainNode) (out : List Action) → all_due node.clock node.fetches.list ≡ [] → IsRunning start node out → (node ≡ (timer_step start).0) × (out ≡ (timer_step start).1)
 running_last start node out none r = (
   sym (ap (λ numbers. (expired_steps node numbers).0) none) ∙ r.plain,
@@ -203,5 +205,5 @@ pub fewer_due : (node next : PlainNode) (number : ℕ) (sent : List Action) → 
 fewer_due node next number sent h = omega (arith, ap length h.due)
 
 pub room_left : (start node : PlainNode) (out : List Action) (number : ℕ) → length (waiters_of number node.fetches.list) + length (all_waiters (without number node.fetches.list)) ≡ length (all_waiters node.fetches.list) →
-    IsRunning start node out → length out + 1 + length (waiters_of number node.fetches.list) ≤ 1344
+    IsRunning start node out → length out + 1 + length (waiters_of number node.fetches.list) ≤ most_actions
 room_left start node out number count r = omega (arith, r.room, count)

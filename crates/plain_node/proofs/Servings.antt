@@ -1,4 +1,4 @@
--- What is told to all that wait, one after the other.
+-- Answers to all waiters, one after the other.
 use Rattle.std.proofs.Common.{◌≡◌, ℕ, ◌+◌, ◌<◌, ◌≤◌, List, [], ◌∷◌, ◌++◌, length, Some, None, get_or, map, take, inl, inr, ap, sym, ◌∙◌, arith, append_assoc}
 use Rattle.std.specs.List.{slice_get}
 use Rattle.std.proofs.lemmas.List.{take_more, take_all, map-append}
@@ -10,19 +10,19 @@ use Rattle.plain_node.specs.declared.action.Answer.{Answer}
 use Rattle.plain_node.specs.declared.action.Answer.TheVariants.{Got}
 use Rattle.plain_node.specs.PlainNode.{serves}
 
--- one more client is told
+-- one more client is answered
 pub served-more : (answer : Answer) (first out next : List Action) (waiters : List ℕ) (i d client : ℕ) → out ≡ first ++ serves answer (take i waiters) → i < length waiters → client ≡ get_or waiters i d → next ≡ out ++ Serve client answer ∷ [] → next ≡ first ++ serves answer (take (i + 1) waiters)
 served-more answer first out next waiters i d client so_far lt is more =
     let taken : take (i + 1) waiters ≡ take i waiters ++ client ∷ [] = take_more waiters i d lt ∙ ap (λ x. take i waiters ++ x ∷ []) (sym is) in
     let served : serves answer (take (i + 1) waiters) ≡ serves answer (take i waiters) ++ Serve client answer ∷ [] = ap (serves answer) taken ∙ map-append (λ (c : ℕ). Serve c answer) (take i waiters) (client ∷ []) in
     more ∙ ap (λ x. x ++ Serve client answer ∷ []) so_far ∙ append_assoc first (serves answer (take i waiters)) (Serve client answer ∷ []) ∙ ap (λ x. first ++ x) (sym served)
 
--- one more client is told of an object, by another that is equal to it
+-- one more client is answered with an object equal to the first
 pub served-equal : (first out next : List Action) (waiters : List ℕ) (i d client : ℕ) (object other : SharedObject) → out ≡ first ++ serves (Got object) (take i waiters) → i < length waiters → client ≡ get_or waiters i d → next ≡ out ++ Serve client (Got other) ∷ [] → other ≡ object → next ≡ first ++ serves (Got object) (take (i + 1) waiters)
 served-equal first out next waiters i d client object other so_far lt is more equal =
     served-more (Got object) first out next waiters i d client so_far lt is (more ∙ ap (λ (it : SharedObject). out ++ Serve client (Got it) ∷ []) equal)
 
--- one more of a list is mapped
+-- one more element is mapped
 pub mapped-more : {A B : Type 0} (f : A → B) (out next : List B) (xs : List A) (i : ℕ) (x : A) → out ≡ map f (take i xs) → slice_get xs i ≡ Some x → next ≡ out ++ f x ∷ [] → (next ≡ map f (take (i + 1) xs)) × (i + 1 ≤ length xs)
 mapped-more f out next xs i x so_far here more =
     let lt = slice_get_within xs i x here in

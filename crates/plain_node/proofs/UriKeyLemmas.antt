@@ -1,4 +1,4 @@
--- The key of a URI, by where its first slash behind the scheme stands.
+-- The key of a URI, by the index of its first slash after the scheme.
 use Rattle.std.proofs.Common.{◌≡◌, ◌≢◌, ℕ, zero, suc, ◌+◌, ◌-◌, ◌<◌, ◌≤◌, min, true, false, Bool, not, cond, List, [], ◌∷◌, ◌++◌, take, drop, length, Option, Some, None, nat_eq, nat_lt, refl, ap, ap₂, sym, subst, ◌∙◌, arith, rules, if◌then◌else◌, get_or}
 use Rattle.std.proofs.lemmas.Bool.Decides.{nat_tests}
 use Rattle.std.specs.Prelude.{◌==◌, position}
@@ -19,7 +19,7 @@ is_other octet = not (octet == 47)
 abbrev has_none : List ℕ → Type 0
 has_none host = All (λ octet. octet ≢ 47) host
 
--- so many octets stand before the first slash
+-- this many octets precede the first slash
 before_slash : (a r : List ℕ) → has_none a → prefix_len is_other (a ++ 47 ∷ r) ≡ length a
 before_slash [] r free = refl
 before_slash (x ∷ a) r free =
@@ -29,7 +29,7 @@ before_slash (x ∷ a) r free =
     let more : 1 + prefix_len is_other (a ++ 47 ∷ r) ≡ suc (length a) = omega (arith, before_slash a r rest) in
     ap (λ b. cond (not b) (1 + prefix_len is_other (a ++ 47 ∷ r)) 0) other ∙ more
 
--- the first slash stands there
+-- the first slash is at this index
 first_slash : (a r : List ℕ) → has_none a → position is_slash (a ++ 47 ∷ r) ≡ Some (length a)
 first_slash a r free =
     let more : length (a ++ 47 ∷ r) ≡ length a + suc (length r) = length-append a (47 ∷ r) in
@@ -75,7 +75,7 @@ scheme = behind_scheme []
 abbrev colon_80 : List ℕ
 colon_80 = 58 ∷ 56 ∷ 48 ∷ []
 
--- what a position that was found says
+-- the meaning of a position that was found
 found_at : (t : List ℕ) (n : ℕ) → position is_slash t ≡ Some n → (prefix_len is_other t < length t) × (prefix_len is_other t ≡ n)
 found_at t n =
     elim (nat_lt (prefix_len is_other t) (length t)) as (λ v. nat_lt (prefix_len is_other t) (length t) ≡ v → cond v (Some (prefix_len is_other t)) None ≡ Some n → (prefix_len is_other t < length t) × (prefix_len is_other t ≡ n)) [
@@ -83,20 +83,20 @@ found_at t n =
       | false ↦ λ e is. absurd cc
     ] refl
 
--- a host with `:80` behind it ends so
+-- a host followed by `:80` ends with `:80`
 ends_so : (host : List ℕ) → ends_with nat_eq (host ++ colon_80) colon_80 ≡ true
 ends_so host =
     let long : length (host ++ colon_80) ≡ length host + 3 = length-append host colon_80 in
     let start : length (host ++ colon_80) - 3 ≡ length host = omega arith in
     ap (λ n. pointwise nat_eq colon_80 (drop n (host ++ colon_80))) start ∙ ap (pointwise nat_eq colon_80) (drop-append_seam host colon_80)
 
--- what ends so has a host before it
+-- a text that ends with `:80` has a host before it
 host_of : (t : List ℕ) → ends_with nat_eq t colon_80 ≡ true → t ≡ take (length t - 3) t ++ colon_80
 host_of t e =
     let last : colon_80 ≡ drop (length t - 3) t = (bytes_decides colon_80 (drop (length t - 3) t)).0 e in
     sym (take-append-drop (length t - 3) t) ∙ ap (λ l. take (length t - 3) t ++ l) (sym last)
 
--- what the key of a URI is whose first slash stands behind this front
+-- the key of a URI whose first slash follows this front
 key_behind : (front back : List ℕ) → has_none front →
     uri_key (behind_scheme (front ++ 47 ∷ back)) ≡ without_port (behind_scheme (front ++ 47 ∷ back)) (if ends_with nat_eq front colon_80 then Some (length front) else None)
 unfolding uri_key slash_behind_80
@@ -107,7 +107,7 @@ key_behind front back free =
     ap (λ (place : Option ℕ). without_port uri (port_before uri place)) there
     ∙ ap (λ l. without_port uri (if ends_with nat_eq l colon_80 then Some (length front) else None)) seam
 
--- no slash stands in a host with `:80` behind it
+-- a host without a slash has none with `:80` appended
 front_free : (host : List ℕ) → has_none host → has_none (host ++ colon_80)
 front_free [] free = λ k d below. elim k as (λ j. j < 3 → get_or colon_80 j d ≢ 47) [
   | zero ↦ λ b e. absurd (omega (arith, e))
@@ -145,13 +145,13 @@ front_part m front free = λ k d below.
     let at : get_or (take m front) k d ≡ get_or front k d = get_or-take m front k d (omega (arith, short, below)) in
     subst (λ (x : ℕ). x ≢ 47) (sym at) (free k d (omega (arith, short, below)))
 
--- a URI of http is what stands behind its scheme, behind the scheme
+-- an http URI is its scheme followed by the rest
 scheme_first : (uri : List ℕ) → is_http uri ≡ true → uri ≡ behind_scheme (drop 7 uri)
 scheme_first uri e =
     let first : 104 ∷ 116 ∷ 116 ∷ 112 ∷ 58 ∷ 47 ∷ 47 ∷ [] ≡ take 7 uri = (bytes_decides (104 ∷ 116 ∷ 116 ∷ 112 ∷ 58 ∷ 47 ∷ 47 ∷ []) (take 7 uri)).0 e in
     sym (take-append-drop 7 uri) ∙ ap (λ l. l ++ drop 7 uri) (sym first)
 
--- the key of a URI with a slash behind its scheme, where it doesn't name port 80
+-- the key of a URI with a slash after its scheme that doesn't name port 80
 key_around : (uri : List ℕ) (n : ℕ) → uri ≡ behind_scheme (drop 7 uri) → Around (drop 7 uri) n → ((host rest : List ℕ) → NamesPort80 uri host rest → ⊥) → uri_key uri ≡ uri
 key_around uri n spelled parts never =
     let same : uri ≡ behind_scheme (parts.front ++ 47 ∷ parts.back) = spelled ∙ ap behind_scheme parts.joined in

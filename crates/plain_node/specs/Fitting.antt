@@ -1,5 +1,4 @@
--- What holds of the plain node at every time, and other words in which its methods promise things to one another: no public promise
--- speaks of these.
+-- The invariant of the node, and other definitions for private contracts; no public contract uses these.
 use Rattle.std.specs.Prelude.{◌≡◌, ℕ, nat_le, ◌&&◌, Bool, true, false, List, [], Option, Some, None, if◌then◌else◌}
 use Rattle.std.specs.List.{list_all}
 use Rattle.neighbours.specs.declared.neighbour.Neighbour.{Neighbour}
@@ -13,30 +12,30 @@ use Rattle.plain_node.specs.declared.config.NodeFault.TheVariants.{Table, Limits
 use Rattle.plain_node.specs.PlainNode.{PlainNode}
 use Rattle.plain_node.specs.Requests.{looked_up, queries, join_step}
 
--- whether a fetch's round is of these neighbours, and started no later than the clock
+-- whether a fetch's round matches these neighbours, and started no later than the clock
 abbrev pub is_of : List Neighbour → ℕ → PendingFetch → Bool
 is_of neighbours clock fetch = matches neighbours fetch.round.peers && nat_le fetch.round.start clock
 
--- each pending round is of the table's neighbours, and started no later than the clock
+-- each pending round matches the table's neighbours, and started no later than the clock
 abbrev pub IsFitting : PlainNode → Type 0
 IsFitting node = list_all (is_of node.rows.neighbours node.clock) node.fetches.list ≡ true
 
--- the node after its store was asked for a key, if it was
+-- the node after a lookup of the key in its store, if the fetch is shared
 abbrev pub asked : PlainNode → List ℕ → Bool → PlainNode
 asked node key true = looked_up node key
 asked node key false = node
 
--- the queries of a fetch of this number, if it is shared
+-- the queries for a fetch with this number: none if it is private
 abbrev pub asking : PlainNode → ℕ → List ℕ → Bool → List Action
 asking node number key true = queries node number key
 asking node number key false = []
 
--- a client that joins the fetch of this number, if there is one
+-- a client joins the fetch with this number, if there is one
 abbrev pub joining : PlainNode → ℕ → Option ℕ → PlainNode × List Action
 joining node client None = (node, [])
 joining node client (Some number) = join_step node client number
 
--- why there is no node where its table has this fault: a refusal of memory comes last
+-- the error of creating a node whose table failed: running out of memory ranks below limits out of range
 abbrev pub fault_after : ConfigFault → Bool → NodeFault
 fault_after table.NoMemory fit = if fit then NoMemory else Limits
 fault_after table.Count fit = Table table.Count

@@ -1,4 +1,5 @@
-pub mod Common
+pub mod Bounds
+pub mod QueryOctets
 pub mod Fitting
 pub mod HtcpReplies
 pub mod HtcpRequests

@@ -1,10 +1,10 @@
--- The plain node before the first event.
+-- The initial state of the node.
 use Rattle.std.specs.Prelude.{[]}
 use Rattle.neighbours.specs.Rows.{opening as opening_rows}
 use Rattle.plain_node.specs.PlainNode.{PlainNode}
 use Rattle.plain_node.specs.Settings.{Setup}
 
--- the plain node before the first event: no times, no misses, nothing stored, nothing pending
+-- the node before the first event: no round-trip times, no misses, an empty store, no pending fetches
 abbrev pub opening_node : Setup → PlainNode
 opening_node setup = record {
   settings = setup.settings;

@@ -1,4 +1,4 @@
--- What the result of a fetch does: an object is served to all that wait, and may be stored; a failure goes on to the next source.
+-- Outcomes of fetches: an object is served to all waiters and may be stored; after a failure the next source is tried.
 use Rattle.std.specs.Prelude.{ℕ, ◌==◌, nat_lt, nat_le, ◌&&◌, Bool, false, List, [], Option, Some, None, if◌then◌else◌}
 use Rattle.neighbours.specs.declared.neighbour.Neighbour.{Neighbour}
 use Rattle.object_store.specs.declared.entry.Entry.{Entry}
@@ -13,22 +13,22 @@ use Rattle.plain_node.specs.declared.action.Answer.TheVariants.{Got}
 use Rattle.plain_node.specs.declared.event.Outcome.{Outcome}
 use Rattle.plain_node.specs.declared.event.Outcome.TheVariants.{Object, Failed}
 use Rattle.plain_node.specs.PlainNode.{PlainNode, with_fetches, closed, serves}
-use Rattle.plain_node.specs.Sources.{is_sibling_source, source_of, tried}
+use Rattle.plain_node.specs.Sources.{is_sibling_source, source_of, attempt_step}
 
--- the next source is tried; where there is none, the waiters are told 502
+-- the next source is tried; if there is none, the waiters are answered with 502
 unfoldable pub next_step : PlainNode → PendingFetch → PlainNode × List Action
 next_step node fetch =
-    tried (with_fetches node (changed with_next fetch.number node.fetches.list)) 502 (with_next fetch) (source_of node (with_next fetch))
+    attempt_step (with_fetches node (changed with_next fetch.number node.fetches.list)) 502 (with_next fetch) (source_of node (with_next fetch))
 
--- an object as it is stored at a moment
+-- the store entry of an object stored at a moment
 abbrev pub entry_of : ObjectFields → ℕ → Entry
 entry_of object at = record { object = object; at = at }
 
--- whether an object may be stored: its fetch is shared, its status is 200 and its life is over 0
+-- whether an object may be stored: its fetch is shared, its status is 200 and its lifetime is above 0
 abbrev pub may_store : PendingFetch → ObjectFields → Bool
 may_store fetch object = is_shared fetch && (object.status == 200) && nat_lt 0 object.life
 
--- the store with the object, where the limits allow it
+-- the store with the object, unless it is larger than the store
 abbrev pub put_in : List ℕ → Entry → StoreState → StoreState
 put_in key entry store = if nat_le (size_of key entry) store.most_octets then after_put key entry store else store
 
@@ -37,16 +37,16 @@ abbrev pub stored : PlainNode → PendingFetch → ObjectFields → PlainNode
 stored node fetch object =
     if may_store fetch object then record node { store = put_in fetch.key (entry_of object node.clock) node.store } else node
 
--- the object is stored, all that wait get it, and the fetch is closed
+-- the object is stored if it may be, all waiters get it, and the fetch is closed
 unfoldable pub got_step : PlainNode → PendingFetch → ObjectFields → PlainNode × List Action
 got_step node fetch object = (closed (stored node fetch object) fetch.number, serves (Got object) fetch.waiters)
 
--- whether the fetch's source at its attempt is a sibling
+-- whether the source of the fetch's current attempt is a sibling
 abbrev pub is_from_sibling : List Neighbour → Option Source → Bool
 is_from_sibling neighbours None = false
 is_from_sibling neighbours (Some source) = is_sibling_source neighbours source
 
--- a sibling's 504 says that it hasn't stored the object, which is a failure
+-- a sibling's 504 means that it doesn't have the object, and counts as a failure
 abbrev pub is_failure : PlainNode → PendingFetch → ObjectFields → Bool
 is_failure node fetch object = (object.status == 504) && is_from_sibling node.rows.neighbours (source_of node fetch)
 
@@ -54,7 +54,7 @@ unfoldable pub outcome_step : PlainNode → PendingFetch → Outcome → PlainNo
 outcome_step node fetch Failed = next_step node fetch
 outcome_step node fetch (Object object) = if is_failure node fetch object then next_step node fetch else got_step node fetch object
 
--- a result counts for a pending fetch whose round is decided, and for its current attempt
+-- an outcome counts only if the fetch's round is decided and the attempt is its current one
 abbrev pub counts : PendingFetch → ℕ → Bool
 counts fetch attempt = decided fetch.round && (fetch.attempt == attempt)
 

@@ -1,4 +1,4 @@
--- Keys and signatures as the functions that judge and make them promise them to one another: no public promise speaks of these.
+-- Keys and verdicts as private contracts use them; no public contract uses these.
 use Rattle.std.specs.Prelude.{◌≡◌, ℕ, ◌≤◌, ◌<◌, List, [], length, Option, Some, None}
 use Rattle.htcp_packet.specs.Message.{Body, empty, specifier, clear, detail, cache_headers, opaque}
 use Rattle.plain_node.specs.declared.signatures.Signer.{Signer}
@@ -6,14 +6,14 @@ use Rattle.plain_node.specs.declared.signatures.Judgement.{Judgement}
 use Rattle.plain_node.specs.declared.signatures.Judgement.TheVariants as judgements
 use Rattle.plain_node.specs.declared.finding.Finding.{Finding}
 use Rattle.plain_node.specs.declared.finding.Finding.TheVariants.{Refused, Alive, Found, NotFound, Cleared, NotCleared}
-use Rattle.plain_node.specs.Signatures.{SigningKey, Standing, absent, good, bad}
+use Rattle.plain_node.specs.Signatures.{SigningKey, SignatureStanding, absent, good, bad}
 
--- a key, without where it lies in memory
+-- the name and secret of a borrowed key
 abbrev pub shown_key : Signer → SigningKey
 shown_key key = record { name = key.name.now; secret = key.secret.now }
 
--- what a signature is worth, without where its key lies in memory
-abbrev pub shown_standing : Judgement → Standing
+-- the verdict of the code's judgement
+abbrev pub shown_standing : Judgement → SignatureStanding
 shown_standing judgements.Absent = absent
 shown_standing (judgements.Good key) = good (shown_key key)
 shown_standing judgements.Bad = bad
@@ -23,7 +23,7 @@ abbrev pub IsShortlyNamed : Option SigningKey → Type 0
 IsShortlyNamed None = Unit {0}
 IsShortlyNamed (Some key) = length key.name ≤ 255
 
--- the URI of a TST or a CLR, and nothing of other operations
+-- the URI of a TST or CLR; empty for other operations
 abbrev pub uri_in : Body → List ℕ
 uri_in empty = []
 uri_in (specifier s) = s.uri
@@ -32,7 +32,7 @@ uri_in (detail d) = []
 uri_in (cache_headers h) = []
 uri_in (opaque octets) = []
 
--- an operation may come to this
+-- the results that an operation may have
 abbrev pub Suits : ℕ → Finding → Type 0
 Suits opcode (Refused code) = code < 16
 Suits opcode Alive = opcode ≡ 0

@@ -1,9 +1,8 @@
--- What the actions of one event come to: how many there are of each kind, and a digest of them all, which is MD5 (RFC 1321) of the
--- actions spelled one after the other.
---
--- A number is spelled as 8 octets, the highest first; an octet as itself, and an address as its four octets; octets as how many
--- there are, and then they; a choice as one octet, counted from 0 in the order of its declaration (false 0 and true 1, None 0 and
--- Some 1), and then what it holds; an object as its digest.
+-- Tallies of an event's actions: the count of each kind, and a digest of them all, which is MD5 (RFC 1321) of the actions
+-- encoded one after the other.
+--  A number is encoded as 8 octets, big-endian; an octet as itself, an address as its four octets; a list of octets as its
+-- length and then the octets; a variant as one octet, counted from 0 in the order of declaration (false 0 and true 1, None 0
+-- and Some 1), and then its fields; an object as its digest.
 use Rattle.std.specs.Prelude.{ℕ, ◌==◌, Bool, true, false, List, [], ◌∷◌, ◌++◌, Option, Some, None, count_by}
 use Rattle.std.specs.List.{flat_map}
 use Rattle.md5.specs.Md5.{md5}
@@ -19,7 +18,7 @@ use Rattle.plain_node.specs.declared.action.Answer.{Answer}
 use Rattle.plain_node.specs.declared.action.Answer.TheVariants.{Hit, Got, Fail}
 use Rattle.plain_node.specs.declared.tally.Tally.{Tally}
 
--- the kinds of actions: 0 sends a datagram, 1 fetches, 2 to 4 tell a client of a stored object, of a fetched one, or of none
+-- the kinds of actions: 0 sends a datagram, 1 fetches, 2 to 4 answer a client with a stored object, a fetched one, or a status
 abbrev pub action_kind : Action → ℕ
 action_kind (Send socket to payload) = 0
 action_kind (Fetch fetch attempt source only_if_cached owner) = 1
@@ -27,12 +26,12 @@ action_kind (Serve client (Hit object age)) = 2
 action_kind (Serve client (Got object)) = 3
 action_kind (Serve client (Fail status)) = 4
 
--- a choice between no and yes
+-- a flag
 abbrev pub spelled_flag : Bool → List ℕ
 spelled_flag false = 0 ∷ []
 spelled_flag true = 1 ∷ []
 
--- a choice between the sockets
+-- a socket
 abbrev pub spelled_socket : Socket → List ℕ
 spelled_socket Icp = 0 ∷ []
 spelled_socket Htcp = 1 ∷ []
@@ -41,17 +40,17 @@ spelled_socket Htcp = 1 ∷ []
 abbrev pub spelled_end : End → List ℕ
 spelled_end end = end.addr ++ spelled_number end.port
 
--- where to fetch from: a neighbour and its place, or the origin
+-- a source: a neighbour with its index, or the origin
 abbrev pub spelled_source : Source → List ℕ
 spelled_source (Peer place) = 0 ∷ spelled_number place
 spelled_source Origin = 1 ∷ []
 
--- the owner of a fetch, where it has one
+-- the owner of a fetch, if it has one
 abbrev pub spelled_owner : Option ℕ → List ℕ
 spelled_owner None = 0 ∷ []
 spelled_owner (Some client) = 1 ∷ spelled_number client
 
--- what an action holds, in the order of its declaration; of an answer the client first
+-- the fields of an action, in the order of declaration; for an answer the client first
 abbrev pub spelled_fields : Action → List ℕ
 spelled_fields (Send socket to payload) = spelled_socket socket ++ spelled_end to ++ spelled_octets payload
 spelled_fields (Fetch fetch attempt source only_if_cached owner) =
@@ -60,11 +59,11 @@ spelled_fields (Serve client (Hit object age)) = spelled_number client ++ object
 spelled_fields (Serve client (Got object)) = spelled_number client ++ object.digest
 spelled_fields (Serve client (Fail status)) = spelled_number client ++ spelled_number status
 
--- an action: one octet for its kind, then what it holds
+-- an action: one octet for its kind, then its fields
 abbrev pub spelled : Action → List ℕ
 spelled action = action_kind action ∷ spelled_fields action
 
--- how many actions are of a kind
+-- the number of actions of a kind
 abbrev pub how_many : ℕ → List Action → ℕ
 how_many kind actions = count_by (λ action. action_kind action == kind) actions
 

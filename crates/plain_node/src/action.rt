@@ -1,15 +1,17 @@
-//! What a node wants done.
+//! Actions: what the node asks its caller to do.
 ghost use Rattle.std.specs.Prelude.{◌≡◌, ◌<◌, ◌≤◌, ◌++◌, ◌∷◌, [], length, IfOk};
+ghost use Rattle.plain_node.specs.Bounds.{most_actions};
 
 use crate::NoMemory;
 use filter_slots::{End, Socket};
 use object_store::SharedObject;
 use peer_select::Source;
+use pending_fetch::{MAX_PENDING_FETCHES, MAX_WAITERS};
 use std::alloc::Global;
 use std::marker::Model;
 use std::sync::Arc;
 
-/// Octets with several owners. Contracts see the octets.
+/// Reference-counted octets. Contracts see the octets.
 #[derive(Debug, Drop)]
 pub struct SharedOctets {
     octets: Arc<Vec<u8>>,
@@ -25,7 +27,7 @@ impl Model for SharedOctets {
 }
 
 impl SharedOctets {
-    /// The first owner of these octets. An error says that there was no memory.
+    /// Wraps the octets, with one owner. Errors: out of memory.
     pub fn new(alloc: Global, octets: Vec<u8>) -> Result<SharedOctets, NoMemory>
         ensures { IfOk result (λ shared. shared ≡ octets.items) }
     {
@@ -34,7 +36,7 @@ impl SharedOctets {
         })
     }
 
-    /// One more owner. It requests no memory, and is refused only where there are too many owners.
+    /// Adds an owner. Does not allocate. Errors: too many owners.
     pub fn share(&self) -> Result<SharedOctets, NoMemory>
         ensures { IfOk result (λ shared. shared ≡ self.now) }
     {
@@ -51,14 +53,14 @@ impl SharedOctets {
     }
 }
 
-/// The octets of a payload: its own, or those that several payloads have in common.
+/// The octets of a payload: its own, or reference-counted ones that several payloads share.
 #[derive(Debug, Drop)]
 pub enum Owned {
     Alone(Vec<u8>),
     InCommon(SharedOctets),
 }
 
-/// The octets of a datagram that is to be sent.
+/// The octets of a datagram to send.
 #[derive(Debug, Drop)]
 pub struct Payload {
     octets: Owned,
@@ -66,15 +68,15 @@ pub struct Payload {
 
 impl Model for Payload {
     ghost use Rattle.std.specs.Prelude.{List, ℕ};
-    ghost use Rattle.plain_node.specs.Payloads.{octets_of};
+    ghost use Rattle.plain_node.specs.Payloads.{payload_octets};
 
     ghost Value = { List ℕ };
 
-    ghost view = { λ p. octets_of p.octets };
+    ghost view = { λ p. payload_octets p.octets };
 }
 
 impl Payload {
-    /// A payload of these octets.
+    /// A payload that owns these octets.
     pub fn new(octets: Vec<u8>) -> Payload
         ensures { result ≡ octets.items }
     {
@@ -83,7 +85,7 @@ impl Payload {
         }
     }
 
-    /// A payload of octets that it has in common with others. It requests no memory, and is refused only where these are too many.
+    /// A payload that shares these octets with others. Does not allocate. Errors: too many owners.
     pub(crate) fn of(octets: &SharedOctets) -> Result<Payload, NoMemory>
         ensures { IfOk result (λ payload. payload ≡ octets.now) }
     {
@@ -104,28 +106,28 @@ impl Payload {
     }
 }
 
-/// What a client is told.
+/// The answer to a client.
 #[derive(Drop)]
 pub enum Answer {
-    /// A stored object, and its age in seconds.
+    /// A stored object, with its age in seconds.
     Hit { object: SharedObject, age: u32 },
     /// An object that was fetched.
     Got(SharedObject),
-    /// That there is none: the status to answer.
+    /// No object: the HTTP status to answer.
     Fail(u16),
 }
 
-/// What a node wants done.
+/// Actions: what the node asks its caller to do.
 #[derive(Drop)]
 pub enum Action {
-    /// Send a datagram from the own end of a socket.
+    /// Send a datagram from the node's own address and port of this socket.
     Send {
         socket: Socket,
         to: End,
         payload: Payload,
     },
-    /// Fetch the key of a pending fetch from a source, and hand the outcome back with this attempt. The owner is the client of a
-    /// private fetch.
+    /// Fetch the key of a pending fetch from a source, and report the outcome with this attempt number. `owner` is the client
+    /// of a private fetch, and `None` for a shared one.
     Fetch {
         fetch: u32,
         attempt: u16,
@@ -140,7 +142,11 @@ pub enum Action {
     },
 }
 
-/// The actions of one event, in order. There is room for as many as an event can have.
+/// The maximum number of actions of one event, 1,344: one for each pending fetch and each waiter, and a query to each of 64
+/// neighbours. Contracts state it as `most_actions` of specs/Bounds.antt, made of the same parts: change both.
+pub const MAX_ACTIONS: usize = MAX_PENDING_FETCHES + MAX_WAITERS + 64;
+
+/// The actions of one event, in order, in a buffer large enough for any event.
 #[derive(Drop)]
 pub struct Out {
     actions: Vec<Action>,
@@ -148,31 +154,29 @@ pub struct Out {
 
 impl Model for Out {
     ghost use Rattle.std.specs.Prelude.{List, ◌≤◌, length, vec_capacity};
+    ghost use Rattle.plain_node.specs.Bounds.{most_actions};
     ghost use Rattle.plain_node.specs.declared.action.Action.{Action};
 
     ghost Value = { List Action };
 
     ghost view = { λ o. o.actions.items };
 
-    ghost invariant = { λ o. (1344 ≤ vec_capacity o.actions) × (length o.actions.items ≤ 1344) };
+    ghost invariant = { λ o. (most_actions ≤ vec_capacity o.actions) × (length o.actions.items ≤ most_actions) };
 }
 
 impl Out {
-    /// The most actions of one event.
-    pub const ROOM: usize = 1_344;
-
-    /// No action, and room for 1,344 of them. An error says that there was no memory.
+    /// An empty list. Reserves memory for 1,344 actions; errors when out of memory.
     pub fn new(alloc: Global) -> Result<Out, NoMemory>
         ensures { IfOk result (λ out. out ≡ []) }
     {
         Ok(Out {
-            actions: Vec::with_capacity(alloc, Out::ROOM)?,
+            actions: Vec::with_capacity(alloc, MAX_ACTIONS)?,
         })
     }
 
-    /// Does nothing. Its contract says that there are at most 1,344 actions.
+    /// States for callers that there are at most 1,344 actions; does nothing at run time.
     pub fn facts(&self)
-        ensures { length self.now ≤ 1344 }
+        ensures { length self.now ≤ most_actions }
     {
         let _ = &self.actions;
     }
@@ -184,16 +188,16 @@ impl Out {
         self.actions.as_slice()
     }
 
-    /// Lets all actions go. The room stays.
+    /// Drops all actions. The memory stays reserved.
     pub fn clear(&mut self)
         ensures { self.new ≡ [] }
     {
         self.actions.clear();
     }
 
-    /// Adds an action. It takes no memory.
+    /// Appends an action. Does not allocate.
     pub fn push(&mut self, action: Action)
-        requires { length self.old < 1344 }
+        requires { length self.old < most_actions }
         ensures { self.new ≡ self.old ++ action ∷ [] }
     {
         self.actions.push(action).unwrap();

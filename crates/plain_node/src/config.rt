@@ -1,4 +1,4 @@
-//! What a node is set up with.
+//! The configuration of a node.
 ghost use Rattle.std.specs.Prelude.{◌≡◌, ◌&&◌, IfOk};
 ghost use Rattle.plain_node.specs.Settings.{are_limits, are_prefixes, first_bits, is_allowed, is_inside};
 
@@ -9,12 +9,12 @@ use std::alloc::Global;
 use std::marker::Model;
 use thiserror::Error;
 
-/// A network: the addresses whose first `prefix` bits are those of `addr`.
+/// An IPv4 network: the addresses whose first `prefix` bits equal those of `addr`.
 #[derive(Clone, Copy, Debug, PartialEq, Eq)]
 pub struct Network {
-    /// An address in it.
+    /// Any address in the network.
     pub addr: [u8; 4],
-    /// How many bits all its addresses share, 0 to 32.
+    /// The prefix length in bits, 0 to 32.
     pub prefix: u8,
 }
 
@@ -27,7 +27,7 @@ impl Network {
     }
 }
 
-/// The first bits of an address, so many of its 32, as a number.
+/// The first `prefix` bits of an address, as a number.
 fn first_bits(prefix: u8, addr: [u8; 4]) -> u64
     ensures { result ≡ first_bits prefix addr }
 {
@@ -35,31 +35,31 @@ fn first_bits(prefix: u8, addr: [u8; 4]) -> u64
     u32::from_be_bytes(addr) as u64 >> dropped
 }
 
-/// What does not change while a node runs.
+/// The configuration, which stays the same while a node runs.
 #[derive(Debug, Drop)]
 pub struct Config {
-    /// The own end of the ICP socket: its address is the sender in each message.
+    /// The node's own address and port for ICP; the address is the sender in each message.
     pub icp: End,
-    /// The own end of the HTCP socket.
+    /// The node's own address and port for HTCP.
     pub htcp: End,
     /// The networks whose queries are answered.
     pub allowed: Vec<Network>,
-    /// Whether MISS_NOFETCH is answered in place of MISS.
+    /// Whether misses are answered with MISS_NOFETCH instead of MISS.
     pub miss_nofetch: bool,
-    /// Whether objects may be fetched from origins.
+    /// Whether objects may be fetched from origin servers.
     pub origin: bool,
-    /// The most entries of the store, 1 to 1,000,000.
+    /// The maximum number of store entries, 1 to 1,000,000.
     pub entries: u32,
-    /// The most octets of the store, 1 to 1,073,741,824.
+    /// The maximum size of the store in octets, 1 to 1,073,741,824.
     pub octets: u32,
     /// The neighbours, in order.
     pub neighbours: Vec<Neighbour>,
-    /// The signing keys.
+    /// The keys that HTCP messages are signed with.
     pub keys: Vec<Key>,
 }
 
 impl Config {
-    /// Whether each prefix is at most 32, and the store's limits are in their ranges.
+    /// Whether each prefix is at most 32, and the store's limits are in range.
     pub(crate) fn is_fit(&self) -> bool
         ensures { result ≡ (are_prefixes self.now.allowed.items && are_limits self.now.entries self.now.octets) }
     {
@@ -80,7 +80,7 @@ impl Config {
     }
 }
 
-/// What a node's rules read of its configuration.
+/// The part of the configuration that the node keeps, apart from neighbours and store.
 #[derive(Debug, Drop)]
 pub struct Rules {
     pub(crate) icp: End,
@@ -105,7 +105,7 @@ impl Model for Rules {
 }
 
 impl Rules {
-    /// Equal rules, with memory of their own.
+    /// An owned copy. Errors: out of memory.
     pub fn copy(&self, alloc: Global) -> Result<Rules, NoMemory>
         ensures { IfOk result (λ copy. copy ≡ self.now) }
     {
@@ -119,28 +119,28 @@ impl Rules {
         })
     }
 
-    /// The own address of the ICP socket.
+    /// The node's own ICP address.
     pub fn sender(&self) -> [u8; 4]
         ensures { result ≡ self.now.icp.addr }
     {
         self.icp.addr
     }
 
-    /// The own end of the HTCP socket.
+    /// The node's own address and port for HTCP.
     pub fn htcp(&self) -> End
         ensures { result ≡ self.now.htcp }
     {
         self.htcp
     }
 
-    /// Whether MISS_NOFETCH is answered in place of MISS.
+    /// Whether misses are answered with MISS_NOFETCH instead of MISS.
     pub fn miss_nofetch(&self) -> bool
         ensures { result ≡ self.now.miss_nofetch }
     {
         self.miss_nofetch
     }
 
-    /// Whether objects may be fetched from origins.
+    /// Whether objects may be fetched from origin servers.
     pub fn origin(&self) -> bool
         ensures { result ≡ self.now.origin }
     {
@@ -155,16 +155,16 @@ impl Rules {
     }
 }
 
-/// Why a node was not made.
+/// Why a node could not be created.
 #[derive(Clone, Copy, Debug, PartialEq, Eq, Error)]
 pub enum NodeFault {
-    /// The neighbours or keys make no table.
+    /// The neighbours or keys are invalid.
     #[error("the table of neighbours: {0}")]
     Table(ConfigFault),
-    /// A prefix is over 32, or a limit of the store is out of its range.
+    /// A prefix is over 32, or a limit of the store is out of range.
     #[error("a limit is out of its range")]
     Limits,
-    /// There was no memory.
+    /// Out of memory.
     #[error("no memory")]
     NoMemory,
 }

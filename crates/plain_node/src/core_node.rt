@@ -9,7 +9,8 @@ ghost use Rattle.plain_node.specs.Plain.{Arrived, plain_step, is_no_message};
 ghost use Rattle.plain_node.specs.Opening.{opening_node};
 ghost use Rattle.plain_node.specs.Memory.{sends_none, writes_key_at};
 ghost use Rattle.plain_node.specs.Fitting.{fault_after};
-ghost use Rattle.plain_node.specs.PlainNode.{moved, closed, with_fetches};
+ghost use Rattle.plain_node.specs.PlainNode.{at_clock, closed, with_fetches};
+ghost use Rattle.pending_fetch.specs.Bounds.{most_waiters};
 
 use crate::NoMemory;
 use crate::action::Out;
@@ -43,8 +44,8 @@ impl Model for Core {
 }
 
 impl Core {
-    /// The node of a configuration: nothing stored, nothing pending, the clock at 0. Errors: what is wrong with the neighbours
-    /// and keys, else a prefix or a limit out of its range, else that there was no memory.
+    /// A node with this configuration, an empty store, no pending fetches and the clock at 0. Errors, the first that applies:
+    /// invalid neighbours or keys, a prefix or limit out of range, out of memory.
     pub fn new(alloc: Global, config: Config) -> Result<Core, NodeFault>
         ensures opens { IfOk result (λ core. core ≡ opening_node (setup_of config)) }
         ensures faultless { OnOk result (setup_fault (setup_of config) ≡ None) }
@@ -65,7 +66,7 @@ impl Core {
         }
     }
 
-    /// The node over a table, where the limits are fit.
+    /// A node with this table of neighbours. `fit` tells whether the configuration's limits are in range.
     fn over(
         alloc: Global,
         rules: Rules,
@@ -96,8 +97,8 @@ impl Core {
         })
     }
 
-    /// An equal node, with memory of its own; objects are shared. An error says that there was no memory, or that an object has
-    /// too many owners.
+    /// An owned copy; objects and keys are reference-counted and shared. Errors: out of memory, or too many owners of an
+    /// object or key.
     pub fn copy(&self, alloc: Global) -> Result<Core, NoMemory>
         ensures { IfOk result (λ copy. copy ≡ self.now) }
     {
@@ -114,7 +115,8 @@ impl Core {
         })
     }
 
-    /// Takes a datagram of which `octets` are handed on. Says whether they are no message.
+    /// Handles a datagram; `octets` is the part of its payload that the filter let through. Returns whether they fail to
+    /// decode. Errors, which leave the node unchanged: out of memory.
     #[tactic(auto, unfolding(crate::specs::Plain::socket_step))]
     pub fn datagram(
         &mut self,
@@ -129,7 +131,7 @@ impl Core {
         ensures actions { OnOk result (out.new ≡ (plain_step self.old (Arrived (record datagram.now { payload = octets.now }) now)).1) }
         ensures malformed { IfOk result (λ malformed. malformed ≡ is_no_message datagram.now.socket octets.now) }
         ensures refused { OnErr result ((self.new ≡ self.old) × (out.new ≡ [])) }
-        ensures silent { sends_none (plain_step self.old (Arrived (record datagram.now { payload = octets.now }) now)).1 ≡ true → writes_key_at (moved self.old now) (record datagram.now { payload = octets.now }) datagram.now.socket ≡ false → IsOk result }
+        ensures silent { sends_none (plain_step self.old (Arrived (record datagram.now { payload = octets.now }) now)).1 ≡ true → writes_key_at (at_clock self.old now) (record datagram.now { payload = octets.now }) datagram.now.socket ≡ false → IsOk result }
     {
         match datagram.socket() {
             Socket::Icp => self.icp(alloc, datagram.from(), octets, now, out),
@@ -137,38 +139,38 @@ impl Core {
         }
     }
 
-    /// Moves the clock to a later moment.
+    /// Advances the clock to `now`; an earlier moment leaves it as it is.
     pub(crate) fn tick(&mut self, now: Moment)
-        ensures { self.new ≡ moved self.old now }
+        ensures { self.new ≡ at_clock self.old now }
     {
         self.clock = self.clock.later(now);
     }
 
-    /// Closes the fetch of this number.
+    /// Removes the fetch with this number.
     pub(crate) fn close(&mut self, number: u32)
         ensures { self.new ≡ closed self.old number }
     {
         self.pending.close(number);
     }
 
-    /// The fetch of this number goes on to its next attempt.
+    /// Moves the fetch with this number on to its next attempt.
     pub(crate) fn advance(&mut self, number: u32)
         ensures { self.new ≡ with_fetches self.old (changed with_next number self.old.fetches.list) }
     {
         self.pending.next_attempt(number);
     }
 
-    /// A client waits no longer.
+    /// Removes a client from the fetch that it waits for, if any.
     pub fn leave(&mut self, client: u64)
         ensures { self.new ≡ with_fetches self.old (left client self.old.fetches.list) }
     {
         self.pending.leave(client);
     }
 
-    /// What holds of the pending fetches, the store and the neighbours at every time. It does nothing.
+    /// States the invariants of the pending fetches, the store and the neighbours for callers; does nothing at run time.
     pub fn facts(&self)
         ensures legal { IsLegal self.now.fetches.list }
-        ensures few { (number : ℕ) → length (waiters_of number self.now.fetches.list) ≤ 1024 }
+        ensures few { (number : ℕ) → length (waiters_of number self.now.fetches.list) ≤ most_waiters }
         ensures store { IsStore self.now.store }
         ensures rows { IsTable self.now.rows }
     {
@@ -177,14 +179,14 @@ impl Core {
         self.table.facts();
     }
 
-    /// The neighbours, and what their replies told.
+    /// The neighbours, with their round-trip times and misses.
     pub fn neighbours(&self) -> &Table
         ensures { result.now ≡ self.now.rows }
     {
         &self.table
     }
 
-    /// The key of a pending fetch.
+    /// The key of a pending fetch, or `None` if the fetch isn't pending.
     pub fn key_of(&self, fetch: u32) -> Option<&CacheKey>
         ensures { option_copied result ≡ option_map (λ (f : PendingFetch). f.key) (fetch_of fetch self.now.fetches.list) }
     {
@@ -192,7 +194,7 @@ impl Core {
     }
 }
 
-/// Why there is no node where its table has this fault: a refusal of memory comes last.
+/// The error of creating a node whose table failed with `fault`: running out of memory ranks below limits out of range.
 fn fault_for(fault: ConfigFault, fit: bool) -> NodeFault
     ensures { result ≡ fault_after fault fit }
 {

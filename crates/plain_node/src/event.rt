@@ -1,12 +1,12 @@
-//! What the events that reach the node speak of.
+//! Parts of the node's events.
 use object_store::SharedObject;
 
 /// How a client's request may be answered.
 #[derive(Clone, Copy, Debug, PartialEq, Eq)]
 pub enum Mode {
-    /// From the store, or by a fetch that others may join.
+    /// From the store, or by a fetch that other clients may join.
     Shared,
-    /// From the store alone.
+    /// From the store only.
     Cached,
     /// By a fetch of its own, whose result isn't stored.
     Private,
@@ -17,6 +17,6 @@ pub enum Mode {
 pub enum Outcome {
     /// With this object.
     Object(SharedObject),
-    /// Without one.
+    /// Without an object.
     Failed,
 }

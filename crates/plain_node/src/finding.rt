@@ -1,37 +1,37 @@
-//! What an HTCP request comes to.
+//! Results of HTCP requests.
 ghost use Rattle.std.specs.Prelude.{◌≡◌, []};
 ghost use Rattle.htcp_packet.specs.View.{shown_body};
 ghost use Rattle.plain_node.specs.HtcpRequests.{is_refusal, code_of, text_of};
 
 use htcp_packet::{Detail, HtcpBody};
 
-/// What an HTCP request comes to (RFC 2756, sections 6.1, 6.2 and 6.5).
+/// The result of an HTCP request (RFC 2756, sections 6.1, 6.2 and 6.5).
 #[derive(Clone, Copy, Debug, PartialEq, Eq)]
 pub enum Finding {
-    /// It is refused, by a code of HTCP's own: 0 where it isn't signed, 1 where its signature isn't good, 2 where its operation isn't
-    /// served, 5 where its source isn't allowed.
+    /// Refused, with one of HTCP's overall response codes (MO set): 0 not signed, 1 bad signature, 2 operation not
+    /// implemented, 5 source not allowed.
     Refused(u8),
     /// NOP.
     Alive,
     /// TST: a fresh object is stored.
     Found,
-    /// TST: none is.
+    /// TST: no fresh object is stored.
     NotFound,
-    /// CLR: an object was stored, and is taken out.
+    /// CLR: an object was stored, and is removed.
     Cleared,
-    /// CLR: none was.
+    /// CLR: no object was stored.
     NotCleared,
 }
 
 impl Finding {
-    /// Whether the answer's code is one of HTCP's own (MO).
+    /// Whether the response code is an overall one (MO set), that is, the request is refused.
     pub fn is_refusal(self) -> bool
         ensures { result ≡ is_refusal self }
     {
         matches!(self, Finding::Refused(_))
     }
 
-    /// The answer's code.
+    /// The response code.
     pub fn code(self) -> u8
         ensures { result ≡ code_of self }
     {
@@ -43,7 +43,7 @@ impl Finding {
         }
     }
 
-    /// What the answer says beside its code.
+    /// The OP-DATA of the response.
     pub fn body(self) -> HtcpBody<'static>
         ensures { shown_body result ≡ text_of self }
     {

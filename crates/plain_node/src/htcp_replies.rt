@@ -1,12 +1,12 @@
-//! What an HTCP response does.
+//! HTCP responses.
 ghost use Rattle.std.specs.Prelude.{◌≡◌, ◌<◌, [], length, true, Some, IfSome};
 ghost use Rattle.std.specs.Option.{option_map};
 ghost use Rattle.bpf_run.specs.declared.ends.Socket.TheVariants.{Htcp};
 ghost use Rattle.htcp_packet.specs.View.{shown, received};
 ghost use Rattle.pending_fetch.specs.Fetches.{PendingFetch, fetch_of};
-ghost use Rattle.pending_fetch.specs.Standing.{place_of};
+ghost use Rattle.pending_fetch.specs.FetchIndex.{fetch_index};
 ghost use Rattle.plain_node.specs.declared.messages.Awaited.{Awaited as AwaitedFetch};
-ghost use Rattle.plain_node.specs.PlainNode.{moved};
+ghost use Rattle.plain_node.specs.PlainNode.{at_clock};
 ghost use Rattle.plain_node.specs.Messages.{awaiting};
 ghost use Rattle.plain_node.specs.HtcpReplies.{response_step, tested_step, is_trusted, key_name_at, response_kind, answer_kind};
 ghost use Rattle.plain_node.specs.Signatures.{standing};
@@ -21,7 +21,7 @@ use peer_select::Kind;
 use pending_fetch::Located;
 
 impl Core {
-    /// Takes a response: one that may be trusted of a neighbour counts for the round that asked it.
+    /// Handles a response. If it is from a neighbour and trusted, it counts for the polling round that asked for it.
     #[tactic(auto, unfolding(crate::specs::HtcpReplies::response_step))]
     pub(crate) fn take_response(
         &mut self,
@@ -32,8 +32,8 @@ impl Core {
         out: &mut Out,
     )
         requires { out.old ≡ [] }
-        ensures plain { self.new ≡ (response_step (moved self.old now) from to (received view.now)).0 }
-        ensures actions { out.new ≡ (response_step (moved self.old now) from to (received view.now)).1 }
+        ensures plain { self.new ≡ (response_step (at_clock self.old now) from to (received view.now)).0 }
+        ensures actions { out.new ≡ (response_step (at_clock self.old now) from to (received view.now)).1 }
     {
         self.tick(now);
         let Some(n) = self.table.find(Socket::Htcp, from) else {
@@ -46,7 +46,8 @@ impl Core {
         self.take_tested(n, view, out);
     }
 
-    /// Whether a response of the neighbour at a place may be trusted.
+    /// Whether a response from the neighbour with index `n` is trusted: a neighbour with a key must have signed with it, one
+    /// without a key is always trusted.
     fn is_trusted(&self, n: usize, from: End, to: End, view: &HtcpView<'_>) -> bool
         requires { n < length self.now.rows.neighbours }
         ensures { result ≡ is_trusted (standing self.now from to (received view.now)) (key_name_at self.now.rows.neighbours n) }
@@ -61,7 +62,7 @@ impl Core {
         judgement.is_good_by(name.as_slice())
     }
 
-    /// The answer to a TST counts for the fetch of its number.
+    /// Counts the response to a TST for the fetch with its transaction number.
     fn take_tested(&mut self, n: usize, view: &HtcpView<'_>, out: &mut Out)
         requires place { n < length self.old.rows.neighbours }
         requires empty { out.old ≡ [] }
@@ -74,7 +75,7 @@ impl Core {
         self.hear_number(n, view.trans, kind, out);
     }
 
-    /// A reply of the neighbour at a place counts for the fetch of this number, whatever its key.
+    /// Counts a reply from the neighbour with index `n` for the fetch with this number; HTCP responses name no URL to compare.
     #[tactic(auto, unfolding(crate::specs::Messages::counted_step))]
     fn hear_number(&mut self, n: usize, number: u32, kind: Kind, out: &mut Out)
         requires place { n < length self.old.rows.neighbours }
@@ -88,10 +89,10 @@ impl Core {
         self.count(number, n, kind, awaited, out);
     }
 
-    /// The fetch of this number, if a reply of the neighbour at a place counts for it.
+    /// The fetch with this number, if it awaits a reply from the neighbour with index `n`.
     fn awaited_by(&self, number: u32, n: usize) -> Option<Awaited>
         ensures start { option_map (λ (it : AwaitedFetch). it.start) result ≡ option_map (λ (fetch : PendingFetch). fetch.round.start) (awaiting n (λ fetch. true) (fetch_of number self.now.fetches.list)) }
-        ensures place { IfSome result (λ it. place_of number self.now.fetches.list ≡ Some it.place) }
+        ensures place { IfSome result (λ it. fetch_index number self.now.fetches.list ≡ Some it.place) }
     {
         let Some(Located { place, fetch }) = self.located(number) else {
             return None;
@@ -106,7 +107,7 @@ impl Core {
     }
 }
 
-/// What a response counts as: an answer to a TST alone counts.
+/// What a response counts as, or `None` if it isn't a response to a TST.
 fn kind_of(view: &HtcpView<'_>) -> Option<Kind>
     ensures { result ≡ response_kind (shown view.now) }
 {
@@ -116,7 +117,7 @@ fn kind_of(view: &HtcpView<'_>) -> Option<Kind>
     Some(answer_kind(view.response, view.f1))
 }
 
-/// What the answer to a TST counts as.
+/// What the response to a TST counts as, by its code and MO flag.
 fn answer_kind(code: u8, mo: bool) -> Kind
     ensures { result ≡ answer_kind code mo }
 {

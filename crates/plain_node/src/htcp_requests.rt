@@ -1,15 +1,15 @@
-//! HTCP messages, and what a request does.
+//! HTCP messages and requests.
 ghost use Rattle.std.specs.Prelude.{◌≡◌, ◌==◌, ◌<◌, ◌≤◌, ◌+◌, ℕ, [], length, drop, position, true, false, Some, None, IfOk, IsOk, OnOk, OnErr, IfSome, unwrap_or, is_none, is_some, ◌&&◌, option_copied, if◌then◌else◌};
 ghost use Rattle.std.specs.Option.{option_map};
 ghost use Rattle.htcp_packet.specs.Message.{request_form};
 ghost use Rattle.htcp_packet.specs.Reading.{message_of};
 ghost use Rattle.htcp_packet.specs.View.{shown, shown_body, received};
 ghost use Rattle.htcp_packet.specs.Writing.{FitsForm};
-ghost use Rattle.plain_node.specs.PlainNode.{moved};
+ghost use Rattle.plain_node.specs.PlainNode.{at_clock};
 ghost use Rattle.plain_node.specs.Plain.{received_step, htcp_step};
 ghost use Rattle.plain_node.specs.Messages.{is_http};
-ghost use Rattle.plain_node.specs.HtcpRequests.{htcp_request_step, refusal, comes_to, served, uri_key, slash_behind_80, is_get_or_head, answer, answers_to, after_clear, is_cleared};
-ghost use Rattle.plain_node.specs.Signatures.{Standing, standing, key_of_standing, text_to};
+ghost use Rattle.plain_node.specs.HtcpRequests.{htcp_request_step, refusal_code, comes_to, served, uri_key, slash_behind_80, is_get_or_head, answer, answers_to, after_clear, is_cleared};
+ghost use Rattle.plain_node.specs.Signatures.{SignatureStanding, standing, key_of_standing, text_to};
 ghost use Rattle.plain_node.specs.Signed.{shown_key, shown_standing, IsShortlyNamed, Suits, uri_in};
 ghost use Rattle.plain_node.specs.Memory.{sends_none, is_clear, writes_key, writes_key_of};
 
@@ -27,7 +27,7 @@ use neighbours::Octets;
 use std::alloc::Global;
 
 impl Core {
-    /// Takes the octets of a datagram. Says whether they are no message.
+    /// Handles the octets of an HTCP datagram. Returns whether they fail to decode. Errors: out of memory.
     #[tactic(auto, unfolding(crate::specs::Plain::received_step))]
     pub(crate) fn htcp(
         &mut self,
@@ -38,11 +38,11 @@ impl Core {
         out: &mut Out,
     ) -> Result<bool, NoMemory>
         requires { out.old ≡ [] }
-        ensures plain { OnOk result (self.new ≡ (received_step (moved self.old now) datagram.now.from datagram.now.to (message_of octets.now)).0) }
-        ensures actions { OnOk result (out.new ≡ (received_step (moved self.old now) datagram.now.from datagram.now.to (message_of octets.now)).1) }
+        ensures plain { OnOk result (self.new ≡ (received_step (at_clock self.old now) datagram.now.from datagram.now.to (message_of octets.now)).0) }
+        ensures actions { OnOk result (out.new ≡ (received_step (at_clock self.old now) datagram.now.from datagram.now.to (message_of octets.now)).1) }
         ensures malformed { IfOk result (λ malformed. malformed ≡ is_none (message_of octets.now)) }
         ensures refused { OnErr result ((self.new ≡ self.old) × (out.new ≡ [])) }
-        ensures silent { sends_none (received_step (moved self.old now) datagram.now.from datagram.now.to (message_of octets.now)).1 ≡ true → writes_key_of (moved self.old now) datagram.now.from datagram.now.to (message_of octets.now) ≡ false → IsOk result }
+        ensures silent { sends_none (received_step (at_clock self.old now) datagram.now.from datagram.now.to (message_of octets.now)).1 ≡ true → writes_key_of (at_clock self.old now) datagram.now.from datagram.now.to (message_of octets.now) ≡ false → IsOk result }
     {
         let Ok(view) = decode(octets) else {
             self.tick(now);
@@ -52,7 +52,7 @@ impl Core {
         Ok(false)
     }
 
-    /// Takes a message: a response or a request.
+    /// Handles a decoded message, a response or a request.
     fn htcp_message(
         &mut self,
         alloc: Global,
@@ -65,10 +65,10 @@ impl Core {
         requires empty { out.old ≡ [] }
         requires opcode { view.now.opcode < 16 }
         requires fits { view.now.rr ≡ false → FitsForm (request_form view.now.opcode) (shown_body view.now.body) }
-        ensures plain { OnOk result (self.new ≡ (htcp_step (moved self.old now) from to (received view.now) view.now.rr).0) }
-        ensures actions { OnOk result (out.new ≡ (htcp_step (moved self.old now) from to (received view.now) view.now.rr).1) }
+        ensures plain { OnOk result (self.new ≡ (htcp_step (at_clock self.old now) from to (received view.now) view.now.rr).0) }
+        ensures actions { OnOk result (out.new ≡ (htcp_step (at_clock self.old now) from to (received view.now) view.now.rr).1) }
         ensures refused { OnErr result ((self.new ≡ self.old) × (out.new ≡ [])) }
-        ensures silent { sends_none (htcp_step (moved self.old now) from to (received view.now) view.now.rr).1 ≡ true → writes_key_of (moved self.old now) from to (Some (received view.now)) ≡ false → IsOk result }
+        ensures silent { sends_none (htcp_step (at_clock self.old now) from to (received view.now) view.now.rr).1 ≡ true → writes_key_of (at_clock self.old now) from to (Some (received view.now)) ≡ false → IsOk result }
     {
         if view.rr {
             self.take_response(from, to, view, now, out);
@@ -77,7 +77,7 @@ impl Core {
         self.take_request(alloc, from, to, view, now, out)
     }
 
-    /// Takes a request. Of one that is refused nothing is copied, and one that asks for no answer is looked at only where it clears.
+    /// Handles a request. Without RD it gets no response, and only a CLR has an effect.
     #[tactic(auto, unfolding(crate::specs::HtcpRequests::htcp_request_step))]
     fn take_request(
         &mut self,
@@ -91,10 +91,10 @@ impl Core {
         requires empty { out.old ≡ [] }
         requires opcode { view.now.opcode < 16 }
         requires fits { FitsForm (request_form view.now.opcode) (shown_body view.now.body) }
-        ensures plain { OnOk result (self.new ≡ (htcp_request_step (moved self.old now) from to (received view.now)).0) }
-        ensures actions { OnOk result (out.new ≡ (htcp_request_step (moved self.old now) from to (received view.now)).1) }
+        ensures plain { OnOk result (self.new ≡ (htcp_request_step (at_clock self.old now) from to (received view.now)).0) }
+        ensures actions { OnOk result (out.new ≡ (htcp_request_step (at_clock self.old now) from to (received view.now)).1) }
         ensures refused { OnErr result ((self.new ≡ self.old) × (out.new ≡ [])) }
-        ensures silent { sends_none (htcp_request_step (moved self.old now) from to (received view.now)).1 ≡ true → writes_key (moved self.old now) from (shown view.now) (standing (moved self.old now) from to (received view.now)) ≡ false → IsOk result }
+        ensures silent { sends_none (htcp_request_step (at_clock self.old now) from to (received view.now)).1 ≡ true → writes_key (at_clock self.old now) from (shown view.now) (standing (at_clock self.old now) from to (received view.now)) ≡ false → IsOk result }
     {
         if !view.f1 && !is_clear(&view.body) {
             self.tick(now);
@@ -107,8 +107,8 @@ impl Core {
         Ok(())
     }
 
-    /// Finds what a request comes to at a moment, and sends the answer where one is asked for. Gives the finding, and the key of
-    /// its URI where that had to be written.
+    /// Evaluates a request at a moment and sends the response if one is requested (RD). Returns the result, and the store key
+    /// of its URI if that differs from the URI.
     fn respond(
         &self,
         alloc: Global,
@@ -121,21 +121,21 @@ impl Core {
         requires empty { out.old ≡ [] }
         requires opcode { view.now.opcode < 16 }
         requires fits { FitsForm (request_form view.now.opcode) (shown_body view.now.body) }
-        ensures finding { IfOk result (λ found. found.0 ≡ comes_to (record self.now { clock = clock }) (shown_body view.now.body) (refusal (record self.now { clock = clock }) from view.now.opcode (standing (record self.now { clock = clock }) from to (received view.now)))) }
+        ensures finding { IfOk result (λ found. found.0 ≡ comes_to (record self.now { clock = clock }) (shown_body view.now.body) (refusal_code (record self.now { clock = clock }) from view.now.opcode (standing (record self.now { clock = clock }) from to (received view.now)))) }
         ensures key { IfOk result (λ found. is_cleared found.0 ≡ true → unwrap_or found.1 (uri_in (shown_body view.now.body)) ≡ uri_key (uri_in (shown_body view.now.body))) }
         ensures actions { IfOk result (λ found. out.new ≡ answers_to (record self.now { clock = clock }) from (shown view.now) (standing (record self.now { clock = clock }) from to (received view.now)) found.0 view.now.f1) }
         ensures refused { OnErr result (out.new ≡ []) }
-        ensures silent { view.now.f1 ≡ false → (is_none (refusal (record self.now { clock = clock }) from view.now.opcode (standing (record self.now { clock = clock }) from to (received view.now))) && is_some (slash_behind_80 (uri_in (shown_body view.now.body)))) ≡ false → IsOk result }
+        ensures silent { view.now.f1 ≡ false → (is_none (refusal_code (record self.now { clock = clock }) from view.now.opcode (standing (record self.now { clock = clock }) from to (received view.now))) && is_some (slash_behind_80 (uri_in (shown_body view.now.body)))) ≡ false → IsOk result }
     {
         let judgement = self.judgement(view, from, to, clock);
-        let refusal = self.refusal(from, view.opcode, &judgement);
-        let written = written_unless(alloc, refusal, &view.body)?;
-        let finding = self.finding(clock, refusal, &view.body, &written);
+        let refusal_code = self.refusal_code(from, view.opcode, &judgement);
+        let written = written_unless(alloc, refusal_code, &view.body)?;
+        let finding = self.finding(clock, refusal_code, &view.body, &written);
         self.answer_request(alloc, clock, from, view, finding, &judgement, out)?;
         Ok((finding, written))
     }
 
-    /// Sends the answer to a request at a moment, where one is asked for.
+    /// Sends the response to a request at a moment, if one is requested (RD).
     fn answer_request(
         &self,
         alloc: Global,
@@ -165,28 +165,28 @@ impl Core {
         Ok(())
     }
 
-    /// What a request comes to at a moment, where it is refused with this code or none. The key of its URI is given where it had to
-    /// be written.
+    /// The result of a request at a moment: refused with this code, if any, else evaluated. `written` is the store key of its
+    /// URI if that differs from the URI.
     fn finding(
         &self,
         clock: Moment,
-        refusal: Option<u8>,
+        refusal_code: Option<u8>,
         body: &HtcpBody<'_>,
         written: &Option<Octets>,
     ) -> Finding
-        requires key { refusal ≡ None → unwrap_or written.now (uri_in (shown_body body.now)) ≡ uri_key (uri_in (shown_body body.now)) }
-        ensures { result ≡ comes_to (record self.now { clock = clock }) (shown_body body.now) refusal }
+        requires key { refusal_code ≡ None → unwrap_or written.now (uri_in (shown_body body.now)) ≡ uri_key (uri_in (shown_body body.now)) }
+        ensures { result ≡ comes_to (record self.now { clock = clock }) (shown_body body.now) refusal_code }
     {
-        match refusal {
+        match refusal_code {
             Some(code) => Finding::Refused(code),
             None => self.served(clock, body, written),
         }
     }
 
-    /// The code of HTCP's own that refuses a request, the first that applies.
-    #[tactic(auto, unfolding(crate::specs::HtcpRequests::refusal))]
-    fn refusal(&self, from: End, opcode: u8, judgement: &Judgement<'_>) -> Option<u8>
-        ensures { (clock : ℕ) → result ≡ refusal (record self.now { clock = clock }) from opcode (shown_standing judgement.now) }
+    /// The overall response code that refuses a request, the first that applies, or `None` if it is served.
+    #[tactic(auto, unfolding(crate::specs::HtcpRequests::refusal_code))]
+    fn refusal_code(&self, from: End, opcode: u8, judgement: &Judgement<'_>) -> Option<u8>
+        ensures { (clock : ℕ) → result ≡ refusal_code (record self.now { clock = clock }) from opcode (shown_standing judgement.now) }
     {
         if !self.rules.allows(from.addr) {
             return Some(NOT_ALLOWED);
@@ -203,7 +203,7 @@ impl Core {
         None
     }
 
-    /// What a request comes to that isn't refused. The key of its URI is given where it had to be written.
+    /// The result of a request that isn't refused. `written` is the store key of its URI if that differs from the URI.
     fn served(&self, clock: Moment, body: &HtcpBody<'_>, written: &Option<Octets>) -> Finding
         requires key { unwrap_or written.now (uri_in (shown_body body.now)) ≡ uri_key (uri_in (shown_body body.now)) }
         ensures { result ≡ served (record self.now { clock = clock }) (shown_body body.now) }
@@ -232,7 +232,7 @@ impl Core {
         }
     }
 
-    /// The answer to a request at a moment, signed with the key of its good signature.
+    /// The response to a request at a moment, signed with the request's key if its signature was good.
     fn answer_text(
         &self,
         alloc: Global,
@@ -261,7 +261,7 @@ impl Core {
         self.text_to(alloc, clock, to, &view, key)
     }
 
-    /// Takes an object that is cleared out of the store. The key of its URI is given where it had to be written.
+    /// Removes a cleared object from the store. `written` is the store key of its URI if that differs from the URI.
     fn clear(&mut self, finding: Finding, body: &HtcpBody<'_>, written: &Option<Octets>)
         requires key { is_cleared finding ≡ true → unwrap_or written.now (uri_in (shown_body body.now)) ≡ uri_key (uri_in (shown_body body.now)) }
         ensures { self.new ≡ after_clear self.old finding (shown_body body.now) }
@@ -279,7 +279,7 @@ fn is_clear(body: &HtcpBody<'_>) -> bool
     matches!(body, HtcpBody::Clear { .. })
 }
 
-/// The URI of a TST or a CLR, and nothing of other operations.
+/// The URI of a TST or CLR; empty for other operations.
 fn uri_in<'a>(body: &HtcpBody<'a>) -> &'a [u8]
     ensures { result.now ≡ uri_in (shown_body body.now) }
 {
@@ -290,14 +290,14 @@ fn uri_in<'a>(body: &HtcpBody<'a>) -> &'a [u8]
     }
 }
 
-/// Whether a method asks for what is stored.
+/// Whether the method is GET or HEAD.
 fn is_get_or_head(method: &[u8]) -> bool
     ensures { result ≡ is_get_or_head method.now }
 {
     method == b"GET".as_slice() || method == b"HEAD".as_slice()
 }
 
-/// The key that was written, or the URI itself.
+/// The key `written`, or the URI itself if there is none.
 fn key_or<'a>(written: &'a Option<Octets>, uri: &'a [u8]) -> &'a [u8]
     ensures { result.now ≡ unwrap_or written.now uri.now }
 {
@@ -307,22 +307,23 @@ fn key_or<'a>(written: &'a Option<Octets>, uri: &'a [u8]) -> &'a [u8]
     }
 }
 
-/// The key of a request's URI where it isn't the URI itself; of a request that is refused nothing is written.
+/// The store key of a request's URI if it differs from the URI; `None` for a refused request.
 fn written_unless(
     alloc: Global,
-    refusal: Option<u8>,
+    refusal_code: Option<u8>,
     body: &HtcpBody<'_>,
 ) -> Result<Option<Octets>, NoMemory>
-    ensures key { IfOk result (λ written. refusal ≡ None → unwrap_or written (uri_in (shown_body body.now)) ≡ uri_key (uri_in (shown_body body.now))) }
-    ensures silent { (is_none refusal && is_some (slash_behind_80 (uri_in (shown_body body.now)))) ≡ false → IsOk result }
+    ensures key { IfOk result (λ written. refusal_code ≡ None → unwrap_or written (uri_in (shown_body body.now)) ≡ uri_key (uri_in (shown_body body.now))) }
+    ensures silent { (is_none refusal_code && is_some (slash_behind_80 (uri_in (shown_body body.now)))) ≡ false → IsOk result }
 {
-    match refusal {
+    match refusal_code {
         Some(_) => Ok(None),
         None => written_key(alloc, uri_in(body)),
     }
 }
 
-/// The key that a URI is stored under, where it isn't the URI itself: without `:80` before the first slash after `http://`.
+/// The store key of a URI if it differs from the URI: without `:80` before the first slash after `http://`. Errors: out of
+/// memory.
 #[tactic(auto, unfolding(crate::specs::HtcpRequests::uri_key))]
 fn written_key(alloc: Global, uri: &[u8]) -> Result<Option<Octets>, NoMemory>
     ensures key { IfOk result (λ written. unwrap_or written uri.now ≡ uri_key uri.now) }
@@ -337,7 +338,7 @@ fn written_key(alloc: Global, uri: &[u8]) -> Result<Option<Octets>, NoMemory>
     Ok(Some(Octets::new(key)))
 }
 
-/// The place of the first slash behind `http://`, counted from there, where `:80` stands right before it.
+/// The index of the first slash after `http://`, counted from there, if `:80` comes right before it.
 #[tactic(auto, unfolding(crate::specs::HtcpRequests::slash_behind_80))]
 fn slash_behind_80(uri: &[u8]) -> Option<usize>
     ensures value { result ≡ slash_behind_80 uri.now }
@@ -351,7 +352,7 @@ fn slash_behind_80(uri: &[u8]) -> Option<usize>
     Some(end)
 }
 
-/// What stands behind `http://`.
+/// The rest of a URI after `http://`, or `None` if it begins otherwise.
 fn behind_scheme(uri: &[u8]) -> Option<&[u8]>
     ensures value { option_copied result ≡ (if is_http uri.now then Some (drop 7 uri.now) else None) }
     ensures rest { IfSome result (λ rest. length rest.now + 7 ≡ length uri.now) }
@@ -362,7 +363,7 @@ fn behind_scheme(uri: &[u8]) -> Option<&[u8]>
     Some(&uri[7..])
 }
 
-/// The place of the first slash.
+/// The index of the first slash.
 fn first_slash(rest: &[u8]) -> Option<usize>
     ensures value { result ≡ position (λ octet. octet == 47) rest.now }
     ensures within { IfSome result (λ end. end < length rest.now) }

@@ -1,5 +1,9 @@
-//! The node without filters and counters: a state machine over events, which reads datagrams, answers queries from a store,
-//! asks neighbours and shares fetches among clients.
+//! The node without filters and counters: a state machine that takes one event at a time (a datagram, a client's request, a
+//! tick, the end of a fetch, a client that leaves) and returns a list of actions. It answers ICP and HTCP queries from the
+//! store, polls neighbours, and lets clients share fetches.
+//! Contracts see the node as a `PlainNode` and each call as one `plain_step` (specs/Plain.antt). A call that fails for lack of
+//! memory leaves the node unchanged; specs/Memory.antt says which events need none.
+//! Tested by: crates/test_node, test_judging, test_workers, test_storm, test_refusals, cases/, more-edits.
 #![tactic(auto)]
 
 mod action;
@@ -20,9 +24,10 @@ mod signatures;
 mod sources;
 mod tally;
 
-pub use action::{Action, Answer, Out, Payload};
+pub use action::{Action, Answer, MAX_ACTIONS, Out, Payload};
 pub use config::{Config, Network, NodeFault};
 pub use core_node::Core;
 pub use event::{Mode, Outcome};
+pub use pending_fetch::MAX_PENDING_FETCHES;
 pub use std::alloc::AllocError as NoMemory;
 pub use tally::Tally;

@@ -1,19 +1,19 @@
-//! Messages of ICP: a query is answered, and a reply of a neighbour counts for its round.
+//! ICP messages (RFC 2186): queries and replies.
 ghost use Rattle.std.specs.Prelude.{◌≡◌, ◌≤◌, ◌<◌, ◌+◌, ◌-◌, ◌++◌, ◌∷◌, [], ◌&&◌, length, true, Some, OnOk, OnErr, IfOk, IfSome, IsOk, is_none, is_some, option_map};
 ghost use Rattle.std.specs.Str.{bytes_eq};
 ghost use Rattle.icp_packet.specs.Message.{FitsOpcode, HasNoZero, spelling, url_only};
 ghost use Rattle.icp_packet.specs.Reading.{message_of};
 ghost use Rattle.icp_packet.specs.View.{shown as shown_message, shown_body};
 ghost use Rattle.bpf_run.specs.declared.ends.Socket.TheVariants.{Icp};
-ghost use Rattle.neighbours.specs.Rows.{place_of as row_of};
+ghost use Rattle.neighbours.specs.Rows.{neighbour_index};
 ghost use Rattle.pending_fetch.specs.Fetches.{PendingFetch, fetch_of, changed, with_reply};
 ghost use Rattle.pending_fetch.specs.Calls.{told, shown};
-ghost use Rattle.pending_fetch.specs.Standing.{place_of};
+ghost use Rattle.pending_fetch.specs.FetchIndex.{fetch_index};
 ghost use Rattle.pending_fetch.specs.declared.fetch.Located.{Located as LocatedFetch};
 ghost use Rattle.peer_select.specs.Poll.{decided};
 ghost use Rattle.plain_node.specs.declared.action.Action.{Action};
 ghost use Rattle.plain_node.specs.declared.messages.Awaited.{Awaited as AwaitedFetch};
-ghost use Rattle.plain_node.specs.PlainNode.{moved, with_fetches};
+ghost use Rattle.plain_node.specs.PlainNode.{at_clock, with_fetches};
 ghost use Rattle.plain_node.specs.Messages.{read_step, body_step, kind_step, reply_step, counted_step, awaits, awaiting, heard, timed, with_time, kind_of, reply_to, reply_code};
 ghost use Rattle.plain_node.specs.Memory.{sends_none};
 
@@ -26,7 +26,7 @@ use peer_select::Kind;
 use pending_fetch::{Fetch, Located};
 use std::alloc::Global;
 
-/// A fetch that a reply counts for: its place among the pending ones, and when its round began.
+/// A fetch that a reply counts for: its index among the pending ones, and when its round started.
 #[derive(Clone, Copy)]
 pub struct Awaited {
     pub place: usize,
@@ -34,7 +34,7 @@ pub struct Awaited {
 }
 
 impl Core {
-    /// Takes the octets of a datagram. Says whether they are no message.
+    /// Handles the octets of an ICP datagram. Returns whether they fail to decode. Errors: out of memory.
     #[tactic(auto, unfolding(crate::specs::Messages::read_step))]
     pub(crate) fn icp(
         &mut self,
@@ -45,11 +45,11 @@ impl Core {
         out: &mut Out,
     ) -> Result<bool, NoMemory>
         requires { out.old ≡ [] }
-        ensures plain { OnOk result (self.new ≡ (read_step (moved self.old now) from (message_of octets.now)).0) }
-        ensures actions { OnOk result (out.new ≡ (read_step (moved self.old now) from (message_of octets.now)).1) }
+        ensures plain { OnOk result (self.new ≡ (read_step (at_clock self.old now) from (message_of octets.now)).0) }
+        ensures actions { OnOk result (out.new ≡ (read_step (at_clock self.old now) from (message_of octets.now)).1) }
         ensures malformed { IfOk result (λ malformed. malformed ≡ is_none (message_of octets.now)) }
         ensures refused { OnErr result ((self.new ≡ self.old) × (out.new ≡ [])) }
-        ensures silent { sends_none (read_step (moved self.old now) from (message_of octets.now)).1 ≡ true → IsOk result }
+        ensures silent { sends_none (read_step (at_clock self.old now) from (message_of octets.now)).1 ≡ true → IsOk result }
     {
         let Ok(view) = decode(octets) else {
             self.tick(now);
@@ -59,7 +59,7 @@ impl Core {
         Ok(false)
     }
 
-    /// Takes a message.
+    /// Handles a decoded message.
     #[tactic(auto, unfolding(crate::specs::Messages::body_step))]
     fn message(
         &mut self,
@@ -72,10 +72,10 @@ impl Core {
         requires empty { out.old ≡ [] }
         requires fits { FitsOpcode view.now.op (shown_body view.now.body) }
         requires short { length (spelling (shown_message view.now)) ≤ 16384 }
-        ensures plain { OnOk result (self.new ≡ (body_step (moved self.old now) from view.now.op view.now.number (shown_body view.now.body)).0) }
-        ensures actions { OnOk result (out.new ≡ (body_step (moved self.old now) from view.now.op view.now.number (shown_body view.now.body)).1) }
+        ensures plain { OnOk result (self.new ≡ (body_step (at_clock self.old now) from view.now.op view.now.number (shown_body view.now.body)).0) }
+        ensures actions { OnOk result (out.new ≡ (body_step (at_clock self.old now) from view.now.op view.now.number (shown_body view.now.body)).1) }
         ensures refused { OnErr result ((self.new ≡ self.old) × (out.new ≡ [])) }
-        ensures silent { sends_none (body_step (moved self.old now) from view.now.op view.now.number (shown_body view.now.body)).1 ≡ true → IsOk result }
+        ensures silent { sends_none (body_step (at_clock self.old now) from view.now.op view.now.number (shown_body view.now.body)).1 ≡ true → IsOk result }
     {
         match view.body {
             IcpBody::Query { url, .. } => self.answer(alloc, from, view.number, url, now, out),
@@ -90,7 +90,7 @@ impl Core {
         }
     }
 
-    /// Answers a query.
+    /// Answers a query. Errors: out of memory.
     fn answer(
         &mut self,
         alloc: Global,
@@ -103,8 +103,8 @@ impl Core {
         requires empty { out.old ≡ [] }
         requires whole { HasNoZero url.now }
         requires short { length url.now ≤ 16359 }
-        ensures plain { OnOk result (self.new ≡ moved self.old now) }
-        ensures actions { OnOk result (out.new ≡ Action.Send Icp from (spelling (reply_to (moved self.old now) from number url.now)) ∷ []) }
+        ensures plain { OnOk result (self.new ≡ at_clock self.old now) }
+        ensures actions { OnOk result (out.new ≡ Action.Send Icp from (spelling (reply_to (at_clock self.old now) from number url.now)) ∷ []) }
         ensures refused { OnErr result ((self.new ≡ self.old) × (out.new ≡ [])) }
     {
         let clock = self.clock.later(now);
@@ -118,7 +118,7 @@ impl Core {
         Ok(())
     }
 
-    /// The reply to a query at a moment.
+    /// The encoded reply to a query at a moment.
     #[tactic(auto, unfolding(crate::specs::Messages::reply_to))]
     fn reply(
         &self,
@@ -136,7 +136,7 @@ impl Core {
         written(alloc, op, number, self.rules.sender(), url)
     }
 
-    /// Which reply a query gets at a moment.
+    /// The opcode of the reply to a query at a moment.
     #[tactic(auto, unfolding(crate::specs::Messages::reply_code))]
     fn opcode(&self, clock: Moment, from: End, url: &[u8]) -> Opcode
         ensures { result ≡ reply_code (record self.now { clock = clock }) from url.now }
@@ -156,7 +156,7 @@ impl Core {
         Opcode::Miss
     }
 
-    /// Takes a message that is no query.
+    /// Handles a message that isn't a query.
     fn take_reply(
         &mut self,
         from: End,
@@ -167,8 +167,8 @@ impl Core {
         out: &mut Out,
     )
         requires { out.old ≡ [] }
-        ensures plain { self.new ≡ (kind_step (moved self.old now) from number url.now (kind_of op)).0 }
-        ensures actions { out.new ≡ (kind_step (moved self.old now) from number url.now (kind_of op)).1 }
+        ensures plain { self.new ≡ (kind_step (at_clock self.old now) from number url.now (kind_of op)).0 }
+        ensures actions { out.new ≡ (kind_step (at_clock self.old now) from number url.now (kind_of op)).1 }
     {
         self.tick(now);
         let Some(kind) = kind_of(op) else {
@@ -177,12 +177,12 @@ impl Core {
         self.hear(from, number, url, kind, out);
     }
 
-    /// A reply came from an end.
+    /// Handles a reply from this address and port; ignores it if no neighbour is there.
     #[tactic(auto, unfolding(crate::specs::Messages::reply_step))]
     fn hear(&mut self, from: End, number: u32, url: &[u8], kind: Kind, out: &mut Out)
         requires { out.old ≡ [] }
-        ensures plain { self.new ≡ (reply_step self.old number url.now kind (row_of self.old.rows.neighbours Icp from)).0 }
-        ensures actions { out.new ≡ (reply_step self.old number url.now kind (row_of self.old.rows.neighbours Icp from)).1 }
+        ensures plain { self.new ≡ (reply_step self.old number url.now kind (neighbour_index self.old.rows.neighbours Icp from)).0 }
+        ensures actions { out.new ≡ (reply_step self.old number url.now kind (neighbour_index self.old.rows.neighbours Icp from)).1 }
     {
         let Some(n) = self.table.find(Socket::Icp, from) else {
             return;
@@ -190,7 +190,7 @@ impl Core {
         self.hear_neighbour(n, number, url, kind, out);
     }
 
-    /// A reply came from the neighbour at a place.
+    /// Handles a reply from the neighbour with index `n`.
     #[tactic(auto, unfolding(crate::specs::Messages::reply_step, crate::specs::Messages::counted_step))]
     fn hear_neighbour(&mut self, n: usize, number: u32, url: &[u8], kind: Kind, out: &mut Out)
         requires place { n < length self.old.rows.neighbours }
@@ -205,7 +205,7 @@ impl Core {
         self.count(number, n, kind, awaited, out);
     }
 
-    /// The neighbour at a place has no misses.
+    /// Clears the misses of the neighbour with index `n`.
     pub(crate) fn forgive(&mut self, n: usize)
         requires { n < length self.old.rows.neighbours }
         ensures { self.new ≡ heard self.old n }
@@ -213,10 +213,10 @@ impl Core {
         self.table.replied(n);
     }
 
-    /// The fetch of this number, if a reply of the neighbour at a place counts for it and names its key.
+    /// The fetch with this number, if it awaits a reply from the neighbour with index `n` and its key is `url`.
     fn awaited(&self, number: u32, n: usize, url: &[u8]) -> Option<Awaited>
         ensures start { option_map (λ (it : AwaitedFetch). it.start) result ≡ option_map (λ (fetch : PendingFetch). fetch.round.start) (awaiting n (λ fetch. bytes_eq fetch.key url.now) (fetch_of number self.now.fetches.list)) }
-        ensures place { IfSome result (λ it. place_of number self.now.fetches.list ≡ Some it.place) }
+        ensures place { IfSome result (λ it. fetch_index number self.now.fetches.list ≡ Some it.place) }
     {
         let Some(Located { place, fetch }) = self.located(number) else {
             return None;
@@ -230,15 +230,15 @@ impl Core {
         })
     }
 
-    /// The pending fetch of this number, and where it stands.
+    /// The pending fetch with this number, with its index.
     pub(crate) fn located(&self, number: u32) -> Option<Located<'_>>
         ensures fetch { option_map (λ (it : LocatedFetch). shown it.fetch) result ≡ option_map told (fetch_of number self.now.fetches.list) }
-        ensures place { IfSome result (λ it. place_of number self.now.fetches.list ≡ Some it.place) }
+        ensures place { IfSome result (λ it. fetch_index number self.now.fetches.list ≡ Some it.place) }
     {
         self.pending.locate(number)
     }
 
-    /// A reply that counts: it is a sample of the time since the round's start, and may decide the round.
+    /// Counts a reply: samples the round-trip time, adds the reply to the round, and acts on it if the round is then decided.
     #[tactic(auto, unfolding(crate::specs::Messages::counted_step))]
     pub(crate) fn count(
         &mut self,
@@ -249,7 +249,7 @@ impl Core {
         out: &mut Out,
     )
         requires place { n < length self.old.rows.neighbours }
-        requires here { place_of number self.old.fetches.list ≡ Some awaited.place }
+        requires here { fetch_index number self.old.fetches.list ≡ Some awaited.place }
         requires empty { out.old ≡ [] }
         ensures plain { (fetch : PendingFetch) → fetch_of number self.old.fetches.list ≡ Some fetch → fetch.round.start ≡ awaited.start →
             self.new ≡ (counted_step self.old n kind (Some fetch)).0 }
@@ -262,7 +262,7 @@ impl Core {
         self.decide_at(number, awaited.place, is_decided, out);
     }
 
-    /// The neighbour at a place took the time since a moment.
+    /// Samples the round-trip time of the neighbour with index `n`, from `start` to now.
     fn sample(&mut self, n: usize, start: Moment)
         requires { n < length self.old.rows.neighbours }
         ensures { self.new ≡ timed self.old n (self.old.clock - start) }
@@ -271,12 +271,13 @@ impl Core {
         self.table.sample(n, waited);
     }
 
-    /// A reply of the neighbour at place n is added to the round of this fetch. Whether the round is decided then.
+    /// Adds a reply from the neighbour with index `n` to the round of this fetch. Returns whether the round is decided
+    /// afterwards.
     fn add_reply(&mut self, number: u32, place: usize, n: usize, kind: Kind) -> bool
         requires place { n < length self.old.rows.neighbours }
-        requires here { place_of number self.old.fetches.list ≡ Some place }
+        requires here { fetch_index number self.old.fetches.list ≡ Some place }
         ensures node { self.new ≡ with_fetches self.old (changed (with_reply (with_time self.old n kind)) number self.old.fetches.list) }
-        ensures here { place_of number self.new.fetches.list ≡ Some place }
+        ensures here { fetch_index number self.new.fetches.list ≡ Some place }
         ensures decided { (f : PendingFetch) → fetch_of number self.new.fetches.list ≡ Some f → result ≡ decided f.round }
     {
         let s = self.table.time(n).unwrap_or(0);
@@ -285,14 +286,14 @@ impl Core {
     }
 }
 
-/// Whether a reply of the neighbour at a place counts for a fetch.
+/// Whether a fetch awaits a reply from the neighbour with index `n`: its round is undecided, polled it, and has no reply from it.
 pub(crate) fn is_awaited(fetch: &Fetch<'_>, n: usize) -> bool
     ensures { (f : PendingFetch) → shown fetch.now ≡ told f → result ≡ awaits n f }
 {
     !fetch.round.decided() && fetch.round.asked(n) && !fetch.round.has_reply(n)
 }
 
-/// What a reply counts as. An echo counts as nothing, and a query is no reply.
+/// What a reply counts as, or `None` for echoes and queries.
 fn kind_of(op: Opcode) -> Option<Kind>
     ensures { result ≡ kind_of op }
 {
@@ -304,7 +305,7 @@ fn kind_of(op: Opcode) -> Option<Kind>
     }
 }
 
-/// The octets of a message of one URL.
+/// Encodes a message whose body is one URL. Errors: out of memory.
 fn written(
     alloc: Global,
     op: Opcode,

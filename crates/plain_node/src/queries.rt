@@ -4,9 +4,9 @@ ghost use Rattle.icp_packet.specs.Message.{spelling};
 ghost use Rattle.pending_fetch.specs.Fetches.{next_number};
 ghost use Rattle.plain_node.specs.Requests.{queries, query_by, icp_query, htcp_query, key_named};
 ghost use Rattle.htcp_packet.specs.Writing.{message_text, without_auth};
-ghost use Rattle.plain_node.specs.Common.{IsCommon};
+ghost use Rattle.plain_node.specs.QueryOctets.{AreQueryOctets};
 ghost use Rattle.plain_node.specs.Fitting.{asking};
-ghost use Rattle.plain_node.specs.PlainNode.{moved};
+ghost use Rattle.plain_node.specs.PlainNode.{at_clock};
 ghost use Rattle.plain_node.specs.Signatures.{text_to};
 ghost use Rattle.htcp_packet.specs.View.{shown as shown_htcp};
 
@@ -23,7 +23,7 @@ use object_store::CacheKey;
 use std::alloc::Global;
 
 impl Core {
-    /// The queries for the fetch that is opened next at a moment, and its number. A refusal leaves no action.
+    /// Adds the queries for the fetch that is about to be opened, and returns its number. An error leaves no action.
     pub(crate) fn ask(
         &self,
         alloc: Global,
@@ -34,7 +34,7 @@ impl Core {
     ) -> Result<u32, NoMemory>
         requires { out.old ≡ [] }
         ensures number { IfOk result (λ number. number ≡ next_number self.now.fetches) }
-        ensures ok { OnOk result (out.new ≡ asking (moved self.now now) (next_number self.now.fetches) key.now shared) }
+        ensures ok { OnOk result (out.new ≡ asking (at_clock self.now now) (next_number self.now.fetches) key.now shared) }
         ensures err { OnErr result (out.new ≡ []) }
     {
         let number = self.next_number();
@@ -51,7 +51,7 @@ impl Core {
         self.pending.next_number()
     }
 
-    /// A query to each neighbour at a moment, in order. A refusal leaves no action.
+    /// Adds a query to each neighbour at a moment, in order. An error leaves no action.
     #[tactic(auto, unfolding(crate::specs::Requests::queries))]
     fn ask_all(
         &self,
@@ -66,7 +66,7 @@ impl Core {
         ensures err { OnErr result (out.new ≡ []) }
     {
         self.few();
-        let mut common = Common::new();
+        let mut common = QueryOctets::new();
         let mut n = 0;
         while let Some(neighbour) = self.neighbour(n) {
             match self.query_to(alloc, neighbour, number, key, clock, &mut common) {
@@ -81,21 +81,21 @@ impl Core {
         Ok(())
     }
 
-    /// There are at most 64 neighbours. It does nothing.
+    /// States for callers that there are at most 64 neighbours; does nothing at run time.
     pub(crate) fn few(&self)
         ensures { length self.now.rows.neighbours ≤ 64 }
     {
         self.table.facts();
     }
 
-    /// The neighbour at a place.
+    /// The neighbour with index `n`.
     fn neighbour(&self, n: usize) -> Option<&Neighbour>
         ensures { option_copied result ≡ slice_get self.now.rows.neighbours n }
     {
         self.table.get(n)
     }
 
-    /// The query to a neighbour at a moment, by its protocol.
+    /// The query to a neighbour at a moment, in its protocol.
     fn query_to(
         &self,
         alloc: Global,
@@ -103,11 +103,11 @@ impl Core {
         number: u32,
         key: &CacheKey,
         clock: Moment,
-        common: &mut Common,
+        common: &mut QueryOctets,
     ) -> Result<Action, NoMemory>
-        requires { IsCommon self.now number key.now common.old }
+        requires { AreQueryOctets self.now number key.now common.old }
         ensures action { IfOk result (λ action. action ≡ query_by (record self.now { clock = clock }) number key.now neighbour.now neighbour.now.protocol) }
-        ensures common { IsCommon self.now number key.now common.new }
+        ensures common { AreQueryOctets self.now number key.now common.new }
     {
         match neighbour.protocol {
             Socket::Icp => Ok(Action::Send {
@@ -123,7 +123,7 @@ impl Core {
         }
     }
 
-    /// The query by HTCP (RFC 2756): a TST, signed where the neighbour has a key.
+    /// The HTCP query (RFC 2756): a TST, signed if the neighbour has a key.
     fn htcp_query(
         &self,
         alloc: Global,
@@ -131,11 +131,11 @@ impl Core {
         number: u32,
         key: &CacheKey,
         clock: Moment,
-        common: &mut Common,
+        common: &mut QueryOctets,
     ) -> Result<Payload, NoMemory>
-        requires { IsCommon self.now number key.now common.old }
+        requires { AreQueryOctets self.now number key.now common.old }
         ensures payload { IfOk result (λ payload. payload ≡ text_to (record self.now { clock = clock }) neighbour.now.end (htcp_query number key.now) (key_named self.now neighbour.now.key)) }
-        ensures common { IsCommon self.now number key.now common.new }
+        ensures common { AreQueryOctets self.now number key.now common.new }
     {
         let signer = self.key_named(&neighbour.key);
         if signer.is_none() {
@@ -145,17 +145,17 @@ impl Core {
         self.text_to(alloc, clock, neighbour.end, &view, signer)
     }
 
-    /// The query by HTCP without a signature, which is the same for all such neighbours.
+    /// The unsigned HTCP query, encoded once and shared by all neighbours without a key.
     fn unsigned_query(
         &self,
         alloc: Global,
         number: u32,
         key: &CacheKey,
-        common: &mut Common,
+        common: &mut QueryOctets,
     ) -> Result<Payload, NoMemory>
-        requires { IsCommon self.now number key.now common.old }
+        requires { AreQueryOctets self.now number key.now common.old }
         ensures payload { IfOk result (λ payload. payload ≡ message_text (without_auth (htcp_query number key.now))) }
-        ensures common { IsCommon self.now number key.now common.new }
+        ensures common { AreQueryOctets self.now number key.now common.new }
     {
         if let Some(octets) = &common.htcp {
             return Payload::of(octets);
@@ -167,17 +167,17 @@ impl Core {
         Ok(payload)
     }
 
-    /// The query by ICP (RFC 2186), which is the same for all neighbours.
+    /// The ICP query (RFC 2186), encoded once and shared by all ICP neighbours.
     fn icp_query(
         &self,
         alloc: Global,
         number: u32,
         key: &CacheKey,
-        common: &mut Common,
+        common: &mut QueryOctets,
     ) -> Result<Payload, NoMemory>
-        requires { IsCommon self.now number key.now common.old }
+        requires { AreQueryOctets self.now number key.now common.old }
         ensures payload { IfOk result (λ payload. payload ≡ spelling (icp_query self.now number key.now)) }
-        ensures common { IsCommon self.now number key.now common.new }
+        ensures common { AreQueryOctets self.now number key.now common.new }
     {
         if let Some(octets) = &common.icp {
             return Payload::of(octets);
@@ -189,7 +189,7 @@ impl Core {
         Ok(payload)
     }
 
-    /// The octets of the query by ICP.
+    /// Encodes the ICP query. Errors: out of memory.
     fn icp_octets(&self, alloc: Global, number: u32, key: &CacheKey) -> Result<Vec<u8>, NoMemory>
         ensures { IfOk result (λ octets. octets.items ≡ spelling (icp_query self.now number key.now)) }
     {
@@ -213,27 +213,27 @@ impl Core {
     }
 }
 
-/// The octets that the queries of one fetch have in common, from the first neighbour on that gets them.
+/// Encoded queries that several neighbours of one fetch share; each is encoded when the first neighbour needs it.
 #[derive(Drop)]
-pub struct Common {
+pub struct QueryOctets {
     icp: Option<SharedOctets>,
     htcp: Option<SharedOctets>,
 }
 
-impl Common {
-    /// None is written.
-    fn new() -> Common
+impl QueryOctets {
+    /// Nothing encoded yet.
+    fn new() -> QueryOctets
         ensures icp { result.icp ≡ None }
         ensures htcp { result.htcp ≡ None }
     {
-        Common {
+        QueryOctets {
             icp: None,
             htcp: None,
         }
     }
 }
 
-/// The TST that asks for a key: by GET and HTTP/1.1, with an answer wanted (RD).
+/// The TST for a key: method GET, version HTTP/1.1, response requested (RD).
 fn tested(number: u32, key: &[u8]) -> HtcpView<'_>
     ensures { shown_htcp result ≡ htcp_query number key.now }
 {

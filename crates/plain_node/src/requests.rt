@@ -1,4 +1,4 @@
-//! What a client's request does.
+//! Client requests.
 ghost use Rattle.std.specs.Prelude.{◌≡◌, ◌∷◌, [], max, true, false, None, is_some, option_map, IfOk, IsOk, OnOk, OnErr};
 ghost use Rattle.object_store.specs.declared.entry.Entry.{Entry as Stored};
 ghost use Rattle.object_store.specs.Store.{fresh_at};
@@ -7,7 +7,7 @@ ghost use Rattle.pending_fetch.specs.Fetches.{waits, shared_number, opened};
 ghost use Rattle.pending_fetch.specs.Calls.{is_full, join_answer, join_fault, join_list};
 ghost use Rattle.plain_node.specs.declared.action.Action.TheVariants.{Serve};
 ghost use Rattle.plain_node.specs.declared.action.Answer.TheVariants.{Hit};
-ghost use Rattle.plain_node.specs.PlainNode.{moved, with_fetches};
+ghost use Rattle.plain_node.specs.PlainNode.{at_clock, with_fetches};
 ghost use Rattle.plain_node.specs.Plain.{Requested, plain_step};
 ghost use Rattle.plain_node.specs.Requests.{request_step, mode_step, found_step, wait_step, open_step, looked_up, age_of};
 ghost use Rattle.plain_node.specs.Fitting.{asked, joining};
@@ -24,7 +24,8 @@ use pending_fetch::{JoinFault, next_law};
 use std::alloc::Global;
 
 impl Core {
-    /// A client asks for a key. One that waits already waits on.
+    /// Handles a client's request for a key. A client that already waits keeps waiting. Errors, which leave the node
+    /// unchanged: out of memory, or too many owners of an object or key.
     #[tactic(auto, unfolding(crate::specs::Requests::request_step))]
     pub fn request(
         &mut self,
@@ -39,7 +40,7 @@ impl Core {
         ensures plain { OnOk result (self.new ≡ (plain_step self.old (Requested client key.now mode now)).0) }
         ensures actions { OnOk result (out.new ≡ (plain_step self.old (Requested client key.now mode now)).1) }
         ensures refused { OnErr result ((self.new ≡ self.old) × (out.new ≡ [])) }
-        ensures silent { asks_none (moved self.old now) client key.now mode ≡ true → IsOk result }
+        ensures silent { asks_none (at_clock self.old now) client key.now mode ≡ true → IsOk result }
     {
         if self.waits(client) {
             self.tick(now);
@@ -52,14 +53,14 @@ impl Core {
         }
     }
 
-    /// Whether a client waits.
+    /// Whether a client waits for a fetch.
     fn waits(&self, client: u64) -> bool
         ensures { result ≡ waits client self.now.fetches.list }
     {
         self.pending.waits(client)
     }
 
-    /// A fetch of its own is opened.
+    /// Opens a private fetch for the client.
     #[tactic(auto, unfolding(crate::specs::Requests::found_step))]
     fn private(
         &mut self,
@@ -71,15 +72,15 @@ impl Core {
     ) -> Result<(), NoMemory>
         requires empty { out.old ≡ [] }
         requires absent { waits client self.old.fetches.list ≡ false }
-        ensures plain { OnOk result (self.new ≡ (mode_step (moved self.old now) client key.now Mode.Private).0) }
-        ensures actions { OnOk result (out.new ≡ (mode_step (moved self.old now) client key.now Mode.Private).1) }
+        ensures plain { OnOk result (self.new ≡ (mode_step (at_clock self.old now) client key.now Mode.Private).0) }
+        ensures actions { OnOk result (out.new ≡ (mode_step (at_clock self.old now) client key.now Mode.Private).1) }
         ensures refused { OnErr result ((self.new ≡ self.old) × (out.new ≡ [])) }
-        ensures silent { opens (moved self.old now) key.now Mode.Private ≡ false → IsOk result }
+        ensures silent { opens (at_clock self.old now) key.now Mode.Private ≡ false → IsOk result }
     {
         self.open(alloc, client, key, false, now, out)
     }
 
-    /// It is answered from the store, or else waits for a fetch that others may join.
+    /// Answers from the store, or else lets the client wait for a shared fetch.
     #[tactic(auto, unfolding(crate::specs::Requests::found_step))]
     fn shared(
         &mut self,
@@ -91,10 +92,10 @@ impl Core {
     ) -> Result<(), NoMemory>
         requires empty { out.old ≡ [] }
         requires absent { waits client self.old.fetches.list ≡ false }
-        ensures plain { OnOk result (self.new ≡ (mode_step (moved self.old now) client key.now Mode.Shared).0) }
-        ensures actions { OnOk result (out.new ≡ (mode_step (moved self.old now) client key.now Mode.Shared).1) }
+        ensures plain { OnOk result (self.new ≡ (mode_step (at_clock self.old now) client key.now Mode.Shared).0) }
+        ensures actions { OnOk result (out.new ≡ (mode_step (at_clock self.old now) client key.now Mode.Shared).1) }
         ensures refused { OnErr result ((self.new ≡ self.old) × (out.new ≡ [])) }
-        ensures silent { finds (moved self.old now) key.now Mode.Shared ≡ false → opens (moved self.old now) key.now Mode.Shared ≡ false → IsOk result }
+        ensures silent { finds (at_clock self.old now) key.now Mode.Shared ≡ false → opens (at_clock self.old now) key.now Mode.Shared ≡ false → IsOk result }
     {
         match self.stored(key, now)? {
             Some(answer) => {
@@ -105,7 +106,7 @@ impl Core {
         }
     }
 
-    /// It is answered from the store, or else told 504.
+    /// Answers from the store, or else with 504.
     #[tactic(auto, unfolding(crate::specs::Requests::found_step))]
     fn cached(
         &mut self,
@@ -115,10 +116,10 @@ impl Core {
         out: &mut Out,
     ) -> Result<(), NoMemory>
         requires empty { out.old ≡ [] }
-        ensures plain { OnOk result (self.new ≡ (mode_step (moved self.old now) client key.now Mode.Cached).0) }
-        ensures actions { OnOk result (out.new ≡ (mode_step (moved self.old now) client key.now Mode.Cached).1) }
+        ensures plain { OnOk result (self.new ≡ (mode_step (at_clock self.old now) client key.now Mode.Cached).0) }
+        ensures actions { OnOk result (out.new ≡ (mode_step (at_clock self.old now) client key.now Mode.Cached).1) }
         ensures refused { OnErr result ((self.new ≡ self.old) × (out.new ≡ [])) }
-        ensures silent { finds (moved self.old now) key.now Mode.Cached ≡ false → IsOk result }
+        ensures silent { finds (at_clock self.old now) key.now Mode.Cached ≡ false → IsOk result }
     {
         match self.stored(key, now)? {
             Some(answer) => self.give(client, key, answer, now, out),
@@ -127,7 +128,7 @@ impl Core {
         Ok(())
     }
 
-    /// It joins the shared fetch of the key, or opens one.
+    /// Joins the shared fetch for the key, or opens one.
     fn wait(
         &mut self,
         alloc: Global,
@@ -138,10 +139,10 @@ impl Core {
     ) -> Result<(), NoMemory>
         requires empty { out.old ≡ [] }
         requires absent { waits client self.old.fetches.list ≡ false }
-        ensures plain { OnOk result (self.new ≡ (wait_step (looked_up (moved self.old now) key.now) client key.now (shared_number key.now self.old.fetches.list)).0) }
-        ensures actions { OnOk result (out.new ≡ (wait_step (looked_up (moved self.old now) key.now) client key.now (shared_number key.now self.old.fetches.list)).1) }
+        ensures plain { OnOk result (self.new ≡ (wait_step (looked_up (at_clock self.old now) key.now) client key.now (shared_number key.now self.old.fetches.list)).0) }
+        ensures actions { OnOk result (out.new ≡ (wait_step (looked_up (at_clock self.old now) key.now) client key.now (shared_number key.now self.old.fetches.list)).1) }
         ensures refused { OnErr result ((self.new ≡ self.old) × (out.new ≡ [])) }
-        ensures silent { opens (moved self.old now) key.now Mode.Shared ≡ false → IsOk result }
+        ensures silent { opens (at_clock self.old now) key.now Mode.Shared ≡ false → IsOk result }
     {
         if !self.join(client, key, out) {
             return self.open(alloc, client, key, true, now, out);
@@ -151,7 +152,7 @@ impl Core {
         Ok(())
     }
 
-    /// It joins the shared fetch of the key, or is told 503 where 1,024 clients wait. Whether there is such a fetch.
+    /// Joins the shared fetch for the key, or answers 503 if 1,024 clients wait. Returns whether there is such a fetch.
     fn join(&mut self, client: u64, key: &CacheKey, out: &mut Out) -> bool
         requires empty { out.old ≡ [] }
         requires absent { waits client self.old.fetches.list ≡ false }
@@ -172,7 +173,7 @@ impl Core {
         }
     }
 
-    /// It joins the shared fetch of the key, if there is one and room.
+    /// Joins the shared fetch for the key. Returns `None` if there is none, else as `Pending::join`.
     fn enlist(&mut self, client: u64, key: &CacheKey) -> Option<Result<(), JoinFault>>
         ensures answer { result ≡ join_answer (shared_number key.now self.old.fetches.list) (join_fault client self.old.fetches.list) }
         ensures node { self.new ≡ with_fetches self.old (join_list client self.old.fetches.list (shared_number key.now self.old.fetches.list) (join_fault client self.old.fetches.list)) }
@@ -180,7 +181,7 @@ impl Core {
         self.pending.join(key, client)
     }
 
-    /// A fetch is opened, where there is room for it; else the client is told 503.
+    /// Opens a fetch, or answers 503 if the table of pending fetches is full.
     #[tactic(auto, unfolding(crate::specs::Requests::open_step))]
     fn open(
         &mut self,
@@ -194,8 +195,8 @@ impl Core {
         requires empty { out.old ≡ [] }
         requires absent { waits client self.old.fetches.list ≡ false }
         requires alone { shared ≡ true → shared_number key.now self.old.fetches.list ≡ None }
-        ensures plain { OnOk result (self.new ≡ (open_step (asked (moved self.old now) key.now shared) client key.now shared).0) }
-        ensures actions { OnOk result (out.new ≡ (open_step (asked (moved self.old now) key.now shared) client key.now shared).1) }
+        ensures plain { OnOk result (self.new ≡ (open_step (asked (at_clock self.old now) key.now shared) client key.now shared).0) }
+        ensures actions { OnOk result (out.new ≡ (open_step (asked (at_clock self.old now) key.now shared) client key.now shared).1) }
         ensures refused { OnErr result ((self.new ≡ self.old) × (out.new ≡ [])) }
         ensures silent { is_full self.old.fetches.list ≡ true → IsOk result }
     {
@@ -217,17 +218,17 @@ impl Core {
         Ok(())
     }
 
-    /// Whether there is no room for one fetch more.
+    /// Whether no fetch can be opened.
     fn is_full(&self) -> bool
         ensures { result ≡ is_full self.now.fetches.list }
     {
         self.pending.is_full()
     }
 
-    /// The client is told 503.
+    /// Answers the client with 503.
     fn turn_away(&mut self, client: u64, key: &CacheKey, shared: bool, now: Moment, out: &mut Out)
         requires { out.old ≡ [] }
-        ensures node { self.new ≡ asked (moved self.old now) key.now shared }
+        ensures node { self.new ≡ asked (at_clock self.old now) key.now shared }
         ensures actions { out.new ≡ Serve client (Answer.Fail 503) ∷ [] }
     {
         out.push(Action::Serve {
@@ -238,7 +239,7 @@ impl Core {
         self.ask_store(key, shared);
     }
 
-    /// Moves the clock, and opens a fetch.
+    /// Advances the clock and opens a fetch.
     fn enter(
         &mut self,
         alloc: Global,
@@ -249,7 +250,7 @@ impl Core {
     ) -> Result<(), NoMemory>
         requires absent { waits client self.old.fetches.list ≡ false }
         requires alone { shared ≡ true → shared_number key.now self.old.fetches.list ≡ None }
-        ensures ok { OnOk result (self.new ≡ record (moved self.old now) { fetches = opened key.now client shared (begun self.old.rows shared (max self.old.clock now)) self.old.fetches }) }
+        ensures ok { OnOk result (self.new ≡ record (at_clock self.old now) { fetches = opened key.now client shared (begun self.old.rows shared (max self.old.clock now)) self.old.fetches }) }
         ensures err { OnErr result (self.new ≡ self.old) }
     {
         let key = key.share()?;
@@ -264,7 +265,7 @@ impl Core {
         }
     }
 
-    /// A round that begins: a shared fetch asks the neighbours, a private one nobody.
+    /// A new polling round: a shared fetch polls the neighbours, a private one nobody.
     fn round(&self, shared: bool, start: Moment) -> Round
         ensures value { result ≡ begun self.now.rows shared start }
         ensures matching { matches self.now.rows.neighbours result.peers ≡ true }
@@ -276,7 +277,7 @@ impl Core {
         }
     }
 
-    /// The answer from the store, where it has a fresh object.
+    /// The answer from the store if it has a fresh object, else `None`.
     fn stored(&self, key: &CacheKey, now: Moment) -> Result<Option<Answer>, NoMemory>
         ensures value { IfOk result (λ answer. answer ≡ option_map (λ (entry : Stored). Hit entry.object (age_of entry (max self.now.clock now))) (fresh_at key.now (max self.now.clock now) self.now.store)) }
         ensures silent { fresh_at key.now (max self.now.clock now) self.now.store ≡ None → IsOk result }
@@ -290,10 +291,10 @@ impl Core {
         Ok(Some(Answer::Hit { object, age }))
     }
 
-    /// The client is given an answer, after the store was asked for the key.
+    /// Answers the client, and records the lookup of the key in the store.
     fn give(&mut self, client: u64, key: &CacheKey, answer: Answer, now: Moment, out: &mut Out)
         requires { out.old ≡ [] }
-        ensures node { self.new ≡ looked_up (moved self.old now) key.now }
+        ensures node { self.new ≡ looked_up (at_clock self.old now) key.now }
         ensures actions { out.new ≡ Serve client answer ∷ [] }
     {
         out.push(Action::Serve { client, answer });
@@ -301,7 +302,7 @@ impl Core {
         self.look_up(key);
     }
 
-    /// Asks the store for a key, for a shared fetch.
+    /// Looks the key up in the store if the fetch is shared.
     fn ask_store(&mut self, key: &CacheKey, shared: bool)
         ensures { self.new ≡ asked self.old key.now shared }
     {
@@ -310,7 +311,7 @@ impl Core {
         }
     }
 
-    /// Asks the store for a key, which puts a fresh pair first and drops a stale one.
+    /// Looks a key up in the store, which makes a fresh entry the most recently used one and removes a stale one.
     fn look_up(&mut self, key: &CacheKey)
         ensures { self.new ≡ looked_up self.old key.now }
     {
@@ -318,7 +319,7 @@ impl Core {
     }
 }
 
-/// An object's age in seconds: what it had when it came, and the whole seconds since (RFC 9111).
+/// An object's age in seconds: its age on arrival plus the whole seconds since (RFC 9111), at most 2,147,483,648.
 fn age(entry: &Entry, now: Moment) -> u32
     ensures { result ≡ age_of entry.now now }
 {

@@ -1,4 +1,4 @@
-//! Signatures of HTCP messages, judged and made.
+//! Signing HTCP messages, and verifying their signatures.
 ghost use Rattle.std.specs.Prelude.{◌≡◌, ◌≤◌, ◌/◌, length, Some, IfOk};
 ghost use Rattle.std.specs.Option.{option_map};
 ghost use Rattle.filter_slots.specs.Datagram.{ends_of};
@@ -24,14 +24,14 @@ pub struct Signer<'a> {
     pub secret: &'a [u8],
 }
 
-/// What the signature of a received message is worth.
+/// The verdict on the signature of a received message.
 #[derive(Clone, Copy, Debug)]
 pub enum Judgement<'a> {
     /// The message isn't signed.
     Absent,
-    /// Its signature is good, by this key.
+    /// The signature is good, with this key.
     Good(Signer<'a>),
-    /// Its signature isn't good, or names no key that is there.
+    /// The signature is bad, or names an unknown key.
     Bad,
 }
 
@@ -43,7 +43,7 @@ impl<'a> Judgement<'a> {
         matches!(self, Judgement::Absent)
     }
 
-    /// Whether there is a signature that isn't good.
+    /// Whether there is a bad signature.
     pub fn is_bad(&self) -> bool
         ensures { result ≡ is_bad (shown_standing self.now) }
     {
@@ -60,7 +60,7 @@ impl<'a> Judgement<'a> {
         }
     }
 
-    /// Whether the signature is good, and by the key of this name.
+    /// Whether the signature is good, with the key of this name.
     pub fn is_good_by(&self, name: &[u8]) -> bool
         ensures { result ≡ is_good_by name.now (shown_standing self.now) }
     {
@@ -72,7 +72,7 @@ impl<'a> Judgement<'a> {
 }
 
 impl Core {
-    /// What the signature of a message is worth that came from one end to the other, at a moment.
+    /// Verifies the signature of a message received at a moment; `from` and `to` are the datagram's addresses and ports.
     #[tactic(auto, unfolding(crate::specs::Signatures::standing))]
     pub(crate) fn judgement<'a>(
         &'a self,
@@ -87,7 +87,7 @@ impl Core {
         self.judged(view, &both_ends(from, to), clock.seconds())
     }
 
-    /// What the signature of a message is worth that came between these ends, at a second.
+    /// Verifies the signature of a message received between these ends, at a second.
     fn judged<'a>(&'a self, view: &HtcpView<'a>, ends: &[u8; 12], seconds: u32) -> Judgement<'a>
         ensures value { shown_standing result ≡ standing_of_auth self.now.rows.keys (received view.now) ends.now seconds (shown_auth view.now.auth) }
         ensures named { IsShortlyNamed (key_of_standing (shown_standing result)) }
@@ -105,7 +105,7 @@ impl Core {
         judged_under(key, verify(view, ends, secret, seconds))
     }
 
-    /// The key of this name, if one is named.
+    /// The key of this name; `None` if no name is given or the key is unknown.
     pub(crate) fn key_named<'a>(&'a self, name: &'a Option<Octets>) -> Option<Signer<'a>>
         ensures value { option_map shown_key result ≡ key_named self.now name.now }
         ensures named { IsShortlyNamed (option_map shown_key result) }
@@ -120,7 +120,7 @@ impl Core {
         Some(Signer { name, secret })
     }
 
-    /// The octets of a message to a receiver at a moment: signed, where there is a key to sign it with.
+    /// Encodes a message to a receiver at a moment, signed if there is a key. Errors: out of memory.
     pub(crate) fn text_to(
         &self,
         alloc: Global,
@@ -140,7 +140,7 @@ impl Core {
         }
     }
 
-    /// The octets of a message to a receiver at a moment, signed with a key.
+    /// Encodes a message to a receiver at a moment, signed with a key. Errors: out of memory.
     pub(crate) fn signed_to(
         &self,
         alloc: Global,
@@ -159,7 +159,7 @@ impl Core {
     }
 }
 
-/// What a signature is worth by its own check under this key.
+/// The verdict on a signature that was checked with this key.
 fn judged_under(key: Signer<'_>, sign: Sign) -> Judgement<'_>
     ensures { shown_standing result ≡ standing_by_check (shown_key key.entry) sign }
 {
@@ -170,7 +170,7 @@ fn judged_under(key: Signer<'_>, sign: Sign) -> Judgement<'_>
     }
 }
 
-/// The octets of a message, signed with a key of this name and secret.
+/// Encodes a message, signed with a key of this name and secret. Errors: out of memory.
 fn signed(
     alloc: Global,
     view: &HtcpView<'_>,
@@ -191,7 +191,7 @@ fn signed(
     }
 }
 
-/// The octets of a message without a signature.
+/// Encodes a message without a signature. Errors: out of memory.
 pub(crate) fn unsigned(alloc: Global, view: &HtcpView<'_>) -> Result<Vec<u8>, NoMemory>
     requires writable { IsWritable (shown view.now) }
     requires short { length (body_text (shown_body view.now.body)) ≤ 65000 }

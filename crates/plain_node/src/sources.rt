@@ -1,14 +1,15 @@
-//! Where a fetch goes once its round is decided.
+//! The sources of a fetch once its round is decided.
 ghost use Rattle.std.specs.Prelude.{◌≡◌, ◌≤◌, ◌+◌, ◌++◌, length, true, Some, None, option_map, IfSome};
 ghost use Rattle.peer_select.specs.declared.reply.Source.{Source};
 ghost use Rattle.peer_select.specs.Poll.{decided, matches};
 ghost use Rattle.pending_fetch.specs.Fetches.{PendingFetch, fetch_of, waiters_of};
 ghost use Rattle.pending_fetch.specs.Calls.{told, shown};
-ghost use Rattle.pending_fetch.specs.Standing.{place_of};
+ghost use Rattle.pending_fetch.specs.FetchIndex.{fetch_index};
 ghost use Rattle.plain_node.specs.declared.action.Action.TheVariants.{Fetch};
 ghost use Rattle.plain_node.specs.declared.action.Answer.TheVariants.{Fail};
 ghost use Rattle.plain_node.specs.PlainNode.{closed, serves};
-ghost use Rattle.plain_node.specs.Sources.{decision_step, tried, source_of, is_sibling, is_sibling_at, is_sibling_source};
+ghost use Rattle.plain_node.specs.Sources.{decision_step, attempt_step, source_of, is_sibling, is_sibling_at, is_sibling_source};
+ghost use Rattle.plain_node.specs.Bounds.{most_actions};
 
 use crate::action::{Action, Out};
 use crate::core_node::Core;
@@ -18,10 +19,10 @@ use peer_select::Source;
 use pending_fetch::Fetch as Pended;
 
 impl Core {
-    /// If its round is decided, the fetch of this number goes to its first source; to have none at all is 503.
+    /// If the round of this fetch is decided, starts its first attempt; without any source answers its waiters with 503.
     #[tactic(auto, unfolding(crate::specs::Sources::decision_step))]
     pub(crate) fn decide(&mut self, number: u32, out: &mut Out)
-        requires room { length out.old + 1 + length (waiters_of number self.old.fetches.list) ≤ 1344 }
+        requires room { length out.old + 1 + length (waiters_of number self.old.fetches.list) ≤ most_actions }
         ensures node { (f : PendingFetch) → fetch_of number self.old.fetches.list ≡ Some f → self.new ≡ (decision_step self.old f).0 }
         ensures actions { (f : PendingFetch) → fetch_of number self.old.fetches.list ≡ Some f → out.new ≡ out.old ++ (decision_step self.old f).1 }
     {
@@ -30,11 +31,11 @@ impl Core {
         }
     }
 
-    /// The same for the fetch of this number that stands at this place, where the caller knows whether its round is decided.
+    /// As `decide`, for a fetch whose index is known to be `place`, if the caller knows whether its round is decided.
     #[tactic(auto, unfolding(crate::specs::Sources::decision_step))]
     pub(crate) fn decide_at(&mut self, number: u32, place: usize, is_decided: bool, out: &mut Out)
-        requires room { length out.old + 1 + length (waiters_of number self.old.fetches.list) ≤ 1344 }
-        requires here { place_of number self.old.fetches.list ≡ Some place }
+        requires room { length out.old + 1 + length (waiters_of number self.old.fetches.list) ≤ most_actions }
+        requires here { fetch_index number self.old.fetches.list ≡ Some place }
         requires decided { (f : PendingFetch) → fetch_of number self.old.fetches.list ≡ Some f → is_decided ≡ decided f.round }
         ensures node { (f : PendingFetch) → fetch_of number self.old.fetches.list ≡ Some f → self.new ≡ (decision_step self.old f).0 }
         ensures actions { (f : PendingFetch) → fetch_of number self.old.fetches.list ≡ Some f → out.new ≡ out.old ++ (decision_step self.old f).1 }
@@ -45,26 +46,26 @@ impl Core {
         }
     }
 
-    /// The fetch of this number goes to the source of its attempt. Where there is none, each waiter is told this status, and
-    /// the fetch is closed.
-    #[tactic(auto, unfolding(crate::specs::Sources::tried))]
+    /// Starts the current attempt of a fetch at its source. If it has none, answers each waiter with this status and closes
+    /// the fetch.
+    #[tactic(auto, unfolding(crate::specs::Sources::attempt_step))]
     pub(crate) fn try_source(&mut self, number: u32, status: u16, out: &mut Out)
-        requires room { length out.old + 1 + length (waiters_of number self.old.fetches.list) ≤ 1344 }
-        ensures node { (f : PendingFetch) → fetch_of number self.old.fetches.list ≡ Some f → self.new ≡ (tried self.old status f (source_of self.old f)).0 }
-        ensures actions { (f : PendingFetch) → fetch_of number self.old.fetches.list ≡ Some f → out.new ≡ out.old ++ (tried self.old status f (source_of self.old f)).1 }
+        requires room { length out.old + 1 + length (waiters_of number self.old.fetches.list) ≤ most_actions }
+        ensures node { (f : PendingFetch) → fetch_of number self.old.fetches.list ≡ Some f → self.new ≡ (attempt_step self.old status f (source_of self.old f)).0 }
+        ensures actions { (f : PendingFetch) → fetch_of number self.old.fetches.list ≡ Some f → out.new ≡ out.old ++ (attempt_step self.old status f (source_of self.old f)).1 }
     {
         let action = self.attempt(number);
         self.follow(number, action, status, out);
     }
 
-    /// The same, by what the fetch of this number does at its attempt.
-    #[tactic(auto, unfolding(crate::specs::Sources::tried))]
+    /// As `try_source`, given the action of the current attempt, or `None` if it has no source.
+    #[tactic(auto, unfolding(crate::specs::Sources::attempt_step))]
     fn follow(&mut self, number: u32, action: Option<Action>, status: u16, out: &mut Out)
-        requires room { length out.old + 1 + length (waiters_of number self.old.fetches.list) ≤ 1344 }
+        requires room { length out.old + 1 + length (waiters_of number self.old.fetches.list) ≤ most_actions }
         requires attempt { (f : PendingFetch) → fetch_of number self.old.fetches.list ≡ Some f →
             action ≡ option_map (λ (source : Source). Fetch number f.attempt source (is_sibling_source self.old.rows.neighbours source) f.owner) (source_of self.old f) }
-        ensures node { (f : PendingFetch) → fetch_of number self.old.fetches.list ≡ Some f → self.new ≡ (tried self.old status f (source_of self.old f)).0 }
-        ensures actions { (f : PendingFetch) → fetch_of number self.old.fetches.list ≡ Some f → out.new ≡ out.old ++ (tried self.old status f (source_of self.old f)).1 }
+        ensures node { (f : PendingFetch) → fetch_of number self.old.fetches.list ≡ Some f → self.new ≡ (attempt_step self.old status f (source_of self.old f)).0 }
+        ensures actions { (f : PendingFetch) → fetch_of number self.old.fetches.list ≡ Some f → out.new ≡ out.old ++ (attempt_step self.old status f (source_of self.old f)).1 }
     {
         match action {
             Some(action) => out.push(action),
@@ -72,9 +73,9 @@ impl Core {
         }
     }
 
-    /// Each waiter is told this status, and the fetch is closed.
+    /// Answers each waiter with this status, and closes the fetch.
     fn give_up(&mut self, number: u32, status: u16, out: &mut Out)
-        requires { length out.old + length (waiters_of number self.old.fetches.list) ≤ 1344 }
+        requires { length out.old + length (waiters_of number self.old.fetches.list) ≤ most_actions }
         ensures node { self.new ≡ closed self.old number }
         ensures actions { out.new ≡ out.old ++ serves (Fail status) (waiters_of number self.old.fetches.list) }
     {
@@ -82,15 +83,15 @@ impl Core {
         self.close(number);
     }
 
-    /// Each waiter is told this status.
+    /// Answers each waiter with this status.
     fn tell(&self, number: u32, status: u16, out: &mut Out)
-        requires { length out.old + length (waiters_of number self.now.fetches.list) ≤ 1344 }
+        requires { length out.old + length (waiters_of number self.now.fetches.list) ≤ most_actions }
         ensures { out.new ≡ out.old ++ serves (Fail status) (waiters_of number self.now.fetches.list) }
     {
         serve_fail(self.pending.waiters(number), status, out);
     }
 
-    /// Whether the round of the fetch of this number is decided.
+    /// Whether the round of the fetch with this number is decided.
     pub(crate) fn is_decided(&self, number: u32) -> bool
         ensures { (f : PendingFetch) → fetch_of number self.now.fetches.list ≡ Some f → result ≡ decided f.round }
     {
@@ -100,7 +101,7 @@ impl Core {
         }
     }
 
-    /// The fetch of this number at its attempt, where it has a source.
+    /// The action of the current attempt of a fetch, or `None` if it has no source.
     fn attempt(&self, number: u32) -> Option<Action>
         ensures { (f : PendingFetch) → fetch_of number self.now.fetches.list ≡ Some f →
             result ≡ option_map (λ (source : Source). Fetch number f.attempt source (is_sibling_source self.now.rows.neighbours source) f.owner) (source_of self.now f) }
@@ -109,9 +110,9 @@ impl Core {
         self.attempt_of(number, fetch)
     }
 
-    /// The same for the fetch of this number that stands at this place.
+    /// As `attempt`, for a fetch whose index is known to be `place`.
     fn attempt_at(&self, number: u32, place: usize) -> Option<Action>
-        requires { place_of number self.now.fetches.list ≡ Some place }
+        requires { fetch_index number self.now.fetches.list ≡ Some place }
         ensures { (f : PendingFetch) → fetch_of number self.now.fetches.list ≡ Some f →
             result ≡ option_map (λ (source : Source). Fetch number f.attempt source (is_sibling_source self.now.rows.neighbours source) f.owner) (source_of self.now f) }
     {
@@ -119,7 +120,7 @@ impl Core {
         self.attempt_of(number, fetch)
     }
 
-    /// A fetch under its number at its attempt, where it has a source.
+    /// The action of the current attempt of this fetch, or `None` if it has no source.
     fn attempt_of(&self, number: u32, fetch: Pended<'_>) -> Option<Action>
         requires { matches self.now.rows.neighbours fetch.round.now.peers ≡ true }
         ensures { (f : PendingFetch) → shown fetch.entry ≡ told f →
@@ -135,7 +136,7 @@ impl Core {
         })
     }
 
-    /// The source of a fetch at its attempt.
+    /// The source of a fetch's current attempt.
     pub(crate) fn source(&self, fetch: Pended<'_>) -> Option<Source>
         requires { matches self.now.rows.neighbours fetch.round.now.peers ≡ true }
         ensures { (f : PendingFetch) → shown fetch.entry ≡ told f → result ≡ source_of self.now f }
@@ -155,7 +156,7 @@ impl Core {
         }
     }
 
-    /// Whether the neighbour at a place is a sibling.
+    /// Whether the neighbour with index `n` is a sibling.
     fn is_sibling_at(&self, n: usize) -> bool
         ensures { result ≡ is_sibling_at self.now.rows.neighbours n }
     {
@@ -165,7 +166,7 @@ impl Core {
         }
     }
 
-    /// The pending fetch of this number.
+    /// The pending fetch with this number.
     pub(crate) fn held(&self, number: u32) -> Option<Pended<'_>>
         ensures held { (f : PendingFetch) → fetch_of number self.now.fetches.list ≡ Some f → option_map shown result ≡ Some (told f) }
         ensures absent { fetch_of number self.now.fetches.list ≡ None → result ≡ None }
@@ -174,9 +175,9 @@ impl Core {
         self.pending.fetch(number)
     }
 
-    /// The pending fetch of this number, which stands at this place.
+    /// The pending fetch with this number, whose index is `place`.
     fn held_at(&self, number: u32, place: usize) -> Pended<'_>
-        requires { place_of number self.now.fetches.list ≡ Some place }
+        requires { fetch_index number self.now.fetches.list ≡ Some place }
         ensures held { Some (shown result) ≡ option_map told (fetch_of number self.now.fetches.list) }
         ensures matching { matches self.now.rows.neighbours result.round.now.peers ≡ true }
     {

@@ -1,4 +1,4 @@
-//! What the actions of one event come to: how many there are of each kind, and a digest of them all.
+//! Tallies of an event's actions: the count of each kind, and a digest of them all.
 ghost use Rattle.std.specs.Prelude.{◌≡◌, ◌++◌, ◌∷◌, [], ℕ, List, Bool};
 ghost use Rattle.std.specs.List.{flat_map};
 ghost use Rattle.md5.specs.Md5.{Holds, md5};
@@ -12,25 +12,25 @@ use md5::{Digest, Md5};
 use object_store::SharedObject;
 use peer_select::Source;
 
-/// How many actions an event had of each kind, and a digest of them all.
+/// The count of an event's actions of each kind, and a digest of them all.
 #[derive(Clone, Copy, Debug, PartialEq, Eq)]
 pub struct Tally {
-    /// The datagrams.
+    /// Datagrams to send.
     pub sends: u64,
-    /// The fetches.
+    /// Attempts of fetches.
     pub fetches: u64,
-    /// The answers with a stored object.
+    /// Answers with a stored object.
     pub hits: u64,
-    /// The answers with a fetched object.
+    /// Answers with a fetched object.
     pub gots: u64,
-    /// The answers with a status alone.
+    /// Answers with a status only.
     pub fails: u64,
-    /// MD5 (RFC 1321) of the actions, spelled one after the other.
+    /// MD5 (RFC 1321) of the actions, encoded one after the other as specs/Tally.antt says.
     pub digest: [u8; 16],
 }
 
 impl Tally {
-    /// What these actions come to. It takes no memory.
+    /// The tally of these actions. Does not allocate.
     pub fn of(actions: &[Action]) -> Tally
         ensures { result ≡ tally_of actions.now }
     {
@@ -46,7 +46,7 @@ impl Tally {
 }
 
 impl Out {
-    /// What the actions come to. It takes no memory.
+    /// The tally of the actions. Does not allocate.
     pub fn tally(&self) -> Tally
         ensures { result ≡ tally_of self.now }
     {
@@ -54,7 +54,7 @@ impl Out {
     }
 }
 
-// The kind of an action, as it is counted and spelled.
+// The kind of an action, by which it is counted and encoded.
 fn action_kind(action: &Action) -> u8
     ensures { result ≡ action_kind action.now }
 {
@@ -76,7 +76,7 @@ fn action_kind(action: &Action) -> u8
     }
 }
 
-// How many actions are of a kind.
+// The number of actions of a kind.
 fn how_many(kind: u8, actions: &[Action]) -> u64
     ensures { result ≡ how_many kind actions.now }
 {
@@ -97,7 +97,7 @@ fn digest_of(actions: &[Action]) -> [u8; 16]
     hasher.finalize()
 }
 
-// Takes an action in.
+// Adds an action to the digest.
 fn add_action(hasher: &mut Md5, action: &Action)
     ensures { (m : List ℕ) → Holds hasher.old m → Holds hasher.new (m ++ spelled action.now) }
 {
@@ -128,7 +128,7 @@ fn add_action(hasher: &mut Md5, action: &Action)
     }
 }
 
-// Takes an answer to a client in.
+// Adds an answer to the digest.
 fn add_answer(hasher: &mut Md5, client: u64, answer: &Answer)
     ensures { (m : List ℕ) → Holds hasher.old m → Holds hasher.new (m ++ spelled (action.Serve client answer.now)) }
 {
@@ -149,7 +149,7 @@ fn add_answer(hasher: &mut Md5, client: u64, answer: &Answer)
     }
 }
 
-// Takes a source in.
+// Adds a source to the digest.
 fn add_source(hasher: &mut Md5, source: Source)
     ensures { (m : List ℕ) → Holds hasher.old m → Holds hasher.new (m ++ spelled_source source) }
 {
@@ -159,7 +159,7 @@ fn add_source(hasher: &mut Md5, source: Source)
     }
 }
 
-// Takes the owner of a fetch in, or that it has none.
+// Adds the owner of a fetch, or its absence, to the digest.
 fn add_owner(hasher: &mut Md5, owner: Option<u64>)
     ensures { (m : List ℕ) → Holds hasher.old m → Holds hasher.new (m ++ spelled_owner owner) }
 {
@@ -169,7 +169,7 @@ fn add_owner(hasher: &mut Md5, owner: Option<u64>)
     }
 }
 
-// One octet for a choice, then a number.
+// A tag octet, then a number.
 #[tactic(auto, unfolding(object_store::specs::Object::spelled_number))]
 fn tagged_number(choice: u8, number: u64) -> [u8; 9]
     ensures { result ≡ choice ∷ spelled_number number }
@@ -181,7 +181,7 @@ fn tagged_number(choice: u8, number: u64) -> [u8; 9]
     ]
 }
 
-// What stands before a datagram's octets: the kind, the socket, the end and how many octets there are.
+// The encoding before a datagram's octets: the kind, the socket, the address and port, and the length.
 fn send_head(socket: Socket, to: End, octets: u64) -> [u8; 22]
     ensures { result ≡ 0 ∷ spelled_socket socket ++ spelled_end to ++ spelled_number octets }
 {
@@ -195,7 +195,7 @@ fn send_head(socket: Socket, to: End, octets: u64) -> [u8; 22]
     ]
 }
 
-// The choice of a socket.
+// The tag of a socket.
 fn socket_octet(socket: Socket) -> u8
     ensures { spelled_socket socket ≡ result ∷ [] }
 {
@@ -205,7 +205,7 @@ fn socket_octet(socket: Socket) -> u8
     }
 }
 
-// Takes a number in.
+// Adds a number to the digest.
 #[tactic(auto, unfolding(object_store::specs::Object::spelled_number))]
 fn add_number(hasher: &mut Md5, number: u64)
     ensures { (m : List ℕ) → Holds hasher.old m → Holds hasher.new (m ++ spelled_number number) }
@@ -213,7 +213,7 @@ fn add_number(hasher: &mut Md5, number: u64)
     hasher.update(&number.to_be_bytes());
 }
 
-// Takes a choice between no and yes in.
+// Adds a flag to the digest.
 fn add_flag(hasher: &mut Md5, flag: bool)
     ensures { (m : List ℕ) → Holds hasher.old m → Holds hasher.new (m ++ spelled_flag flag) }
 {

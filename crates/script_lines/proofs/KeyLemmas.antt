@@ -1,4 +1,4 @@
--- Which texts are keys of the store.
+-- The executable test for keys of the store agrees with their definition.
 use Rattle.std.proofs.Common.{◌≡◌, ℕ, ◌&&◌, Bool, true, false, cond, nat_le, List, length, take, codes, bytes_eq, All, Some, None, refl, ap, sym, ◌∙◌}
 use Rattle.std.proofs.lemmas.Bool.{leb-true, le-leb}
 use Rattle.std.proofs.lemmas.List.Sums.{AllPass-from_list_all, list_all-from_AllPass}
@@ -7,7 +7,7 @@ use Rattle.std.specs.List.{list_all}
 use Rattle.object_store.specs.Key.{IsKey, IsVisible}
 use Rattle.script_lines.specs.Words.{is_visible, key}
 
--- both of two tests
+-- conjunctions of tests
 both : (a b : Bool) → a ≡ true → b ≡ true → (a && b) ≡ true
 both true b p q = q
 both false b p q = p
@@ -32,7 +32,7 @@ all-so cs h = list_all-from_AllPass is_visible cs (λ k d inside. visible-so _ (
 all-is : (cs : List ℕ) → list_all is_visible cs ≡ true → All IsVisible cs
 all-is cs h = λ k d inside. visible-is _ (AllPass-from_list_all is_visible cs h k d inside)
 
--- the three tests of a key
+-- the three tests for a key
 abbrev pub tests_of : List ℕ → Bool
 tests_of text = nat_le (length text) 8192 && (bytes_eq (take 7 text) (codes "http://") && list_all is_visible text)
 
@@ -61,7 +61,7 @@ none-where text false h = refl
 pub key-none : (text : List ℕ) → (IsKey text → ⊥) → key text ≡ None
 key-none text h = none-where text (tests_of text) (λ so. h (tests-are text so))
 
--- the same of octets that are the text's
+-- the same for a copy of the text
 pub key-value : (text octets found : List ℕ) → octets ≡ text → found ≡ octets → IsKey octets → Some found ≡ key text
 key-value text octets found same value h =
     ap Some value ∙ sym (key-some octets h) ∙ ap key same

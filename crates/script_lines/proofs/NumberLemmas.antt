@@ -1,10 +1,12 @@
--- Numbers, digit by digit.
-use Rattle.std.proofs.Common.{◌≡◌, ℕ, suc, ◌+◌, ◌-◌, ◌*◌, ◌<◌, Bool, true, false, cond, ◌&&◌, nat_le, nat_eq, List, [], ◌∷◌, length, get_or, drop, refl, arith, drop-cons, Option, Some, None, if◌then◌else◌}
+-- Decimal numbers, read digit by digit.
+use Rattle.std.proofs.Common.{◌≡◌, ◌∙◌, sym, ap, ℕ, suc, ◌+◌, ◌-◌, ◌*◌, ◌<◌, Bool, true, false, cond, ◌&&◌, nat_le, nat_eq, List, [], ◌∷◌, length, get_or, drop, refl, arith, drop-cons, Option, Some, None, if◌then◌else◌}
+use Rattle.std.specs.Prelude.{not}
 use Rattle.std.specs.Char.{is_ascii_digit}
 use Rattle.std.specs.List.{list_all}
-use Rattle.script_lines.specs.Words.{value_after, number}
+use Rattle.script_lines.specs.Words.{number}
+use Rattle.wire_octets.specs.Decimal.{value_after}
 
--- the number that n and then these digits spell, where it is at most `most`
+-- the value of the digits appended to n, if it is at most `most`
 abbrev pub number_after : ℕ → ℕ → List ℕ → Option ℕ
 number_after most n [] = if nat_le n most then Some n else None
 number_after most n (c ∷ cs) = if is_ascii_digit c then number_after most (n * 10 + (c - 48)) cs else None
@@ -18,15 +20,13 @@ after-whole most n (c ∷ cs) =
       | false ↦ refl
     ]
 
--- the digits one after another give the number of the text
-pub number_after-whole : (most : ℕ) (text : List ℕ) → (length text ≡ 0 → ⊥) → number_after most 0 text ≡ number most text
-number_after-whole most [] some = absurd (some refl)
-number_after-whole most (c ∷ cs) some = after-whole most 0 (c ∷ cs)
+-- reading digit by digit gives the number of the whole text
+pub number_after-whole : (most : ℕ) (text : List ℕ) → nat_eq (length text) 0 ≡ false → number_after most 0 text ≡ number most text
+number_after-whole most text some =
+    after-whole most 0 text
+    ∙ ap (λ (empty : Bool). if (not empty && list_all is_ascii_digit text) && nat_le (value_after 0 text) most then Some (value_after 0 text) else None) (sym some)
 
-pub some_of : (n : ℕ) (b : Bool) → b ≡ nat_eq n 0 → b ≡ false → n ≡ 0 → ⊥
-some_of n b is false_is e = grind arith
-
--- more digits make no number smaller
+-- once the value exceeds the bound, it does so with more digits
 number_after_big : (most n : ℕ) (cs : List ℕ) → most < n → number_after most n cs ≡ None
 number_after_big most n [] h = grind arith
 number_after_big most n (c ∷ cs) h =
@@ -35,7 +35,7 @@ number_after_big most n (c ∷ cs) h =
       | false ↦ refl
     ]
 
--- a digit that takes the number past its bound
+-- a digit that takes the value past the bound ends the reading
 number_stops_at : (most n c : ℕ) (cs : List ℕ) → most < n * 10 + (c - 48) → number_after most n (c ∷ cs) ≡ None
 number_stops_at most n c cs h =
     elim (is_ascii_digit c) as (λ b. cond b (number_after most (n * 10 + (c - 48)) cs) None ≡ None) [

@@ -1,9 +1,9 @@
--- Instructions, one after another.
+-- Programs, read instruction by instruction.
 use Rattle.std.proofs.Common.{◌≡◌, List, [], ◌∷◌, ◌++◌, refl, ap, append_assoc, Option, Some, None}
 use Rattle.bpf_check.specs.declared.insn.Insn.{Insn}
 use Rattle.script_lines.specs.Words.{onto}
 
--- the instructions so far, and then those that follow, if all are there
+-- the instructions read so far, then those that follow, if none is malformed
 abbrev pub onto_all : List Insn → Option (List Insn) → Option (List Insn)
 onto_all front None = None
 onto_all front (Some rest) = Some (front ++ rest)

@@ -1,4 +1,4 @@
--- Items, seen as lines of a script.
+-- The script line that each item stands for.
 use Rattle.std.specs.Prelude.{◌≤◌, length}
 use Rattle.bpf_run.specs.Packet.{most_payload}
 use Rattle.node_core.specs.Happening.{happening}
@@ -6,7 +6,7 @@ use Rattle.script_lines.specs.declared.item.Item.{Item}
 use Rattle.script_lines.specs.declared.item.Item.TheVariants as item
 use Rattle.script_lines.specs.ScriptLine.{ScriptLine, owns, allows, denies_fetches, uses_origins, limits, has_key, has_neighbour, receives, takes, sets, goes, happens, refuses, inquires, blank, wrong}
 
--- the line that an item was made of
+-- the line that an item was parsed from
 abbrev pub script_line_of : Item → ScriptLine
 script_line_of (item.Own addr) = sets (owns addr)
 script_line_of (item.Allow network) = sets (allows network)
@@ -23,7 +23,7 @@ script_line_of item.Ask = inquires
 script_line_of item.Blank = blank
 script_line_of item.Wrong = wrong
 
--- a datagram of an item isn't too long
+-- the payload of a datagram has at most 65,507 octets; other items have no bound
 abbrev pub IsShort : Item → Type 0
 IsShort (item.Receive by from payload now) = length payload.items ≤ most_payload
 IsShort _ = Unit {0}

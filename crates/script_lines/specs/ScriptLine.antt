@@ -1,11 +1,11 @@
--- What one line of a script says.
+-- The format of a script line.
 use Rattle.std.specs.Prelude.{ℕ, List, [], ◌∷◌, length, map, slice_index, Bool, Option, Some, None, codes, nat_lt, ◌==◌, if◌then◌else◌}
 use Rattle.std.specs.List.{slice_split}
 use Rattle.std.specs.Str.{bytes_eq}
 use Rattle.std.specs.Str.Lines.{lines}
 use Rattle.bpf_check.specs.declared.insn.Insn.{Insn}
 use Rattle.bpf_check.specs.declared.checked.CheckFault.{CheckFault}
-use Rattle.bpf_check.specs.Refusal.{refusal}
+use Rattle.bpf_check.specs.Refusal.{program_fault}
 use Rattle.bpf_run.specs.declared.ends.End.{End}
 use Rattle.bpf_run.specs.declared.ends.Socket.{Socket}
 use Rattle.bpf_run.specs.Packet.{most_payload}
@@ -16,12 +16,13 @@ use Rattle.neighbours.specs.declared.neighbour.Role.{Role}
 use Rattle.object_store.specs.Object.{ObjectFields}
 use Rattle.plain_node.specs.declared.config.Network.{Network}
 use Rattle.plain_node.specs.declared.event.Mode.{Mode}
+use Rattle.plain_node.specs.declared.event.Outcome.{Outcome}
 use Rattle.plain_node.specs.declared.event.Outcome.TheVariants.{Object, Failed}
 use Rattle.node_core.specs.Happening.{Happening, asks, ticks, ends, leaves, swaps}
 use Rattle.script_lines.specs.Words.{number, moment, client_number, address, end_at, network, octets, program, switch, socket, slot_of_socket, slot_of_neighbour, role, mode, name, key, object}
 
--- the own address; one more network whose queries are answered; whether MISS_NOFETCH is answered in place of MISS; whether the
--- node fetches from origins; the most entries and octets of the store; one more signing key; or one more neighbour
+-- sets the node's address; adds a network whose queries are answered; sets whether MISS_NOFETCH is answered instead of MISS,
+-- whether the node fetches from origin servers, or the capacity of the store; adds a signing key; or adds a neighbour
 pub data Setting : Type 0 where
   owns : (addr : List ℕ) → Setting
   allows : (network : Network) → Setting
@@ -31,12 +32,13 @@ pub data Setting : Type 0 where
   has_key : (key : Key) → Setting
   has_neighbour : (neighbour : Neighbour) → Setting
 
--- a datagram comes to a socket, or an event that the line tells whole
+-- a datagram arrives at a socket, or an event that the line describes in full
 pub data Occurrence : Type 0 where
   receives : (socket : Socket) (from : End) (payload : List ℕ) (now : ℕ) → Occurrence
   takes : (event : Happening) → Occurrence
 
--- a setting, the start, an event, a program that is refused for a slot, a question for the counters, nothing, or no line of the format
+-- a setting; the start; an event; a program that the checker rejects; a question for the counters; an empty line or a comment;
+-- or a line that is not of the format
 pub data ScriptLine : Type 0 where
   sets : Setting → ScriptLine
   goes : ScriptLine
@@ -90,14 +92,14 @@ two_words word a =
     else if bytes_eq word (codes "g") then gone_line (client_number a)
     else wrong
 
--- a program for a slot, with its first fault, if it has one
+-- a program for a slot, with its first fault, if any
 abbrev pub judged_line : Slot → List Insn → Option CheckFault → ScriptLine
 judged_line slot insns None = happens (takes (swaps slot (Some insns)))
 judged_line slot insns (Some fault) = refuses slot fault
 
 abbrev pub program_line : Slot → Option (List Insn) → ScriptLine
 program_line slot None = wrong
-program_line slot (Some insns) = judged_line slot insns (refusal insns)
+program_line slot (Some insns) = judged_line slot insns (program_fault insns)
 
 -- `off` or a program, for a slot
 abbrev pub swap_line : Option Slot → List ℕ → ScriptLine
@@ -109,7 +111,7 @@ abbrev pub limits_line : Option ℕ → Option ℕ → ScriptLine
 limits_line (Some entries) (Some octets) = sets (limits entries octets)
 limits_line _ _ = wrong
 
--- `key <name> <octets>`, the name as it stands
+-- `key <name> <octets>`: the name is taken literally
 abbrev pub key_line : List ℕ → Option (List ℕ) → ScriptLine
 key_line text (Some secret) = sets (has_key (record { name = text; secret = secret }))
 key_line text None = wrong
@@ -122,20 +124,20 @@ three_words word a b =
     else if bytes_eq word (codes "key") then key_line a (octets b)
     else wrong
 
--- `x <fetch> <attempt> <now>`
-abbrev pub failed_line : Option ℕ → Option ℕ → Option ℕ → ScriptLine
-failed_line (Some fetch) (Some attempt) (Some now) = happens (takes (ends fetch attempt Failed now))
-failed_line _ _ _ = wrong
+-- a fetch attempt ended with this outcome
+abbrev pub fetched_line : Option ℕ → Option ℕ → Outcome → Option ℕ → ScriptLine
+fetched_line (Some fetch) (Some attempt) outcome (Some now) = happens (takes (ends fetch attempt outcome now))
+fetched_line _ _ _ _ = wrong
 
 -- `s peer <neighbour> off|<program>`: a neighbour is a number of 32 bits
 abbrev pub neighbour_swap_line : List ℕ → List ℕ → List ℕ → ScriptLine
 neighbour_swap_line a b c =
     if bytes_eq a (codes "peer") then swap_line (slot_of_neighbour (number 4294967295 b)) c else wrong
 
--- a fetch is a number of 32 bits, an attempt of 16
+-- `x <fetch> <attempt> <now>`, `s peer <neighbour> off|<program>`: a fetch is a number of 32 bits, an attempt of 16
 abbrev pub four_words : List ℕ → List ℕ → List ℕ → List ℕ → ScriptLine
 four_words word a b c =
-    if bytes_eq word (codes "x") then failed_line (number 4294967295 a) (number 65535 b) (moment c)
+    if bytes_eq word (codes "x") then fetched_line (number 4294967295 a) (number 65535 b) Failed (moment c)
     else if bytes_eq word (codes "s") then neighbour_swap_line a b c
     else wrong
 
@@ -156,23 +158,23 @@ five_words word a b c d =
     else if bytes_eq word (codes "r") then request_line (client_number a) (mode b) (key c) (moment d)
     else wrong
 
--- a neighbour that is asked by ICP or by HTCP
+-- a neighbour that is queried by ICP or HTCP
 abbrev pub neighbour_line : Option Role → Option Socket → Option End → Option ℕ → Option ℕ → Option (List ℕ) → ScriptLine
 neighbour_line (Some kind) (Some protocol) (Some end) (Some port) (Some weight) signer =
     sets (has_neighbour (record { kind = kind; protocol = protocol; end = end; http_port = port; weight = weight; key = signer }))
 neighbour_line _ _ _ _ _ _ = wrong
 
--- `peer sibling|parent icp|htcp <end> <http port> <weight> <key name or ->`, the weight at most 4,294,967,295
+-- `peer sibling|parent icp|htcp <end> <http port> <weight> <key name or ->`: the weight is at most 4,294,967,295
 abbrev pub seven_words : List ℕ → List ℕ → List ℕ → List ℕ → List ℕ → List ℕ → List ℕ → ScriptLine
 seven_words word a b c d e f =
     if bytes_eq word (codes "peer")
     then neighbour_line (role a) (socket b) (end_at c) (number 65535 d) (number 4294967295 e) (name f)
     else wrong
 
--- an object came of an attempt of a fetch
+-- a fetch attempt ended with an object; wrong if the object is malformed
 abbrev pub object_line : Option ℕ → Option ℕ → Option ObjectFields → Option ℕ → ScriptLine
-object_line (Some fetch) (Some attempt) (Some found) (Some now) = happens (takes (ends fetch attempt (Object found) now))
-object_line _ _ _ _ = wrong
+object_line fetch attempt None now = wrong
+object_line fetch attempt (Some found) now = fetched_line fetch attempt (Object found) now
 
 -- `f <fetch> <attempt> <life> <age> <status> <octets> <now>`
 abbrev pub eight_words : List ℕ → List ℕ → List ℕ → List ℕ → List ℕ → List ℕ → List ℕ → List ℕ → ScriptLine
@@ -181,7 +183,7 @@ eight_words word a b c d e f g =
     then object_line (number 4294967295 a) (number 65535 b) (object c d e f) (moment g)
     else wrong
 
--- the line of its words
+-- the line with these words
 abbrev pub line_of_fields : List (List ℕ) → ScriptLine
 line_of_fields (word ∷ []) = one_word word
 line_of_fields (word ∷ a ∷ []) = two_words word a
@@ -192,8 +194,8 @@ line_of_fields (word ∷ a ∷ b ∷ c ∷ d ∷ e ∷ f ∷ []) = seven_words w
 line_of_fields (word ∷ a ∷ b ∷ c ∷ d ∷ e ∷ f ∷ g ∷ []) = eight_words word a b c d e f g
 line_of_fields _ = wrong
 
--- what a line without its line break says: over 262,144 octets it is wrong, an empty one and one that begins with `#` say
--- nothing, and each other is words with single spaces between them
+-- the reading of a line, given without its line break: wrong if it is longer than 262,144 octets; blank if it is empty or begins
+-- with `#`; otherwise words separated by single spaces
 abbrev pub script_line : List ℕ → ScriptLine
 script_line text =
     if nat_lt 262144 (length text) then wrong
@@ -201,6 +203,6 @@ script_line text =
     else if slice_index text 0 == 35 then blank
     else line_of_fields (slice_split (λ c. c == 32) text)
 
--- what the lines of these octets say: each ends with LF, which the last may lack, and a CR before LF is dropped
+-- the readings of all lines of these octets: a line ends with LF (optional for the last), and one CR before the LF is dropped
 abbrev pub script_of : List ℕ → List ScriptLine
 script_of b = map script_line (lines b)

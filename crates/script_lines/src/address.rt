@@ -1,13 +1,14 @@
-//! The words of a line that are addresses, ends and networks.
-ghost use Rattle.std.specs.Prelude.{◌≡◌, IfOk, map};
-ghost use Rattle.script_lines.specs.Words.{address, address_of, end_at, end_of, network, network_of};
+//! Words that are addresses, endpoints (an address and a port) and networks.
+ghost use Rattle.std.specs.Prelude.{◌≡◌, ◌≤◌, IfOk, IfSome, map};
+ghost use Rattle.script_lines.specs.Words.{address, address_of, address_and, end_at, network};
 
-use super::number::{half, octet, prefix};
+use super::number::{number, octet};
 use super::parts::parts_of;
 use filter_slots::End;
 use node_core::Network;
 use std::alloc::{AllocError, Global};
 
+// Parses an address from exactly four parts.
 fn address_of(parts: &[&[u8]]) -> Option<[u8; 4]>
     ensures { result ≡ address_of (map (λ x. x.now) parts.now) }
 {
@@ -20,7 +21,7 @@ fn address_of(parts: &[&[u8]]) -> Option<[u8; 4]>
     }
 }
 
-/// An address, as `10.0.0.1`.
+/// Parses an IPv4 address such as `10.0.0.1`; `None` if it is malformed. Errors: out of memory.
 pub(crate) fn read_address(alloc: Global, text: &[u8]) -> Result<Option<[u8; 4]>, AllocError>
     ensures { IfOk result (λ o. o ≡ address text.now) }
 {
@@ -28,42 +29,46 @@ pub(crate) fn read_address(alloc: Global, text: &[u8]) -> Result<Option<[u8; 4]>
     Ok(address_of(parts.as_slice()))
 }
 
-fn end_of(alloc: Global, parts: &[&[u8]]) -> Result<Option<End>, AllocError>
-    ensures { IfOk result (λ o. o ≡ end_of (map (λ x. x.now) parts.now)) }
+// Parses an address and a number of at most `most` from exactly two parts.
+fn address_and(
+    alloc: Global,
+    parts: &[&[u8]],
+    most: u64,
+) -> Result<Option<([u8; 4], u64)>, AllocError>
+    ensures value { IfOk result (λ o. o ≡ address_and most (map (λ x. x.now) parts.now)) }
+    ensures bound { IfOk result (λ o. IfSome o (λ p. p.1 ≤ most)) }
 {
-    let [addr, port] = parts else {
+    let [addr, n] = parts else {
         return Ok(None);
     };
-    match (read_address(alloc, *addr)?, half(*port)) {
-        (Some(addr), Some(port)) => Ok(Some(End { addr, port })),
+    match (read_address(alloc, *addr)?, number(*n, most)) {
+        (Some(addr), Some(n)) => Ok(Some((addr, n))),
         _ => Ok(None),
     }
 }
 
-/// An end, as `10.0.0.1:3130`.
+/// Parses an endpoint such as `10.0.0.1:3130`; `None` if it is malformed. Errors: out of memory.
 pub(crate) fn read_end(alloc: Global, text: &[u8]) -> Result<Option<End>, AllocError>
     ensures { IfOk result (λ o. o ≡ end_at text.now) }
 {
     let parts = parts_of(alloc, text, b':')?;
-    end_of(alloc, parts.as_slice())
-}
-
-fn network_of(alloc: Global, parts: &[&[u8]]) -> Result<Option<Network>, AllocError>
-    ensures { IfOk result (λ o. o ≡ network_of (map (λ x. x.now) parts.now)) }
-{
-    let [addr, bits] = parts else {
+    let Some(pair) = address_and(alloc, parts.as_slice(), 65_535)? else {
         return Ok(None);
     };
-    match (read_address(alloc, *addr)?, prefix(*bits)) {
-        (Some(addr), Some(prefix)) => Ok(Some(Network { addr, prefix })),
-        _ => Ok(None),
-    }
+    let addr = pair.0;
+    let port = pair.1 as u16;
+    Ok(Some(End { addr, port }))
 }
 
-/// A network, as `10.0.0.0/8`.
+/// Parses a network such as `10.0.0.0/8`; `None` if it is malformed. Errors: out of memory.
 pub(crate) fn read_network(alloc: Global, text: &[u8]) -> Result<Option<Network>, AllocError>
     ensures { IfOk result (λ o. o ≡ network text.now) }
 {
     let parts = parts_of(alloc, text, b'/')?;
-    network_of(alloc, parts.as_slice())
+    let Some(pair) = address_and(alloc, parts.as_slice(), 32)? else {
+        return Ok(None);
+    };
+    let addr = pair.0;
+    let prefix = pair.1 as u8;
+    Ok(Some(Network { addr, prefix }))
 }

@@ -1,51 +1,46 @@
-//! The words of a line that name one of a few.
+//! Words that are one of a few keywords.
 ghost use Rattle.std.specs.Prelude.{◌≡◌};
-ghost use Rattle.script_lines.specs.Words.{switch, socket, role, mode};
+ghost use Rattle.script_lines.specs.Words.{either, switch, socket, role, mode};
 
 use filter_slots::Socket;
 use neighbours::Role;
 use node_core::Mode;
 
-/// `on` or `off`.
+// Returns `a` for the word `first`, `b` for the word `second`, and `None` for any other text.
+fn either<T: Copy>(text: &[u8], first: &[u8], a: T, second: &[u8], b: T) -> Option<T>
+    ensures { result ≡ either text.now first.now a second.now b }
+{
+    if text == first {
+        Some(a)
+    } else if text == second {
+        Some(b)
+    } else {
+        None
+    }
+}
+
+/// Parses `on` or `off`.
 pub(crate) fn switch(text: &[u8]) -> Option<bool>
     ensures { result ≡ switch text.now }
 {
-    if text == b"on".as_slice() {
-        Some(true)
-    } else if text == b"off".as_slice() {
-        Some(false)
-    } else {
-        None
-    }
+    either(text, b"on", true, b"off", false)
 }
 
-/// `icp` or `htcp`.
+/// Parses `icp` or `htcp`.
 pub(crate) fn socket(text: &[u8]) -> Option<Socket>
     ensures { result ≡ socket text.now }
 {
-    if text == b"icp".as_slice() {
-        Some(Socket::Icp)
-    } else if text == b"htcp".as_slice() {
-        Some(Socket::Htcp)
-    } else {
-        None
-    }
+    either(text, b"icp", Socket::Icp, b"htcp", Socket::Htcp)
 }
 
-/// `sibling` or `parent`.
+/// Parses `sibling` or `parent`.
 pub(crate) fn role(text: &[u8]) -> Option<Role>
     ensures { result ≡ role text.now }
 {
-    if text == b"sibling".as_slice() {
-        Some(Role::Sibling)
-    } else if text == b"parent".as_slice() {
-        Some(Role::Parent)
-    } else {
-        None
-    }
+    either(text, b"sibling", Role::Sibling, b"parent", Role::Parent)
 }
 
-/// `shared`, `cached` or `private`.
+/// Parses `shared`, `cached` or `private`.
 pub(crate) fn mode(text: &[u8]) -> Option<Mode>
     ensures { result ≡ mode text.now }
 {

@@ -1,4 +1,4 @@
-//! What the words of a line say.
+//! Turns the words of a line into an item, by their number and the first word.
 ghost use Rattle.std.specs.Prelude.{◌≡◌, IfOk, map};
 ghost use Rattle.script_lines.specs.Item.{script_line_of, IsShort};
 ghost use Rattle.script_lines.specs.ScriptLine.{one_word, two_words, three_words, four_words, five_words, seven_words, eight_words, line_of_fields};
@@ -137,7 +137,7 @@ fn eight_words(
     }
 }
 
-/// What the words of a line say.
+/// Turns the words of a line into an item; [`Item::Wrong`] if no line of the format has these words. Errors: out of memory.
 pub(crate) fn line_of(alloc: Global, fields: &[&[u8]]) -> Result<Item, AllocError>
     ensures line { IfOk result (λ item. script_line_of item ≡ line_of_fields (map (λ x. x.now) fields.now)) }
     ensures short { IfOk result (λ item. IsShort item) }

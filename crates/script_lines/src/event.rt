@@ -1,8 +1,9 @@
-//! The lines that tell of an event.
+//! Lines that describe an event.
 ghost use Rattle.std.specs.Prelude.{◌≡◌, IfOk, Some};
+ghost use Rattle.plain_node.specs.declared.event.Outcome.TheVariants.{Failed};
 ghost use Rattle.script_lines.specs.Words.{number, octets, end_at, socket, mode, key, object, moment, client_number};
 ghost use Rattle.script_lines.specs.Item.{script_line_of, IsShort};
-ghost use Rattle.script_lines.specs.ScriptLine.{timer_line, gone_line, program_line, swap_line, neighbour_swap_line, failed_line, datagram_line, request_line, object_line};
+ghost use Rattle.script_lines.specs.ScriptLine.{timer_line, gone_line, program_line, swap_line, neighbour_swap_line, fetched_line, datagram_line, request_line, object_line};
 
 use super::address::read_end;
 use super::choice::{mode, socket};
@@ -41,7 +42,7 @@ pub(crate) fn gone_item(a: &[u8]) -> Item
     }
 }
 
-// A program that is put into a slot, or refused.
+// A program to install in a slot, or its refusal by the checker.
 fn program_item(alloc: Global, slot: Slot, insns: Vec<Insn>) -> Result<Item, AllocError>
     ensures line { IfOk result (λ item. script_line_of item ≡ program_line slot (Some insns.items)) }
     ensures short { IfOk result (λ item. IsShort item) }
@@ -55,7 +56,7 @@ fn program_item(alloc: Global, slot: Slot, insns: Vec<Insn>) -> Result<Item, All
     }
 }
 
-/// `off` or a program, for a slot if that is there.
+/// `off` or a program, for a slot; [`Item::Wrong`] if the slot is `None`.
 pub(crate) fn swap_item(alloc: Global, slot: Option<Slot>, b: &[u8]) -> Result<Item, AllocError>
     ensures line { IfOk result (λ item. script_line_of item ≡ swap_line slot b.now) }
     ensures short { IfOk result (λ item. IsShort item) }
@@ -75,7 +76,7 @@ pub(crate) fn swap_item(alloc: Global, slot: Option<Slot>, b: &[u8]) -> Result<I
     }
 }
 
-/// `s peer <neighbour> off`, `s peer <neighbour> <program>`, of the words behind the first.
+/// `s peer <neighbour> off`, `s peer <neighbour> <program>`: the words after `s`.
 pub(crate) fn neighbour_swap_item(
     alloc: Global,
     a: &[u8],
@@ -92,20 +93,28 @@ pub(crate) fn neighbour_swap_item(
     }
 }
 
-/// `x <fetch> <attempt> <now>`.
-pub(crate) fn failed_item(a: &[u8], b: &[u8], c: &[u8]) -> Item
-    ensures line { script_line_of result ≡ failed_line (number 4294967295 a.now) (number 65535 b.now) (moment c.now) }
+// The end of a fetch attempt: fetch number, attempt number, outcome and moment.
+fn fetched_item(a: &[u8], b: &[u8], outcome: Outcome, c: &[u8]) -> Item
+    ensures line { script_line_of result ≡ fetched_line (number 4294967295 a.now) (number 65535 b.now) outcome (moment c.now) }
     ensures short { IsShort result }
 {
     match (word(a), half(b), moment(c)) {
         (Some(fetch), Some(attempt), Some(now)) => Item::Take(Event::Fetched {
             fetch,
             attempt,
-            result: Outcome::Failed,
+            result: outcome,
             now,
         }),
         _ => Item::Wrong,
     }
+}
+
+/// `x <fetch> <attempt> <now>`.
+pub(crate) fn failed_item(a: &[u8], b: &[u8], c: &[u8]) -> Item
+    ensures line { script_line_of result ≡ fetched_line (number 4294967295 a.now) (number 65535 b.now) Failed (moment c.now) }
+    ensures short { IsShort result }
+{
+    fetched_item(a, b, Outcome::Failed, c)
 }
 
 /// `d icp|htcp <from> <octets> <now>`.
@@ -167,7 +176,7 @@ pub(crate) fn request_item(
     }))
 }
 
-// An object of its life, age, status and octets. Its head is empty.
+// An object from its lifetime and age (seconds), status and body (hexadecimal). Its head is empty.
 fn object(
     alloc: Global,
     a: &[u8],
@@ -189,22 +198,6 @@ fn object(
     Ok(Some(SharedObject::new(alloc, object)?))
 }
 
-// The object of an attempt of a fetch.
-fn fetched_item(a: &[u8], b: &[u8], object: Option<SharedObject>, g: &[u8]) -> Item
-    ensures line { script_line_of result ≡ object_line (number 4294967295 a.now) (number 65535 b.now) object (moment g.now) }
-    ensures short { IsShort result }
-{
-    match (word(a), half(b), object, moment(g)) {
-        (Some(fetch), Some(attempt), Some(object), Some(now)) => Item::Take(Event::Fetched {
-            fetch,
-            attempt,
-            result: Outcome::Object(object),
-            now,
-        }),
-        _ => Item::Wrong,
-    }
-}
-
 /// `f <fetch> <attempt> <life> <age> <status> <octets> <now>`.
 pub(crate) fn object_item(
     alloc: Global,
@@ -220,6 +213,8 @@ pub(crate) fn object_item(
         ≡ object_line (number 4294967295 a.now) (number 65535 b.now) (object c.now d.now e.now f.now) (moment g.now)) }
     ensures short { IfOk result (λ item. IsShort item) }
 {
-    let object = object(alloc, c, d, e, f)?;
-    Ok(fetched_item(a, b, object, g))
+    match object(alloc, c, d, e, f)? {
+        Some(object) => Ok(fetched_item(a, b, Outcome::Object(object), g)),
+        None => Ok(Item::Wrong),
+    }
 }

@@ -1,50 +1,50 @@
-//! What one line of a script says.
+//! A parsed line of a script.
 
 use bpf_check::CheckFault;
 use filter_slots::{End, Moment, Slot, Socket};
 use neighbours::{Key, Neighbour};
 use node_core::{Event, Network};
 
-/// What one line of a script says.
+/// A parsed line of a script.
 #[derive(Drop)]
 pub enum Item {
-    /// The own address of both sockets.
+    /// Sets the address of both of the node's sockets.
     Own([u8; 4]),
-    /// A network more whose queries are answered.
+    /// Adds a network whose queries are answered.
     Allow(Network),
-    /// Whether MISS_NOFETCH is answered in place of MISS.
+    /// Sets whether the node answers MISS_NOFETCH instead of MISS.
     NoFetch(bool),
-    /// Whether objects are fetched from origins.
+    /// Sets whether the node fetches from origin servers.
     Origin(bool),
-    /// The most entries and octets of the store.
+    /// Sets the capacity of the store, in entries and octets.
     Limits {
         entries: u32,
         octets: u32,
     },
-    /// A signing key more.
+    /// Adds a signing key.
     AddKey(Key),
-    /// A neighbour more.
+    /// Adds a neighbour.
     AddNeighbour(Neighbour),
-    /// The start.
+    /// Starts the node.
     Go,
-    /// A datagram comes to the own end of a socket. Its payload has at most 65,507 octets.
+    /// A datagram arrives at the node's own endpoint for a socket. Its payload has at most 65,507 octets.
     Receive {
         socket: Socket,
         from: End,
         payload: Vec<u8>,
         now: Moment,
     },
-    /// An event that the line tells whole.
+    /// An event that the line describes in full.
     Take(Event),
-    /// A program for a slot that the checker refuses.
+    /// A program for a slot, rejected by the checker, with its first fault.
     Refuse {
         slot: Slot,
         fault: CheckFault,
     },
-    /// A question for the counters.
+    /// Asks for the counters.
     Ask,
     /// Nothing: the line is empty or a comment.
     Blank,
-    /// No line of the format.
+    /// Not a line of the format.
     Wrong,
 }

@@ -1,5 +1,9 @@
-//! What the lines of a script say. The way is one: the octets of a line, its words, and an item.
-//! Nothing is done here, and nothing is known of the lines before.
+//! Parses one line of a script for the node: a setting, an event or a question.
+//!
+//! The parser is stateless: [`read_line`] splits a line into words and turns them into an [`Item`]. Whether the line is allowed
+//! where it stands, and what it does, is the business of `feed_script`.
+//! Its contract says that the item is the reading (`script_line`) that the format gives for the octets of the line.
+//! Tested by: crates/test_scripts (through `feed_script`), must-fail edits.
 #![tactic(auto)]
 
 mod address;

@@ -1,4 +1,4 @@
-//! What a line says.
+//! Reading a line.
 ghost use Rattle.std.specs.Prelude.{◌≡◌, IfOk};
 ghost use Rattle.script_lines.specs.Item.{script_line_of, IsShort};
 ghost use Rattle.script_lines.specs.ScriptLine.{script_line};
@@ -8,12 +8,11 @@ use super::item::Item;
 use super::parts::parts_of;
 use std::alloc::{AllocError, Global};
 
-/// The most octets of a line, without its line break.
+/// Maximum length of a line in octets, without its line break.
 pub const LINE_LIMIT: usize = 262_144;
 
-/// What a line says, without its line break: an empty line and one that begins with `#` are
-/// [`Item::Blank`], a line over [`LINE_LIMIT`] octets and one that isn't of the format are
-/// [`Item::Wrong`]. An error says that there was no memory.
+/// Parses a line, given without its line break. An empty line or one that begins with `#` is [`Item::Blank`]; a line longer
+/// than [`LINE_LIMIT`] or not of the format is [`Item::Wrong`]. Errors: out of memory.
 pub fn read_line(alloc: Global, text: &[u8]) -> Result<Item, AllocError>
     ensures line { IfOk result (λ item. script_line_of item ≡ script_line text.now) }
     ensures short { IfOk result (λ item. IsShort item) }

@@ -1,4 +1,4 @@
-//! The words of a line that are octets: hexadecimal text, the name of a signing key, a key of the store.
+//! Words that are octets: hexadecimal text, the name of a signing key, a key of the store.
 ghost use Rattle.std.specs.Prelude.{◌≡◌, IfOk};
 ghost use Rattle.std.specs.Option.{option_map};
 ghost use Rattle.script_lines.specs.Words.{octets, name, key};
@@ -8,7 +8,7 @@ use neighbours::Octets;
 use object_store::{CacheKey, KeyFault};
 use std::alloc::{AllocError, Global};
 
-/// The octets that a hexadecimal text spells, none for `-`.
+/// Decodes hexadecimal text; `-` is the empty sequence. `None` if the text is empty or not hexadecimal. Errors: out of memory.
 pub(crate) fn octets(alloc: Global, text: &[u8]) -> Result<Option<Vec<u8>>, AllocError>
     ensures { IfOk result (λ o. option_map (λ v. v.items) o ≡ octets text.now) }
 {
@@ -25,7 +25,7 @@ pub(crate) fn octets(alloc: Global, text: &[u8]) -> Result<Option<Vec<u8>>, Allo
     }
 }
 
-/// Octets of their own.
+/// An owned copy of the octets. Errors: out of memory.
 pub(crate) fn owned(alloc: Global, text: &[u8]) -> Result<Vec<u8>, AllocError>
     ensures { IfOk result (λ v. v.items ≡ text.now) }
 {
@@ -34,7 +34,7 @@ pub(crate) fn owned(alloc: Global, text: &[u8]) -> Result<Vec<u8>, AllocError>
     Ok(octets)
 }
 
-/// The name of a key, none for `-`.
+/// An owned copy of a signing key's name; `None` for `-`. Errors: out of memory.
 pub(crate) fn name(alloc: Global, text: &[u8]) -> Result<Option<Octets>, AllocError>
     ensures { IfOk result (λ o. o ≡ name text.now) }
 {
@@ -44,7 +44,7 @@ pub(crate) fn name(alloc: Global, text: &[u8]) -> Result<Option<Octets>, AllocEr
     Ok(Some(Octets::new(owned(alloc, text)?)))
 }
 
-/// A key of the store.
+/// Parses a key of the store; `None` if the text is not one. Errors: out of memory.
 pub(crate) fn key(alloc: Global, text: &[u8]) -> Result<Option<CacheKey>, AllocError>
     ensures { IfOk result (λ o. o ≡ key text.now) }
 {

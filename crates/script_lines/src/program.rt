@@ -1,14 +1,15 @@
-//! The program of a line, and what the checker says of it.
+//! Filter programs on a line, and their verdict by the checker.
 ghost use Rattle.std.specs.Prelude.{◌≡◌, IfOk, IfErr, Some, None, map};
 ghost use Rattle.std.specs.Option.{option_map};
 ghost use Rattle.script_lines.specs.Words.{insn, insn_of, insns_of, program};
-ghost use Rattle.bpf_check.specs.Refusal.{refusal};
+ghost use Rattle.bpf_check.specs.Refusal.{program_fault};
 
 use super::number::{half, octet, word};
 use super::parts::parts_of;
 use bpf_check::{CheckFault, Checked, Insn, check};
 use std::alloc::{AllocError, Global};
 
+// Parses an instruction from exactly four parts.
 fn insn_of(parts: &[&[u8]]) -> Option<Insn>
     ensures { result ≡ insn_of (map (λ x. x.now) parts.now) }
 {
@@ -21,7 +22,7 @@ fn insn_of(parts: &[&[u8]]) -> Option<Insn>
     }
 }
 
-// An instruction, as `21,0,1,1`.
+// Parses an instruction such as `21,0,1,1` (code, jt, jf, k).
 fn read_insn(alloc: Global, text: &[u8]) -> Result<Option<Insn>, AllocError>
     ensures { IfOk result (λ o. o ≡ insn text.now) }
 {
@@ -29,6 +30,7 @@ fn read_insn(alloc: Global, text: &[u8]) -> Result<Option<Insn>, AllocError>
     Ok(insn_of(parts.as_slice()))
 }
 
+// Parses each part as an instruction; `None` if one of them is malformed.
 fn insns_of(alloc: Global, parts: &[&[u8]]) -> Result<Option<Vec<Insn>>, AllocError>
     ensures { IfOk result (λ o. option_map (λ v. v.items) o ≡ insns_of (map (λ x. x.now) parts.now)) }
 {
@@ -42,7 +44,7 @@ fn insns_of(alloc: Global, parts: &[&[u8]]) -> Result<Option<Vec<Insn>>, AllocEr
     Ok(Some(insns))
 }
 
-/// The instructions of a program, with semicolons between them.
+/// Parses a program, its instructions separated by semicolons; `None` if one is malformed. Errors: out of memory.
 pub(crate) fn read_program(alloc: Global, text: &[u8]) -> Result<Option<Vec<Insn>>, AllocError>
     ensures { IfOk result (λ o. option_map (λ v. v.items) o ≡ program text.now) }
 {
@@ -50,10 +52,10 @@ pub(crate) fn read_program(alloc: Global, text: &[u8]) -> Result<Option<Vec<Insn
     insns_of(alloc, parts.as_slice())
 }
 
-/// The program, if the checker accepts it, and its first fault otherwise.
+/// Runs the checker on the program. Errors: the first fault of the program.
 pub(crate) fn judged(insns: Vec<Insn>) -> Result<Checked, CheckFault>
-    ensures accepted { IfOk result (λ checked. (checked ≡ insns.items) × (refusal insns.items ≡ None)) }
-    ensures refused { IfErr result (λ fault. refusal insns.items ≡ Some fault) }
+    ensures accepted { IfOk result (λ checked. (checked ≡ insns.items) × (program_fault insns.items ≡ None)) }
+    ensures refused { IfErr result (λ fault. program_fault insns.items ≡ Some fault) }
 {
     match check(insns) {
         Ok(checked) => Ok(checked),

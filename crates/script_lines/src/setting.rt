@@ -1,4 +1,4 @@
-//! The lines that set something.
+//! Lines that change a setting.
 ghost use Rattle.std.specs.Prelude.{◌≡◌, IfOk};
 ghost use Rattle.script_lines.specs.Words.{number, address, end_at, network, octets, switch, socket, role, name};
 ghost use Rattle.script_lines.specs.Item.{script_line_of, IsShort};

@@ -1,4 +1,4 @@
-//! The words of a line that name a filter's slot.
+//! Words that name a filter slot.
 ghost use Rattle.std.specs.Prelude.{◌≡◌};
 ghost use Rattle.script_lines.specs.Words.{number, socket, slot_of_socket, slot_of_neighbour};
 
@@ -6,7 +6,7 @@ use super::choice::socket;
 use super::number::word;
 use filter_slots::Slot;
 
-/// The slot of `icp` or `htcp`.
+/// The slot of the socket `icp` or `htcp`; `None` for any other word.
 pub(crate) fn socket_slot(text: &[u8]) -> Option<Slot>
     ensures { result ≡ slot_of_socket (socket text.now) }
 {
@@ -16,7 +16,7 @@ pub(crate) fn socket_slot(text: &[u8]) -> Option<Slot>
     }
 }
 
-/// The slot of the neighbour of a number.
+/// The slot of the neighbour with this index; `None` if the word is not a 32-bit number.
 pub(crate) fn neighbour_slot(text: &[u8]) -> Option<Slot>
     ensures { result ≡ slot_of_neighbour (number 4294967295 text.now) }
 {

@@ -1,21 +1,21 @@
-//! Why a configuration is refused.
+//! Why a configuration is rejected.
 use crate::place::Place;
 use std::alloc::{AllocError, Global};
 use std::fmt;
 
-/// Why a configuration is refused. It prints as the line `config fault <number>`, and, but for want of
-/// memory, a second line that says what is wrong and where.
+/// Why a configuration is rejected. It prints as the line `config fault <number>` and, except when out of memory, a second line
+/// that says what is wrong and where.
 #[derive(Debug, Drop)]
 pub enum Fault {
-    /// 1: it is not JSON. The line and the column, both from 1, at which the reader stood.
+    /// 1: not JSON. The line and column, both counted from 1, where the JSON parser stopped.
     Syntax { line: usize, column: usize },
-    /// 2: a key that isn't there, that nobody knows, or whose value is of another kind. What, and where.
+    /// 2: a missing key, an unknown key, or a value of the wrong kind. The message says which and where.
     Shape(String),
-    /// 3: a value that is of the right kind, and not what may stand there. What, and where.
+    /// 3: a value of the right kind that is not allowed there. The message says which and where.
     Value(String),
-    /// 4: a socket can't be bound. The key of its port.
+    /// 4: a socket cannot be bound. The configuration key of its port.
     Socket { key: &'static str },
-    /// 5: there was no memory.
+    /// 5: out of memory.
     Memory,
 }
 
@@ -31,7 +31,7 @@ impl Fault {
         }
     }
 
-    /// A fault of kind or of a key that is missing or unknown.
+    /// A missing or unknown key, or a value of the wrong kind.
     pub(crate) fn shape(alloc: Global, place: Place<'_>, what: &str) -> Fault {
         match format!(in alloc; "{place}: {what}") {
             Ok(text) => Fault::Shape(text),
@@ -39,7 +39,7 @@ impl Fault {
         }
     }
 
-    /// An unknown key of the object at this place.
+    /// An unknown key of the object at this location. The key is quoted.
     pub(crate) fn unknown(alloc: Global, place: Place<'_>, key: &str) -> Fault {
         match format!(in alloc; "{place}: the key {key:?} is unknown") {
             Ok(text) => Fault::Shape(text),
@@ -47,7 +47,7 @@ impl Fault {
         }
     }
 
-    /// A fault of a value.
+    /// A value that is not allowed.
     pub(crate) fn value(alloc: Global, place: Place<'_>, what: &str) -> Fault {
         match format!(in alloc; "{place}: {what}") {
             Ok(text) => Fault::Value(text),
@@ -55,7 +55,7 @@ impl Fault {
         }
     }
 
-    /// A fault of a value that is a text, which is shown.
+    /// A string that is not allowed. The string is quoted.
     pub(crate) fn text(alloc: Global, place: Place<'_>, text: &str, what: &str) -> Fault {
         match format!(in alloc; "{place}: {text:?} {what}") {
             Ok(text) => Fault::Value(text),
@@ -63,7 +63,7 @@ impl Fault {
         }
     }
 
-    /// A fault of a number, which is shown as it is written beside the bound that it passes.
+    /// A number out of range: its text, the side (`above` or `below`), and the bound.
     pub(crate) fn bound(
         alloc: Global,
         place: Place<'_>,

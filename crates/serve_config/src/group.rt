@@ -1,19 +1,25 @@
 //! The neighbours and the signing keys.
+ghost use Rattle.std.specs.Prelude.{◌≤◌, All, IfOk, length};
+ghost use Rattle.serve_config.specs.Group.{IsReachable, IsSecret};
+
 use crate::fault::Fault;
 use crate::place::Place;
 use crate::shape::items;
-use crate::value::{address, number, port, text};
+use crate::value::{address, number, peer_port, text};
 use hex::FromHexError;
 use neighbours::{End, Key, Neighbour, Octets, Role, Socket};
 use serde_json::Value;
 use std::alloc::{AllocError, Global};
 
-/// The signing keys, each with a name of its own.
-pub(crate) fn keys(alloc: Global, value: &Value) -> Result<Vec<Key>, Fault> {
+/// The signing keys. Errors: a malformed key, an empty secret, or a name that occurs twice.
+pub(crate) fn keys(alloc: Global, value: &Value) -> Result<Vec<Key>, Fault>
+    ensures { IfOk result (λ keys. All IsSecret keys.items) }
+{
+    let items = items(value, "keys");
     let mut keys = Vec::new(alloc);
-    for (i, item) in items(value, "keys").iter().enumerate() {
+    for i in 0..items.len() {
         let place = Place::item("keys", i);
-        let key = key(alloc, item, place)?;
+        let key = key(alloc, &items[i], place)?;
         if is_key(keys.as_slice(), key.name.as_slice()) {
             return Err(Fault::value(alloc, place.key("name"), "the name of an earlier key"));
         }
@@ -22,8 +28,10 @@ pub(crate) fn keys(alloc: Global, value: &Value) -> Result<Vec<Key>, Fault> {
     Ok(keys)
 }
 
-// One signing key.
-fn key(alloc: Global, item: &Value, place: Place<'_>) -> Result<Key, Fault> {
+// Parses one signing key.
+fn key(alloc: Global, item: &Value, place: Place<'_>) -> Result<Key, Fault>
+    ensures { IfOk result (λ key. IsSecret key) }
+{
     let name = text(alloc, item, place.key("name"))?;
     if name.is_empty() || name.len() > 255 {
         return Err(Fault::text(
@@ -42,31 +50,37 @@ fn key(alloc: Global, item: &Value, place: Place<'_>) -> Result<Key, Fault> {
     Ok(Key { name, secret })
 }
 
-// The octets of a secret. It is not shown.
-fn secret(alloc: Global, text: &str, place: Place<'_>) -> Result<Octets, Fault> {
+// Decodes a secret of at least one octet from hexadecimal. An error message does not contain its text.
+fn secret(alloc: Global, text: &str, place: Place<'_>) -> Result<Octets, Fault>
+    ensures { IfOk result (λ secret. 1 ≤ length secret) }
+{
     match hex::decode(alloc, text.as_bytes()) {
+        Ok(octets) if octets.is_empty() => Err(Fault::value(alloc, place, "empty")),
         Ok(octets) => Ok(Octets::new(octets)),
         Err(FromHexError::OutOfMemory) => Err(Fault::Memory),
         Err(_) => Err(Fault::value(alloc, place, "not hexadecimal")),
     }
 }
 
-// Whether a key of this name is there.
+// Whether there is a key with this name.
 fn is_key(keys: &[Key], name: &[u8]) -> bool {
     keys.iter().any(|key| key.name.as_slice() == name)
 }
 
-/// The neighbours: at most 64, no two with one address and port, each key known.
+/// The neighbours. Errors: a malformed neighbour, address 0.0.0.0 or a port 0, the same address and query port twice, the name of
+/// an unknown key, or more than 64 neighbours.
 pub(crate) fn neighbours(
     alloc: Global,
     value: &Value,
     keys: &[Key],
-) -> Result<Vec<Neighbour>, Fault> {
+) -> Result<Vec<Neighbour>, Fault>
+    ensures { IfOk result (λ neighbours. All IsReachable neighbours.items) }
+{
     let items = items(value, "neighbours");
     let mut neighbours = Vec::new(alloc);
-    for (i, item) in items.iter().enumerate() {
+    for i in 0..items.len() {
         let place = Place::item("neighbours", i);
-        let neighbour = neighbour(alloc, item, place, keys)?;
+        let neighbour = neighbour(alloc, &items[i], place, keys)?;
         if has_end(neighbours.as_slice(), neighbour.end) {
             return Err(Fault::value(
                 alloc,
@@ -82,32 +96,34 @@ pub(crate) fn neighbours(
     Ok(neighbours)
 }
 
-// Whether a neighbour has this address and port.
+// Whether some neighbour has this address and query port.
 fn has_end(neighbours: &[Neighbour], end: End) -> bool {
     neighbours.iter().any(|neighbour| neighbour.end == end)
 }
 
-// One neighbour.
+// Parses one neighbour.
 fn neighbour(
     alloc: Global,
     item: &Value,
     place: Place<'_>,
     keys: &[Key],
-) -> Result<Neighbour, Fault> {
+) -> Result<Neighbour, Fault>
+    ensures { IfOk result (λ neighbour. IsReachable neighbour) }
+{
     Ok(Neighbour {
         kind: role(alloc, item, place.key("kind"))?,
         protocol: protocol(alloc, item, place.key("protocol"))?,
         end: End {
             addr: address(alloc, item, place.key("address"))?,
-            port: port(alloc, item, place.key("query_port"))?,
+            port: peer_port(alloc, item, place.key("query_port"))?,
         },
-        http_port: port(alloc, item, place.key("http_port"))?,
+        http_port: peer_port(alloc, item, place.key("http_port"))?,
         weight: number(alloc, item, place.key("weight"), 1, 100)? as u32,
         key: key_name(alloc, item, place.key("key"), keys)?,
     })
 }
 
-// What a neighbour is.
+// Parses the kind of a neighbour: `sibling` or `parent`.
 fn role(alloc: Global, item: &Value, place: Place<'_>) -> Result<Role, Fault> {
     match text(alloc, item, place)? {
         "sibling" => Ok(Role::Sibling),
@@ -116,7 +132,7 @@ fn role(alloc: Global, item: &Value, place: Place<'_>) -> Result<Role, Fault> {
     }
 }
 
-// How a neighbour is asked.
+// Parses the query protocol of a neighbour: `icp` or `htcp`.
 fn protocol(alloc: Global, item: &Value, place: Place<'_>) -> Result<Socket, Fault> {
     match text(alloc, item, place)? {
         "icp" => Ok(Socket::Icp),
@@ -125,7 +141,7 @@ fn protocol(alloc: Global, item: &Value, place: Place<'_>) -> Result<Socket, Fau
     }
 }
 
-// The name of a neighbour's key, which has to be there.
+// The name of a neighbour's key, which must be one of `keys`; `None` if it is empty.
 fn key_name(
     alloc: Global,
     item: &Value,

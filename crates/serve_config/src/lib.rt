@@ -1,9 +1,14 @@
-//! The configuration of `serve`: one JSON object with exactly the known keys, read into settings, or
-//! what is wrong with it and where.
+//! The configuration of `serve`: a JSON object with exactly the known keys, parsed into [`Settings`], or a [`Fault`] that says
+//! what is wrong and where.
+//!
+//! The contract of [`Settings::read`] gives the ranges of the numbers that other crates rely on, and what holds of the neighbours
+//! and the signing keys of an accepted configuration (`specs/Group.antt`); keys, kinds and messages are only tested.
+//! Tested by: crates/test_http_rules, cases/serve, must-fail edits.
 #![tactic(auto)]
 
 mod fault;
 mod group;
+mod own;
 mod place;
 mod settings;
 mod shape;

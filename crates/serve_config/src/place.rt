@@ -1,8 +1,8 @@
-//! Where a value stands in a configuration.
+//! The location of a value in a configuration.
 use std::fmt;
 
-/// The place of a value: a key of the configuration, an item of one of its lists, or a key of such an
-/// item.
+/// The location of a value: a key of the configuration, an item of one of its lists, or a key of such an item. It prints as
+/// `key`, `list[0]` or `list[0].key`.
 #[derive(Clone, Copy)]
 pub(crate) struct Place<'a> {
     item: Option<(&'a str, usize)>,
@@ -26,7 +26,7 @@ impl<'a> Place<'a> {
         }
     }
 
-    /// A key of the object at this place.
+    /// A key of the object at this location.
     pub(crate) fn key(self, key: &'a str) -> Place<'a> {
         Place {
             item: self.item,
@@ -34,7 +34,7 @@ impl<'a> Place<'a> {
         }
     }
 
-    /// The name of the key.
+    /// The key; empty for the whole configuration or an item of a list.
     pub(crate) fn name(self) -> &'a str {
         self.key
     }

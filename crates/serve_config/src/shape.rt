@@ -1,4 +1,4 @@
-//! Whether a configuration has exactly its keys, each with a value of its kind.
+//! Checks that a configuration has exactly the known keys, each with a value of the right kind.
 use crate::fault::Fault;
 use crate::place::Place;
 use serde_json::{Map, Value};
@@ -13,7 +13,7 @@ pub(crate) enum Kind {
     List,
 }
 
-/// A key and the kind of its value.
+/// A known key and the kind of its value.
 type Known = (&'static str, Kind);
 
 /// The keys of a configuration.
@@ -61,8 +61,8 @@ impl Kind {
         }
     }
 
-    // What is wrong with a value of another kind.
-    fn refusal(self) -> &'static str {
+    // The message for a value of another kind.
+    fn mismatch(self) -> &'static str {
         match self {
             Kind::Text => "not a text",
             Kind::Number => "not a whole number",
@@ -72,13 +72,12 @@ impl Kind {
     }
 }
 
-// Whether a value is a number without a fraction, however large. Those past 64 bits are read as floats.
+// Whether a value is an integer of any size. The JSON parser reads those beyond 64 bits as floats.
 fn is_whole(value: &Value) -> bool {
     value.is_u64() || value.is_i64() || value.as_f64().is_some_and(|x| x >= 9.2e18 || x <= -9.2e18)
 }
 
-/// Checks the keys and kinds of a whole configuration. The first fault is told: of the configuration's
-/// own keys, then of its lists.
+/// Checks the keys and kinds of a whole configuration. Errors: the first fault, of the top-level keys before those of the lists.
 pub(crate) fn check(alloc: Global, value: &Value) -> Result<(), Fault> {
     check_object(alloc, value, Place::whole(), &TOP)?;
     for (i, network) in items(value, "allowed").iter().enumerate() {
@@ -101,7 +100,7 @@ pub(crate) fn items<'a>(object: &'a Value, key: &str) -> &'a [Value] {
     }
 }
 
-// Checks that a value is an object with exactly these keys.
+// Checks that a value is an object with exactly these keys, each with a value of its kind.
 fn check_object(
     alloc: Global,
     value: &Value,
@@ -117,7 +116,7 @@ fn check_object(
     check_known(alloc, members, place, known)
 }
 
-// Checks that there are no keys but these.
+// Checks that there are no keys other than these.
 fn check_known(
     alloc: Global,
     members: &Map<String, Value>,
@@ -132,7 +131,7 @@ fn check_known(
     Ok(())
 }
 
-// A key that is not known. One that would not print on a line of its own is quoted.
+// The fault for an unknown key. The key is quoted if it is empty or has an octet other than visible ASCII.
 fn unknown(alloc: Global, place: Place<'_>, key: &str) -> Fault {
     if !key.is_empty() && key.bytes().all(|c| 0x21 <= c && c <= 0x7e) {
         Fault::shape(alloc, place.key(key), "unknown")
@@ -141,12 +140,12 @@ fn unknown(alloc: Global, place: Place<'_>, key: &str) -> Fault {
     }
 }
 
-// Whether a key is one of these.
+// Whether a key is one of the known keys.
 fn is_known(key: &str, known: &[Known]) -> bool {
     known.iter().any(|(word, _)| *word == key)
 }
 
-// Checks that a value is there and of this kind.
+// Checks that a value is present and of this kind.
 fn check_kind(
     alloc: Global,
     value: Option<&Value>,
@@ -156,6 +155,6 @@ fn check_kind(
     match value {
         None => Err(Fault::shape(alloc, place, "missing")),
         Some(value) if kind.fits(value) => Ok(()),
-        Some(_) => Err(Fault::shape(alloc, place, kind.refusal())),
+        Some(_) => Err(Fault::shape(alloc, place, kind.mismatch())),
     }
 }

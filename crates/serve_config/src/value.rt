@@ -1,5 +1,6 @@
-//! The values of a configuration.
-ghost use Rattle.std.specs.Prelude.{◌≤◌, IfOk};
+//! Parsing single values of a configuration.
+ghost use Rattle.std.specs.Prelude.{◌≡◌, ◌≤◌, IfOk, true};
+ghost use Rattle.serve_config.specs.Addresses.{is_host};
 
 use crate::fault::Fault;
 use crate::place::Place;
@@ -8,7 +9,7 @@ use serde_json::Value;
 use std::alloc::{AllocError, Global};
 use std::net::Ipv4Addr;
 
-/// A text of an object.
+/// The string at this key of an object.
 pub(crate) fn text<'a>(
     alloc: Global,
     object: &'a Value,
@@ -20,7 +21,7 @@ pub(crate) fn text<'a>(
     }
 }
 
-/// A truth value of an object.
+/// The Boolean at this key of an object.
 pub(crate) fn truth(alloc: Global, object: &Value, place: Place<'_>) -> Result<bool, Fault> {
     match object.get(place.name()).and_then(Value::as_bool) {
         Some(truth) => Ok(truth),
@@ -28,7 +29,7 @@ pub(crate) fn truth(alloc: Global, object: &Value, place: Place<'_>) -> Result<b
     }
 }
 
-/// A number of an object, within its range.
+/// The integer at this key of an object, from `least` to `most`. Errors: missing or out of range.
 pub(crate) fn number(
     alloc: Global,
     object: &Value,
@@ -47,7 +48,7 @@ pub(crate) fn number(
     }
 }
 
-// What is wrong with a number outside of its range.
+// The fault for a number outside its range.
 fn out_of_range(alloc: Global, value: &Value, place: Place<'_>, least: u64, most: u64) -> Fault {
     let Ok(text) = shown(alloc, value) else {
         return Fault::Memory;
@@ -63,7 +64,7 @@ fn out_of_range(alloc: Global, value: &Value, place: Place<'_>, least: u64, most
     }
 }
 
-// A number as it is written, but one of over 64 bits, of which not all digits are kept.
+// The text of a number. Beyond 64 bits the JSON parser does not keep all digits, so a description stands for the number.
 fn shown(alloc: Global, value: &Value) -> Result<String, AllocError> {
     if value.is_f64() {
         String::from_str(alloc, "a number of over 64 bits")
@@ -72,21 +73,41 @@ fn shown(alloc: Global, value: &Value) -> Result<String, AllocError> {
     }
 }
 
-/// A port of an object.
+/// The port number at this key of an object, 0 to 65,535.
 pub(crate) fn port(alloc: Global, object: &Value, place: Place<'_>) -> Result<u16, Fault> {
     Ok(number(alloc, object, place, 0, 65_535)? as u16)
 }
 
-/// An address of an object, as `10.0.0.1`.
-pub(crate) fn address(alloc: Global, object: &Value, place: Place<'_>) -> Result<[u8; 4], Fault> {
-    let text = text(alloc, object, place)?;
-    match text.parse::<Ipv4Addr>() {
-        Ok(address) => Ok(address.octets()),
-        Err(_) => Err(Fault::text(alloc, place, text, "is no address")),
-    }
+/// The port number of a neighbour at this key of an object, 1 to 65,535.
+pub(crate) fn peer_port(alloc: Global, object: &Value, place: Place<'_>) -> Result<u16, Fault>
+    ensures { IfOk result (λ n. 1 ≤ n) }
+{
+    Ok(number(alloc, object, place, 1, 65_535)? as u16)
 }
 
-/// A network, as `10.0.0.0/8`.
+/// The IPv4 address of a host at this key of an object, such as `10.0.0.1`. Errors: malformed, or 0.0.0.0.
+pub(crate) fn address(alloc: Global, object: &Value, place: Place<'_>) -> Result<[u8; 4], Fault>
+    ensures { IfOk result (λ address. is_host address ≡ true) }
+{
+    let text = text(alloc, object, place)?;
+    let Ok(address) = text.parse::<Ipv4Addr>() else {
+        return Err(Fault::text(alloc, place, text, "is no address"));
+    };
+    let octets = address.octets();
+    if !is_host(octets) {
+        return Err(Fault::text(alloc, place, text, "is the address of no host"));
+    }
+    Ok(octets)
+}
+
+// Whether an address is that of a host: any but 0.0.0.0.
+fn is_host(address: [u8; 4]) -> bool
+    ensures { result ≡ is_host address }
+{
+    address != [0, 0, 0, 0]
+}
+
+/// Parses a network such as `10.0.0.0/8`.
 pub(crate) fn network(alloc: Global, value: &Value, place: Place<'_>) -> Result<Network, Fault> {
     let Some(text) = value.as_str() else {
         return Err(Fault::shape(alloc, place, "not a text"));
@@ -97,7 +118,7 @@ pub(crate) fn network(alloc: Global, value: &Value, place: Place<'_>) -> Result<
     }
 }
 
-// The network that a text spells.
+// Parses the text of a network; `None` if it is malformed.
 fn network_of(text: &str) -> Option<Network> {
     let (address, bits) = text.split_once('/')?;
     let addr = address.parse::<Ipv4Addr>().ok()?.octets();
@@ -112,7 +133,7 @@ fn network_of(text: &str) -> Option<Network> {
     }
 }
 
-/// A name of visible ASCII.
+/// The non-empty string of visible ASCII at this key of an object.
 pub(crate) fn visible<'a>(
     alloc: Global,
     object: &'a Value,

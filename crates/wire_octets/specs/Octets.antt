@@ -1,5 +1,5 @@
--- Octets, and a number that stands in front of them with its highest octet first. The octets of a number, and
--- the number in the first octets, are those of the crate byteorder: big_bytes and big_number.
+-- Big-endian numbers at the front of lists of octets. The encoding itself is that of the crate byteorder: big_bytes gives the
+-- octets of a number, and big_number the value of the first octets.
 use Rattle.std.specs.Prelude.{◌≡◌, ℕ, ◌<◌, ◌≤◌, List, length, drop, get_or}
 use Rattle.byteorder.specs.Endian.{big_number}
 
@@ -7,7 +7,7 @@ use Rattle.byteorder.specs.Endian.{big_number}
 abbrev pub IsOctets : List ℕ → Type 0
 IsOctets xs = (i : ℕ) → get_or xs i 0 < 256
 
--- the number in the first n octets, and what is behind them
+-- the first n octets are the number, and `rest` is what follows them
 pub record IsInFront (n : ℕ) (octets : List ℕ) (number : ℕ) (rest : List ℕ) : Type 0 where
   pub whole : n ≤ length octets
   pub number_is : number ≡ big_number n octets

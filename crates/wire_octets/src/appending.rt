@@ -1,4 +1,4 @@
-//! Numbers appended to octets, the highest octet first.
+//! Appends big-endian numbers to buffers.
 
 ghost use Rattle.std.specs.Prelude.{◌≡◌, ◌+◌, ◌<◌, ◌≤◌, ◌++◌, OnOk, OnErr, vec_len, vec_capacity};
 ghost use Rattle.byteorder.specs.Endian.{big_bytes};
@@ -6,7 +6,7 @@ ghost use Rattle.byteorder.specs.Endian.{big_bytes};
 use byteorder::{BigEndian, ByteOrder};
 use std::alloc::AllocError;
 
-/// Appends the two octets of `n`. An error says that there was no memory for them, and leaves `out` as it was.
+/// Appends `n` as two octets in network order. Errors: out of memory, with the contents of `out` unchanged.
 #[inline]
 pub fn put_u16(out: &mut Vec<u8>, n: u16) -> Result<(), AllocError>
     ensures appended { OnOk result (out.new.items ≡ out.old.items ++ big_bytes 2 n) }
@@ -19,7 +19,7 @@ pub fn put_u16(out: &mut Vec<u8>, n: u16) -> Result<(), AllocError>
     out.extend_from_slice(&octets)
 }
 
-/// Appends the four octets of `n`. An error says that there was no memory for them, and leaves `out` as it was.
+/// Appends `n` as four octets in network order. Errors: out of memory, with the contents of `out` unchanged.
 #[inline]
 pub fn put_u32(out: &mut Vec<u8>, n: u32) -> Result<(), AllocError>
     ensures appended { OnOk result (out.new.items ≡ out.old.items ++ big_bytes 4 n) }

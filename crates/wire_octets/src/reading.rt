@@ -1,4 +1,4 @@
-//! Numbers in front of octets, the highest octet first.
+//! Reads big-endian numbers from the front of slices.
 
 ghost use Rattle.std.specs.Prelude.{◌≡◌, ◌<◌, ◌≤◌, ◌++◌, length, drop, MatchOption, IfSome};
 ghost use Rattle.byteorder.specs.Endian.{big_bytes, big_number};
@@ -6,7 +6,7 @@ ghost use Rattle.wire_octets.specs.Octets.{IsInFront};
 
 use byteorder::{BigEndian, ByteOrder};
 
-/// The number in the first two octets, and the octets behind them. `None` where there are fewer.
+/// The number in the first two octets, and the octets after them, or `None` if there are fewer than two.
 #[inline]
 pub fn split_u16(octets: &[u8]) -> Option<(u16, &[u8])>
     ensures { MatchOption result (length octets.now < 2) (λ x. IsInFront 2 octets.now x.0 x.1.now) }
@@ -18,7 +18,7 @@ pub fn split_u16(octets: &[u8]) -> Option<(u16, &[u8])>
     Some((BigEndian::read_u16(front), rest))
 }
 
-/// The number in the first four octets, and the octets behind them. `None` where there are fewer.
+/// The number in the first four octets, and the octets after them, or `None` if there are fewer than four.
 #[inline]
 pub fn split_u32(octets: &[u8]) -> Option<(u32, &[u8])>
     ensures { MatchOption result (length octets.now < 4) (λ x. IsInFront 4 octets.now x.0 x.1.now) }

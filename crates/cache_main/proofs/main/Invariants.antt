@@ -1,4 +1,4 @@
--- The ledger that the proxy's seats count with.
+-- The ledger with a part for each thread that submits events.
 use Rattle.cache_main.proofs.main.Given as goal
 
 abbrev pub ghosts-run_serve : goal.ghosts-run_serve

@@ -1,4 +1,4 @@
-//! Keys, digests, limits, and one table of calls on the store and on its plain twin.
+//! Tests of keys, digests and limits, and of the store against a reference implementation.
 
 ghost use Rattle.std.specs.Prelude.{◌≡◌, is_some};
 ghost use Rattle.object_store.specs.Store.{after_get, fresh_at};
@@ -14,7 +14,7 @@ fn key(alloc: Global, text: &str) -> Result<CacheKey, Fail> {
     CacheKey::new(alloc, octets).map_err(|_| "no key".into())
 }
 
-// An entry of so many octets of body, with no head.
+// An entry with a body of `body` octets and no head.
 fn entry(alloc: Global, body: usize, life: u32, at: u64) -> Result<Entry, Fail> {
     let body = vec![in alloc; 7u8; body]?;
     let object = Object::new(200, Vec::new(alloc), body, 0, life);
@@ -24,7 +24,7 @@ fn entry(alloc: Global, body: usize, life: u32, at: u64) -> Result<Entry, Fail> 
     })
 }
 
-// What a caller of `get` knows.
+// Proves what a caller of `get` knows after the loan has ended.
 fn touches(store: &mut Store, key: &CacheKey, now: Moment) -> bool
     ensures found { result ≡ is_some (fresh_at key.now now store.old) }
     ensures changed { store.new ≡ after_get key.now now store.old }
@@ -32,7 +32,7 @@ fn touches(store: &mut Store, key: &CacheKey, now: Moment) -> bool
     store.get(key, now).is_some()
 }
 
-// Whether these octets are refused as no key, and given back.
+// Whether the octets are rejected as a key, and returned.
 fn is_given_back(alloc: Global, text: &str) -> Result<bool, Fail> {
     let octets = text.as_bytes().to_vec(alloc)?;
     match CacheKey::new(alloc, octets) {
@@ -60,7 +60,7 @@ fn what_is_no_key(rt: HostRuntime) -> Result<(), Fail> {
     Ok(())
 }
 
-// Whether there is a key of so many octets.
+// Whether a key of this length is accepted.
 fn is_key(alloc: Global, length: usize) -> Result<bool, Fail> {
     let mut octets = b"http://!~".to_vec(alloc)?;
     octets.resize(length, 0x61)?;
@@ -95,7 +95,7 @@ fn digests(rt: HostRuntime) -> Result<(), Fail> {
     Ok(())
 }
 
-// What another owner of an object has of it.
+// A second reference shows the same object.
 #[test]
 fn sharing(rt: HostRuntime) -> Result<(), Fail> {
     let shared = SharedObject::new(rt.alloc(), greeting(rt.alloc())?)?;
@@ -130,7 +130,7 @@ fn limits(rt: HostRuntime) -> Result<(), Fail> {
     Ok(())
 }
 
-// A call of a store.
+// A call on a store.
 #[derive(Clone, Copy)]
 enum Call {
     Put,
@@ -140,11 +140,11 @@ enum Call {
     Remove,
 }
 
-// What a call answers: the octets of a body, a fault, or nothing.
+// The result of a call: the length of a body, a fault, or nothing.
 type Answer = Result<Option<usize>, PutFault>;
 
-// A call, its key, for a put the octets of the body and the life, the moment, the answer, and the
-// keys after it, the most recently used first.
+// A call, its key, for `Put` the length of the body and the life, the time, the expected result, and the expected keys
+// afterwards, the most recently used first.
 type Row = (Call, &'static str, usize, u32, u64, Answer, &'static str);
 
 fn body_of(entry: Option<&Entry>) -> Answer {
@@ -181,7 +181,7 @@ fn on_plain(store: &mut PlainStore, call: Call, key: CacheKey, entry: Entry) -> 
     }
 }
 
-// A store and its twin, which are to answer alike and hold the same pairs.
+// A store and the reference implementation. Both must return the same and hold the same pairs.
 #[derive(Drop)]
 struct Twins {
     store: Store,
@@ -196,7 +196,7 @@ impl Twins {
         })
     }
 
-    // The answer of both, if it is one.
+    // Makes the call on both, and returns their common result. Fails if they differ.
     fn call(&mut self, alloc: Global, row: Row) -> Result<Answer, Fail> {
         let (call, name, body, life, at, _, _) = row;
         let first = key(alloc, name)?;
@@ -210,14 +210,14 @@ impl Twins {
         Ok(answer)
     }
 
-    // Whether a row's answer is what both say, and its keys are what both hold then.
+    // Whether both return the expected result and then hold the expected keys.
     fn follow(&mut self, alloc: Global, row: Row) -> Result<bool, Fail> {
         let answer = self.call(alloc, row)?;
         let keys = self.keys(alloc)?;
         Ok(answer == row.5 && keys.as_slice() == row.6.as_bytes())
     }
 
-    // The eighth octets of the keys of both, the most recently used first, if they are the same.
+    // The eighth octets of all keys, the most recently used first. Fails if the stores hold different keys.
     fn keys(&self, alloc: Global) -> Result<Vec<u8>, Fail> {
         let mut names = Vec::new(alloc);
         let mut plain = self.plain.pairs().iter();
@@ -245,7 +245,7 @@ const C: &str = "http://c/";
 
 const D: &str = "http://d/";
 
-// Sizes of 60, 30 and 50 octets, within 10 entries and 100 octets.
+// Entries of 60, 30 and 50 octets, with limits of 10 entries and 100 octets.
 const BY_OCTETS: [Row; 16] = [
     (Call::Put, A, 51, 60, 1010, Ok(None), "a"),
     (Call::Put, B, 21, 60, 1010, Ok(None), "ba"),
@@ -256,7 +256,7 @@ const BY_OCTETS: [Row; 16] = [
     (Call::Holds, B, 0, 0, 0, Ok(Some(0)), "cb"),
     (Call::Peek, B, 0, 0, 1020, Ok(Some(21)), "cb"),
     (Call::Get, B, 0, 0, 1020, Ok(Some(21)), "bc"),
-    // stored at 1010 for 60 seconds
+    // stored at 1,010 ms with a life of 60 s
     (Call::Get, C, 0, 0, 61009, Ok(Some(41)), "cb"),
     (Call::Peek, B, 0, 0, 61010, Ok(None), "cb"),
     (Call::Holds, B, 0, 0, 0, Ok(Some(0)), "cb"),
@@ -266,7 +266,7 @@ const BY_OCTETS: [Row; 16] = [
     (Call::Remove, A, 0, 0, 0, Ok(Some(91)), ""),
 ];
 
-// Within 3 entries and 1,000 octets.
+// Limits of 3 entries and 1,000 octets.
 const BY_ENTRIES: [Row; 9] = [
     (Call::Put, A, 1, 60, 1010, Ok(None), "a"),
     (Call::Put, B, 1, 60, 1010, Ok(None), "ba"),
@@ -274,13 +274,13 @@ const BY_ENTRIES: [Row; 9] = [
     (Call::Get, A, 0, 0, 1020, Ok(Some(1)), "acb"),
     (Call::Put, D, 1, 60, 1010, Ok(None), "dac"),
     (Call::Get, B, 0, 0, 1020, Ok(None), "dac"),
-    // the new entry in the place of the old one, for no second
+    // replaces the old entry; a life of 0 s
     (Call::Put, C, 971, 0, 1010, Ok(None), "cda"),
     (Call::Put, C, 972, 0, 1010, Ok(None), "cd"),
     (Call::Get, C, 0, 0, 1010, Ok(None), "d"),
 ];
 
-// The place of the first row whose answer, or whose keys after it, are others than it says.
+// Index of the first row whose result or keys differ from the expected ones.
 fn first_wrong(alloc: Global, twins: &mut Twins, rows: &[Row]) -> Result<Option<usize>, Fail> {
     for (place, row) in rows.iter().enumerate() {
         if !twins.follow(alloc, *row)? {
@@ -309,20 +309,20 @@ fn calls_within_entries(rt: HostRuntime) -> Result<(), Fail> {
     Ok(())
 }
 
-// Whether an entry of so many octets of body is put under a name, at 1010 for a minute.
+// Whether an entry with a body of this length, stored at 1,010 ms with a life of 60 s, is accepted.
 fn is_put(alloc: Global, store: &mut Store, name: &str, body: usize) -> Result<bool, Fail> {
     let key = key(alloc, name)?;
     let entry = entry(alloc, body, 60, 1010)?;
     Ok(store.put(key, entry).is_ok())
 }
 
-// The octets of body of the entry that is removed under a name, if there is one.
+// Removes an entry, and returns the length of its body.
 fn removed(store: &mut Store, name: &str) -> Option<usize> {
     let entry = store.remove_octets(name.as_bytes())?;
     Some(entry.object.get().body().len())
 }
 
-// An entry that is no longer fresh is held until it is removed, by the octets of its key.
+// A stale entry stays in the store until it is removed by the octets of its key.
 #[test]
 fn stale_entries_are_held(rt: HostRuntime) -> Result<(), Fail> {
     let alloc = rt.alloc();
@@ -345,15 +345,15 @@ fn stale_entries_are_removed(rt: HostRuntime) -> Result<(), Fail> {
     assert!(rt; removed(&mut store, A) == Some(21));
     assert!(rt; !store.holds_octets(A.as_bytes()));
     assert!(rt; removed(&mut store, A).is_none());
-    // the octets that it had are free again
+    // its octets are free again
     assert!(rt; is_put(alloc, &mut store, B, 91)?);
     Ok(())
 }
 
-// The number of a key, and the octets of its pair.
+// The number of a key, and the size of its pair.
 type Plain = (u32, u64);
 
-// How many from the front on are within 2,000 pairs and so many octets.
+// Length of the longest prefix within 2,000 pairs and this many octets.
 fn front_of(list: &[Plain], octets: u64) -> usize {
     let mut room = octets;
     for (count, pair) in list.iter().enumerate() {
@@ -365,7 +365,7 @@ fn front_of(list: &[Plain], octets: u64) -> usize {
     list.len()
 }
 
-// The pair goes to the front of the list, and the last ones go out.
+// Inserts a pair at the front of the list, and evicts from the end.
 fn put_plain(list: &mut Vec<Plain>, pair: Plain, octets: u64) -> Result<(), Fail> {
     list.retain(|other| other.0 != pair.0);
     list.insert(0, pair)?;
@@ -379,7 +379,7 @@ fn numbered(alloc: Global, number: u32) -> Result<CacheKey, Fail> {
     key(alloc, name.as_str())
 }
 
-// A put under the key of the number, in the store and in the list.
+// Inserts a pair into both the store and the list.
 fn put_both(
     alloc: Global,
     store: &mut Store,
@@ -393,7 +393,7 @@ fn put_both(
     put_plain(list, pair, octets)
 }
 
-// Whether the store holds the pairs of the list in its order.
+// Whether the store holds the pairs of the list in the same order.
 fn is_list(alloc: Global, store: &Store, list: &[Plain]) -> Result<bool, Fail> {
     let mut pairs = store.pairs.iter();
     for pair in list {
@@ -408,8 +408,7 @@ fn is_list(alloc: Global, store: &Store, list: &[Plain]) -> Result<bool, Fail> {
     Ok(pairs.next().is_none())
 }
 
-// 4,000 puts at 3,000 keys into 2,000 entries, with evictions by the entries and by the octets,
-// against a plain list.
+// 4,000 insertions with 3,000 keys and a limit of 2,000 entries, compared to a list. Both limits evict.
 #[test]
 fn thousands(rt: HostRuntime) -> Result<(), Fail> {
     let alloc = rt.alloc();
@@ -426,7 +425,7 @@ fn thousands(rt: HostRuntime) -> Result<(), Fail> {
     Ok(())
 }
 
-// Whether a row holds, and then still for a copy that stays when the store has lost its pairs.
+// Whether a row holds, and a copy made after it keeps its pairs when the store loses its own.
 fn outlives(alloc: Global, twins: &mut Twins, row: Row) -> Result<bool, Fail> {
     let is_followed = twins.follow(alloc, row)?;
     let copy = twins.store.copy(alloc)?;
@@ -437,7 +436,7 @@ fn outlives(alloc: Global, twins: &mut Twins, row: Row) -> Result<bool, Fail> {
     Ok(is_followed && twins.keys(alloc)?.as_slice() == row.6.as_bytes())
 }
 
-// A copy holds the same pairs in the same order, and is changed alone.
+// A copy holds the same pairs in the same order, and is independent of the original.
 #[test]
 fn copied(rt: HostRuntime) -> Result<(), Fail> {
     let alloc = rt.alloc();

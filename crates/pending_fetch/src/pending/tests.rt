@@ -10,7 +10,7 @@ use object_store::CacheKey;
 use peer_select::Round;
 use std::alloc::{AllocError, Global};
 
-// One parent, which is up.
+// A table of one parent, which is up.
 fn table(alloc: Global) -> Result<Table, AllocError> {
     let mut list = Vec::new(alloc);
     list.push(Neighbour {
@@ -31,7 +31,7 @@ fn key(alloc: Global) -> Result<CacheKey, AllocError> {
     CacheKey::new(alloc, Vec::from_slice(alloc, b"http://a/")?).map_err(|_| AllocError)
 }
 
-// The first fetch, shared, which client 1 waits for; its round starts at 1000.
+// One shared fetch, number 1, with client 1 waiting; its round starts at 1000 ms.
 fn first(alloc: Global) -> Result<Pending, AllocError> {
     let table = table(alloc)?;
     let Some(start) = Moment::new(1000) else {
@@ -46,7 +46,7 @@ fn first(alloc: Global) -> Result<Pending, AllocError> {
     }
 }
 
-// Whether all rounds started by then.
+// Whether every round started at `start` or earlier.
 fn starts_by(pending: &Pending, start: Moment) -> bool
     ensures { result ≡ list_all (λ one. nat_le one start) (starts pending.now.list) }
 {
@@ -65,7 +65,7 @@ fn starts(slot: &KeptFetch, start: Moment) -> bool
     slot.lent().round.began().millis() <= start.millis()
 }
 
-// Opens a private fetch, where the client waits for none and its round starts late enough.
+// Opens a private fetch; `None` if the client already waits, or a pending round starts later than this one.
 fn open_at(alloc: Global, pending: &mut Pending, client: u64, round: Round) -> Option<u32> {
     let Ok(key) = key(alloc) else {
         return None;
@@ -132,7 +132,7 @@ fn expiring(rt: HostRuntime) -> Result<(), AllocError> {
     Ok(())
 }
 
-// A copy has the fetch with its waiters, and is changed alone.
+// A copy has the fetch with its waiters, and changes independently of the original.
 #[test]
 fn copied(rt: HostRuntime) -> Result<(), AllocError> {
     let key = key(rt.alloc())?;
@@ -146,7 +146,8 @@ fn copied(rt: HostRuntime) -> Result<(), AllocError> {
     Ok(())
 }
 
-// Fetches 1 to 256 are opened, 2 to 255 closed and two more opened: these are 257 and 258. All four are due in order.
+// Opens fetches 1 to 256, closes 2 to 255 and opens two more, numbered 257 and 258. The remaining four are due in the order
+// of opening.
 #[test]
 fn numbers_and_the_order_of_opening(rt: HostRuntime) -> Result<(), AllocError> {
     let table = table(rt.alloc())?;

@@ -2,7 +2,7 @@ use Rattle.std.proofs.Common.{◌≡◌, ◌+◌, ℕ, length, refl, ap, sym, �
 use Rattle.std.proofs.lemmas.Option.{slice_get_within}
 use Rattle.std.proofs.lemmas.Result.{err_from_is_err_and}
 use Rattle.bpf_asm.specs.Token.{tokens}
-use Rattle.bpf_asm.specs.Assembly.{token_lines, body_of, place_of}
+use Rattle.bpf_asm.specs.Assembly.{token_lines, body_of, instruction_index}
 use Rattle.bpf_asm.specs.Labels.{named}
 use Rattle.bpf_asm.specs.Drafts.{HasInsn, IsInsnAt}
 use Rattle.bpf_asm.proofs.Places.{left_more, line_at, all_read, place_no, place_yes, body_false}
@@ -72,7 +72,7 @@ returns-in-Some-kept c =
     let within = inv.within in
     let end : c.loop-line.at ≡ length ls = omega arith in
     let are = rw c.in-Some-kept.is at inv.each in
-    assembled ls (named c.args.names.now) c.in-Some-kept.insns.items c.requires.table c.requires.short (subst (λ (k : ℕ). AreInsns ls k c.in-Some-kept.insns.items) (inv.here ∙ ap (place_of ls) end) are)
+    assembled ls (named c.args.names.now) c.in-Some-kept.insns.items c.requires.table c.requires.short (subst (λ (k : ℕ). AreInsns ls k c.in-Some-kept.insns.items) (inv.here ∙ ap (instruction_index ls) end) are)
 
 pub returns-in-None : goal.returns-in-None
 returns-in-None c =
@@ -81,4 +81,4 @@ returns-in-None c =
     let all = all_read c.args.text.now c.loop-line.rest.now c.loop-line.at inv.left c.in_default.ensures.lines in
     let within = inv.within in
     let end : c.loop-line.at ≡ length ls = omega arith in
-    none_found ls (subst (NoneBeforePlace ls) (inv.here ∙ ap (place_of ls) end) inv.none)
+    none_found ls (subst (NoneBeforePlace ls) (inv.here ∙ ap (instruction_index ls) end) inv.none)

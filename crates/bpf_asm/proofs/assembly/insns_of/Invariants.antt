@@ -1,7 +1,7 @@
 use Rattle.std.proofs.Common.{◌≡◌, ◌+◌, ◌≤◌, length, drop}
 use Rattle.std.specs.Prelude.{IfSome}
 use Rattle.std.specs.Str.Lines.{lines}
-use Rattle.bpf_asm.specs.Assembly.{token_lines, place_of}
+use Rattle.bpf_asm.specs.Assembly.{token_lines, instruction_index}
 use Rattle.bpf_asm.proofs.Jumps.{AreInsns, NoneBeforePlace}
 use Rattle.bpf_asm.proofs.assembly.insns_of.Given as goal
 
@@ -13,7 +13,7 @@ invariant-loop-line l = record {
   left : drop l.at (lines l.text) ≡ lines l.rest;
   within : l.at ≤ length (token_lines l.text);
   bound : l.at + length l.rest ≤ length l.text;
-  here : l.place ≡ place_of (token_lines l.text) l.at;
+  here : l.place ≡ instruction_index (token_lines l.text) l.at;
   each : IfSome l.kept (λ v. AreInsns (token_lines l.text) l.place v.items);
   none : NoneBeforePlace (token_lines l.text) l.place;
 }

@@ -3,7 +3,7 @@ use Rattle.std.proofs.lemmas.Option.{slice_get_within}
 use Rattle.std.proofs.lemmas.Result.{err_from_is_err_and}
 use Rattle.bpf_check.specs.Accepted.{most_insns}
 use Rattle.bpf_asm.specs.Token.{tokens}
-use Rattle.bpf_asm.specs.Assembly.{token_lines, label_of, place_of}
+use Rattle.bpf_asm.specs.Assembly.{token_lines, label_of, instruction_index}
 use Rattle.bpf_asm.specs.Labels.{named, named_by, LabelKept}
 use Rattle.bpf_asm.specs.Drafts.{Counted, CountRefused, IsTable, NoneBefore}
 use Rattle.bpf_asm.proofs.Places.{left_more, line_at, all_read}
@@ -30,8 +30,8 @@ returns-in_err-place c =
     let fault = c.in_err-place.field-0.0 in
     let none = after_label ls n (named c.loop-line.names) c.loop-line.names.kept c.in_ok-names.names.kept c.loop-line.place line here inv.table named_so.2 inv.none in
     let at_place = subst (λ (k : ℕ). CountRefused k c.in_ok-names.names.lines (tokens c.body_in.result.now) fault) inv.here c.in_err-place.ensures in
-    let at_line = subst (λ (k : ℕ). CountRefused (place_of ls n) k (tokens c.body_in.result.now) fault) named_so.1 at_place in
-    let refused = subst (λ (b : List (List ℕ)). CountRefused (place_of ls n) (n + 1) b fault) c.body_in.ensures at_line in
+    let at_line = subst (λ (k : ℕ). CountRefused (instruction_index ls n) k (tokens c.body_in.result.now) fault) named_so.1 at_place in
+    let refused = subst (λ (b : List (List ℕ)). CountRefused (instruction_index ls n) (n + 1) b fault) c.body_in.ensures at_line in
     rw (p.1, p.2) (body_answer ls n line fault here none refused)
 
 pub loop-line-preserved : goal.loop-line-preserved
@@ -51,8 +51,8 @@ loop-line-preserved c =
     let kept_so = subst (λ (t : List ℕ). LabelKept (named_by old (token_lines t) n) old new.kept c.loop-line.place (label_of line)) inv.text named_so.2 in
     let kept = subst (λ (k : ℕ). LabelKept (named_by old ls n) old new.kept k (label_of line)) inv.here kept_so in
     let counted_so = subst (λ (k : ℕ). Counted k next (tokens c.body_in.result.now)) inv.here c.in_ok-place.ensures in
-    let counted = subst (λ (b : List (List ℕ)). Counted (place_of ls n) next b) c.body_in.ensures counted_so in
-    let short : place_of ls n ≤ most_insns = subst (λ (k : ℕ). k ≤ most_insns) inv.here inv.short in
+    let counted = subst (λ (b : List (List ℕ)). Counted (instruction_index ls n) next b) c.body_in.ensures counted_so in
+    let short : instruction_index ls n ≤ most_insns = subst (λ (k : ℕ). k ≤ most_insns) inv.here inv.short in
     let behind = place_behind ls n next line here short counted in
     let more = table_more ls n old new.kept line here table kept in
     let more_text = subst (λ (t : List ℕ). IsTable ls (n + 1) (named_by new.kept (token_lines t) (n + 1))) (sym same_text) more in
@@ -62,10 +62,10 @@ loop-line-preserved c =
       within = (let inside = slice_get_within ls n line here in let step = named_so.1 in omega arith);
       bound = (let step = named_so.1 in let low = inv.bound in omega (arith, c.in-Some.ensures.shorter));
       table = subst (λ (k : ℕ). IsTable ls k (named_by new.kept (token_lines new.text.now) k)) (sym named_so.1) more_text;
-      here = behind.here ∙ ap (place_of ls) (sym named_so.1);
+      here = behind.here ∙ ap (instruction_index ls) (sym named_so.1);
       short = behind.short;
       none = subst (λ (k : ℕ). NoneBefore ls (3 * k)) (sym named_so.1)
-          (after_limit ls n next line here counted (after_body ls n (place_of ls n) next line here counted (after_label ls n (named_by old ls n) old new.kept (place_of ls n) line here table kept inv.none)));
+          (after_limit ls n next line here counted (after_body ls n (instruction_index ls n) next line here counted (after_label ls n (named_by old ls n) old new.kept (instruction_index ls n) line here table kept inv.none)));
     }
 
 pub returns : goal.returns
@@ -75,7 +75,7 @@ returns c =
     let all = all_read c.args.text.now c.loop-line.rest.now c.loop-line.names.lines inv.left c.in_default.ensures.lines in
     let within = inv.within in
     let end : c.loop-line.names.lines ≡ length ls = omega arith in
-    let here = inv.here ∙ ap (place_of ls) end in (
+    let here = inv.here ∙ ap (instruction_index ls) end in (
       subst (λ (k : ℕ). IsTable ls k (named c.loop-line.names)) end inv.table,
       subst (λ (k : ℕ). k ≤ most_insns) here inv.short,
       subst (λ (k : ℕ). NoneBefore ls (3 * k)) end inv.none,

@@ -1,7 +1,7 @@
 use Rattle.std.proofs.Common.{◌≡◌, ◌+◌, ◌*◌, ◌≤◌, length, drop}
 use Rattle.std.specs.Str.Lines.{lines}
 use Rattle.bpf_check.specs.Accepted.{most_insns}
-use Rattle.bpf_asm.specs.Assembly.{token_lines, place_of}
+use Rattle.bpf_asm.specs.Assembly.{token_lines, instruction_index}
 use Rattle.bpf_asm.specs.Labels.{named}
 use Rattle.bpf_asm.specs.Drafts.{IsTable, NoneBefore}
 use Rattle.bpf_asm.proofs.assembly.names_of.Given as goal
@@ -16,7 +16,7 @@ invariant-loop-line l = record {
   within : l.names.lines ≤ length (token_lines l.text);
   bound : l.names.lines + length l.rest ≤ length l.text;
   table : IsTable (token_lines l.text) l.names.lines (named l.names);
-  here : l.place ≡ place_of (token_lines l.text) l.names.lines;
+  here : l.place ≡ instruction_index (token_lines l.text) l.names.lines;
   short : l.place ≤ most_insns;
   none : NoneBefore (token_lines l.text) (3 * l.names.lines);
 }

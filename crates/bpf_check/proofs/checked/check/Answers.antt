@@ -8,8 +8,8 @@ returns-in-Some-clause-accepts c = (
   λ accepted. absurd (accepted_has_none c.deref.result.now c.in-Some.fault (rw c.deref.ensures.value accepted) c.in-Some.ensures.some.has),
 )
 
-pub returns-in-None-clause-refusal : goal.returns-in-None-clause-refusal
-returns-in-None-clause-refusal c = accepted-none c.args.insns.items (rw (← c.deref.ensures.value) c.in-None.ensures.none)
+pub returns-in-None-clause-program_fault : goal.returns-in-None-clause-program_fault
+returns-in-None-clause-program_fault c = accepted-none c.args.insns.items (rw (← c.deref.ensures.value) c.in-None.ensures.none)
 
-pub returns-in-Some-clause-refusal : goal.returns-in-Some-clause-refusal
-returns-in-Some-clause-refusal c = first-some c.args.insns.items c.in-Some.fault (rw (← c.deref.ensures.value) c.in-Some.ensures.some)
+pub returns-in-Some-clause-program_fault : goal.returns-in-Some-clause-program_fault
+returns-in-Some-clause-program_fault c = first-some c.args.insns.items c.in-Some.fault (rw (← c.deref.ensures.value) c.in-Some.ensures.some)

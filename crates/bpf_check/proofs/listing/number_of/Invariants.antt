@@ -1,7 +1,8 @@
 use Rattle.std.proofs.Common.{◌≡◌, ◌-◌, ◌^◌, ◌<◌, drop, min}
 use Rattle.std.specs.List.{list_all}
 use Rattle.std.specs.Char.{is_ascii_digit}
-use Rattle.bpf_check.specs.Listing.{value_after, value, are_digits}
+use Rattle.bpf_check.specs.Listing.{value, are_digits}
+use Rattle.wire_octets.specs.Decimal.{value_after}
 use Rattle.bpf_check.proofs.listing.number_of.Given as goal
 
 abbrev pub invariant-loop-c : goal.invariant-loop-c

@@ -1,4 +1,4 @@
--- The addresses are written octet by octet.
+-- The addresses, octet by octet.
 use Rattle.std.proofs.Common.{rules, ◌≡◌, ℕ, List, [], ◌∷◌, length, get_or, refl, sym, ap, ◌∙◌, arith}
 use Rattle.filter_slots.specs.Datagram.{ends_of}
 use Rattle.filter_slots.proofs.datagram.both_ends.Goals as goal

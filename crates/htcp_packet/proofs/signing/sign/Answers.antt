@@ -1,5 +1,5 @@
 use Rattle.std.proofs.Common.{length, Err, refl, arith}
-use Rattle.htcp_packet.specs.declared.fault.EncodeFault.TheVariants.{TooLong}
+use Rattle.wire_octets.specs.declared.encode_fault.EncodeFault.TheVariants.{TooLong}
 use Rattle.htcp_packet.specs.View.{shown}
 use Rattle.htcp_packet.specs.Writing.{body_text}
 use Rattle.htcp_packet.specs.Signing.{sealed}

@@ -1,5 +1,5 @@
 use Rattle.std.proofs.Common.{◌≡◌, ◌≤◌, drop, min}
-use Rattle.http_rules.specs.Text.{value_after}
+use Rattle.wire_octets.specs.Decimal.{value_after}
 use Rattle.http_rules.proofs.seconds.capped_value.Given as goal
 
 abbrev pub invariant-loop-c : goal.invariant-loop-c

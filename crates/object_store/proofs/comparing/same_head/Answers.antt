@@ -1,4 +1,4 @@
--- Heads that are held in vectors are compared field by field.
+-- Heads held in vectors are compared field by field.
 use Rattle.std.proofs.Common.{◌≡◌, ℕ, Bool, true, false, ◌&&◌, List, [], ◌∷◌, Vec, nat_eq, refl, sym, ap, ◌∙◌}
 use Rattle.std.specs.declared.alloc.Global.{Global}
 use Rattle.std.specs.Cmp.Lexicographic.{pointwise, bytes_decides}
@@ -17,7 +17,7 @@ second_so : (s t : Bool) → (s && t) ≡ true → t ≡ true
 second_so true t h = h
 second_so false t h = absurd (cc)
 
--- the first of a list, or a value where it is empty; and the others
+-- the first element of a list, or a default if it is empty, and the others
 abbrev first_or : List ℕ × List ℕ → List (List ℕ × List ℕ) → List ℕ × List ℕ
 first_or d [] = d
 first_or d (x ∷ xs) = x

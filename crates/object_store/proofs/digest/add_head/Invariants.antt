@@ -4,7 +4,7 @@ use Rattle.md5.specs.Md5.{Holds}
 use Rattle.object_store.specs.Object.{head_of, spelled_field, spelled_number}
 use Rattle.object_store.proofs.digest.add_head.Given as goal
 
--- the hasher has taken in how many fields there are, and the fields so far
+-- the number of fields and the fields so far have been hashed
 abbrev pub invariant-loop-field : goal.invariant-loop-field
 invariant-loop-field l =
     (m : List ℕ) → Holds l.fn.hasher m

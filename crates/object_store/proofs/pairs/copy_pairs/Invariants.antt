@@ -1,7 +1,7 @@
 use Rattle.std.proofs.Common.{◌≡◌, ◌++◌, ◌-◌, ◌^◌, length}
 use Rattle.object_store.proofs.pairs.copy_pairs.Given as goal
 
--- the pairs that are left, and then those that are copied
+-- the pairs not copied yet, followed by those copied
 abbrev pub invariant-least : goal.invariant-least
 invariant-least l = record {
   pairs : l.rest ++ l.copy.entries ≡ l.pairs.entries;

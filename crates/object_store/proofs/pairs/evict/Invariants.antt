@@ -2,7 +2,7 @@ use Rattle.std.proofs.Common.{◌≡◌, length}
 use Rattle.object_store.specs.Pairs.{cut, total_size}
 use Rattle.object_store.proofs.pairs.evict.Given as goal
 
--- what is left is cut to the same front, and the sum is kept
+-- cutting what is left gives the same prefix, and the sum is its total size
 abbrev pub invariant-full : goal.invariant-full
 invariant-full l = record {
   cut : cut l.most_entries l.most_octets l.pairs.entries ≡ cut l.most_entries l.most_octets l.fn.pairs.entries;

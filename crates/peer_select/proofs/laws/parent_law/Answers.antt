@@ -17,7 +17,7 @@ apart : (n : ℕ) (xs : List Reply) → AllByRecursion (λ y. nat_eq n y ≡ fal
 apart n [] h b k = absurd (contains_none b k)
 apart n (x ∷ xs) h b k = elim (contains_cases x xs b k) [ inl e ↦ ap (λ (r : Reply). nat_eq n r.n) (sym e) ∙ h.0 | inr m ↦ apart n xs h.1 b m ]
 
--- of two replies of one peer there is only one
+-- two replies of one peer are equal
 same_place : (xs : List Reply) (p b : Reply) → IsDistinct nat_eq (places xs) → Contains xs p → Contains xs b → p.n ≡ b.n → p ≡ b
 same_place [] p b h k m e = absurd (contains_none p k)
 same_place (x ∷ xs) p b h k m e =
@@ -33,7 +33,7 @@ same_place (x ∷ xs) p b h k m e =
       ]
     ]
 
--- none of the list is before p
+-- no reply of the list precedes p
 abbrev free : (Reply → Reply → Bool) → List Reply → Reply → Bool
 free less list p = not (list_any (λ other. less other p) list)
 
@@ -52,7 +52,7 @@ chosen_first poll p e =
 denied : (a : Ranked) (u : ℕ) (b : Ranked) (v : ℕ) → before a u b v ≡ false → (b.s * u ≤ a.s * v) × (a.s * v ≡ b.s * u → b.n ≤ a.n)
 denied a u b v h = (grind arith, grind arith)
 
--- where neither is before the other there is one peer
+-- if neither precedes the other, the peers are equal
 one_place : (a : Ranked) (u : ℕ) (b : Ranked) (v : ℕ) → before a u b v ≡ false → before b v a u ≡ false → a.n ≡ b.n
 one_place a u b v h k =
     let left : (b.s * u ≤ a.s * v) × (a.s * v ≡ b.s * u → b.n ≤ a.n) = denied a u b v h in

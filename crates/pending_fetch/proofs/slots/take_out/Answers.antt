@@ -4,13 +4,13 @@ use Rattle.pending_fetch.proofs.Spots.{shift, none_without, no_fetch, fetch_at, 
 use Rattle.pending_fetch.proofs.slots.take_out.Goals as goal
 
 pub returns-in_default-clause-list : goal.returns-in_default-clause-list
-returns-in_default-clause-list c = none_without c.args.number c.args.slots.now.items (shift c.args.number c.deref.result.now c.args.slots.now.items c.place_of.result None c.place_of.ensures c.deref.ensures.value c.in_default.is)
+returns-in_default-clause-list c = none_without c.args.number c.args.slots.now.items (shift c.args.number c.deref.result.now c.args.slots.now.items c.fetch_index.result None c.fetch_index.ensures c.deref.ensures.value c.in_default.is)
 
 pub returns-in_default-clause-taken : goal.returns-in_default-clause-taken
-returns-in_default-clause-taken c = sym (no_fetch c.args.number c.args.slots.now.items (shift c.args.number c.deref.result.now c.args.slots.now.items c.place_of.result None c.place_of.ensures c.deref.ensures.value c.in_default.is))
+returns-in_default-clause-taken c = sym (no_fetch c.args.number c.args.slots.now.items (shift c.args.number c.deref.result.now c.args.slots.now.items c.fetch_index.result None c.fetch_index.ensures c.deref.ensures.value c.in_default.is))
 
 pub returns-clause-list : goal.returns-clause-list
-returns-clause-list c = c.remove-2.ensures.by_index.2 ∙ cut_without c.args.number c.args.slots.now.items c.in-Some.place (shift c.args.number c.deref.result.now c.args.slots.now.items c.place_of.result (Some c.in-Some.place) c.place_of.ensures c.deref.ensures.value c.in-Some.is) c.requires.apart
+returns-clause-list c = c.remove-2.ensures.by_index.2 ∙ cut_without c.args.number c.args.slots.now.items c.in-Some.place (shift c.args.number c.deref.result.now c.args.slots.now.items c.fetch_index.result (Some c.in-Some.place) c.fetch_index.ensures c.deref.ensures.value c.in-Some.is) c.requires.apart
 
 pub returns-clause-order : goal.returns-clause-order
 returns-clause-order c =
@@ -18,4 +18,4 @@ returns-clause-order c =
     ∙ numbers-cut c.in-Some.place (c.in-Some.place + 1) c.args.slots.now.items ∙ sym (ap numbers c.remove-2.ensures.by_index.2)
 
 pub returns-clause-taken : goal.returns-clause-taken
-returns-clause-taken c = ap (λ f. Some f) c.remove-2.ensures.value ∙ sym (fetch_at c.args.number c.args.slots.now.items c.in-Some.place c.remove-2.result (shift c.args.number c.deref.result.now c.args.slots.now.items c.place_of.result (Some c.in-Some.place) c.place_of.ensures c.deref.ensures.value c.in-Some.is))
+returns-clause-taken c = ap (λ f. Some f) c.remove-2.ensures.value ∙ sym (fetch_at c.args.number c.args.slots.now.items c.in-Some.place c.remove-2.result (shift c.args.number c.deref.result.now c.args.slots.now.items c.fetch_index.result (Some c.in-Some.place) c.fetch_index.ensures c.deref.ensures.value c.in-Some.is))

@@ -4,9 +4,9 @@ use Rattle.pending_fetch.proofs.Spots.{no_fetch, waiters_at}
 use Rattle.pending_fetch.proofs.slots.waiters_in.Goals as goal
 
 pub returns-in_default : goal.returns-in_default
-returns-in_default c = sym (ap waiters_in (no_fetch c.args.number c.args.slots.now (sym c.place_of.ensures ∙ c.in_default.is)))
+returns-in_default c = sym (ap waiters_in (no_fetch c.args.number c.args.slots.now (sym c.fetch_index.ensures ∙ c.in_default.is)))
 
 pub returns : goal.returns
 returns c =
     c.waiters.ensures ∙ ap (λ (f : PendingFetch). f.waiters) c.index-slots-place.is
-    ∙ sym (waiters_at c.args.number c.args.slots.now c.in-Some.place c.index-slots-place.result (sym c.place_of.ensures ∙ c.in-Some.is))
+    ∙ sym (waiters_at c.args.number c.args.slots.now c.in-Some.place c.index-slots-place.result (sym c.fetch_index.ensures ∙ c.in-Some.is))

@@ -1,9 +1,9 @@
 use Rattle.std.proofs.Common.{sym, ◌∙◌, arith}
-use Rattle.script_lines.proofs.NumberLemmas.{number_stops, number_after-whole, some_of}
+use Rattle.script_lines.proofs.NumberLemmas.{number_stops, number_after-whole}
 use Rattle.script_lines.proofs.number.number.Goals as goal
 
 pub loop-c-init : goal.loop-c-init
-loop-c-init c = number_after-whole c.args.most c.args.text.now (some_of _ _ c.is_empty.ensures c.if-is_empty.false)
+loop-c-init c = number_after-whole c.args.most c.args.text.now (sym c.is_empty.ensures ∙ c.if-is_empty.false)
 
 pub returns-in_err-checked_mul-clause-value : goal.returns-in_err-checked_mul-clause-value
 returns-in_err-checked_mul-clause-value c =

@@ -2,7 +2,7 @@ use Rattle.std.proofs.Common.{List, ℕ, ◌+◌, ◌∷◌, [], ap, sym, ◌∙
 use Rattle.std.specs.Str.Lines.{strip_carriage_return}
 use Rattle.script_lines.specs.ScriptLine.{script_line}
 use Rattle.feed_script.specs.Script.{is_misplaced}
-use Rattle.feed_script.specs.Ahead.{stage_of, standing_of, Obeys, StopsBy}
+use Rattle.feed_script.specs.Ahead.{stage_of, script_phase_of, Obeys, StopsBy}
 use Rattle.feed_script.specs.declared.engine.Stop.TheVariants.{Line, NoMemory}
 use Rattle.feed_script.proofs.EngineLemmas.{takes-break, stops-break, stops-memory}
 use Rattle.feed_script.proofs.engine.Engine.break_line.Goals as goal
@@ -18,7 +18,7 @@ returns-in-Err-Wrong-clause-stop c =
     let text = c.without_return-text.ensures ∙ ap strip_carriage_return c.as_slice.ensures.value in
     let wrong = c.in-Err-Wrong.ensures.wrong (ap Err c.in-Err-Wrong.field-0-is) in
     let P : List ℕ → Type 0 = λ out. StopsBy c.args.self.now (10 ∷ []) c.args.out.now.items out (Line (c.args.self.now.number + 1)) in
-    subst P (sym c.in-Err-Wrong.ensures.err) (stops-break c.args.self.now c.args.out.now.items c.requires.partial (ap (λ t. is_misplaced (stage_of (standing_of c.args.self.now.phase)) (script_line t)) (sym text) ∙ wrong))
+    subst P (sym c.in-Err-Wrong.ensures.err) (stops-break c.args.self.now c.args.out.now.items c.requires.partial (ap (λ t. is_misplaced (stage_of (script_phase_of c.args.self.now.phase)) (script_line t)) (sym text) ∙ wrong))
 
 pub returns-in-Err-Memory-clause-stop : goal.returns-in-Err-Memory-clause-stop
 returns-in-Err-Memory-clause-stop c =

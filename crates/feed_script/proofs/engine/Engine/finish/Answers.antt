@@ -1,7 +1,7 @@
 use Rattle.std.proofs.Common.{ℕ, ◌+◌, List, [], ap, sym, ◌∙◌, subst, Err, arith}
 use Rattle.script_lines.specs.ScriptLine.{script_line}
 use Rattle.feed_script.specs.Script.{is_misplaced}
-use Rattle.feed_script.specs.Ahead.{stage_of, standing_of, Obeys, EndsBy, PrintsFront}
+use Rattle.feed_script.specs.Ahead.{stage_of, script_phase_of, Obeys, EndsBy, PrintsFront}
 use Rattle.feed_script.specs.declared.engine.Stop.TheVariants.{Line, NoMemory}
 use Rattle.feed_script.proofs.EngineLemmas.{ends-line, ends-wrong, ends-memory, front-ends, front-unchanged}
 use Rattle.feed_script.proofs.engine.Engine.finish.Goals as goal
@@ -16,7 +16,7 @@ returns-in-Err-Wrong-clause-stop c =
     let wrong = c.in-Err-Wrong.ensures.wrong (ap Err c.in-Err-Wrong.field-0-is) in
     let P : List ℕ → Type 0 = λ out. EndsBy c.args.self.now c.args.out.now.items out (Line (c.args.self.now.number + 1)) in
     subst P (sym c.in-Err-Wrong.ensures.err) (ends-wrong c.args.self.now c.args.out.now.items c.requires.partial (grind arith)
-    (ap (λ t. is_misplaced (stage_of (standing_of c.args.self.now.phase)) (script_line t)) (sym c.as_slice.ensures.value) ∙ wrong))
+    (ap (λ t. is_misplaced (stage_of (script_phase_of c.args.self.now.phase)) (script_line t)) (sym c.as_slice.ensures.value) ∙ wrong))
 
 pub returns-in-Err-Memory-clause-stop : goal.returns-in-Err-Memory-clause-stop
 returns-in-Err-Memory-clause-stop c =

@@ -4,7 +4,7 @@ use Rattle.filter_slots.specs.Senders.{pair_of, bucket_of, buckets, IsLast}
 use Rattle.filter_slots.proofs.Chains.{places_left}
 use Rattle.filter_slots.proofs.senders.Senders.follow.Given as goal
 
--- the pair is nowhere from the limit on, and the link is to the last place of its bucket before the limit
+-- no entry from the limit on has the pair, and the link leads to the last entry of its bucket before the limit
 abbrev pub invariant-loop-link : goal.invariant-loop-link
 invariant-loop-link l = record {
   limit : ℕ;

@@ -4,4 +4,4 @@ use Rattle.pending_fetch.proofs.Rising.{placed-taken}
 use Rattle.pending_fetch.proofs.order.Order.has.Goals as goal
 
 pub returns : goal.returns
-returns c = c.is_some.ensures ∙ ap is_some c.place_of.ensures ∙ placed-taken c.args.number c.args.self.now
+returns c = c.is_some.ensures ∙ ap is_some c.fetch_index.ensures ∙ placed-taken c.args.number c.args.self.now

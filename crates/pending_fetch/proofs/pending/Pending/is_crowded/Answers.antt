@@ -4,8 +4,9 @@ use Rattle.std.proofs.Common.{nat_le}
 use Rattle.pending_fetch.specs.Calls.{is_crowded}
 use Rattle.pending_fetch.proofs.Calling.{many_wait}
 use Rattle.pending_fetch.proofs.pending.Pending.is_crowded.Goals as goal
+use Rattle.pending_fetch.specs.Bounds.{most_waiters}
 
 pub returns : goal.returns
 returns c =
-    c.are_crowded.ensures ∙ ap (nat_le 1024) (many_wait c.self.inside.slots.items c.self.inside.keys c.self.inside.clients c.self.invariant.0 c.facts.ensures)
+    c.are_crowded.ensures ∙ ap (nat_le most_waiters) (many_wait c.self.inside.slots.items c.self.inside.keys c.self.inside.clients c.self.invariant.0 c.facts.ensures)
     ∙ ap (λ (w : Fetches). is_crowded w.list) c.self.view_is

@@ -1,5 +1,5 @@
 use Rattle.std.proofs.Common.{ℕ, None, Some, refl, length, ap, sym, ◌∙◌, arith, vec_capacity}
-use Rattle.pending_fetch.specs.Fetches.{Fetches, PendingFetch, numbers, fresh}
+use Rattle.pending_fetch.specs.Fetches.{Fetches, PendingFetch, numbers, opened_fetch}
 use Rattle.std.proofs.Common.{◌++◌, ◌∷◌, []}
 use Rattle.pending_fetch.specs.Queue.{queue_of, entry_at, listed, entry_of}
 use Rattle.pending_fetch.proofs.Queues.{queue_opened, queue_seen, queue_room, queue_kept, entry_listed}

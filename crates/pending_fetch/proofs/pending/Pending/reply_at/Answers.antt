@@ -1,7 +1,7 @@
 use Rattle.std.proofs.Common.{Some, refl, ap, sym, ◌∙◌, vec_capacity}
 use Rattle.pending_fetch.specs.Fetches.{Fetches, PendingFetch, changed, with_reply, fetch_of}
 use Rattle.std.specs.Option.{option_map}
-use Rattle.pending_fetch.specs.Standing.{place_of}
+use Rattle.pending_fetch.specs.FetchIndex.{fetch_index}
 use Rattle.peer_select.specs.Poll.{decided}
 use Rattle.pending_fetch.specs.Calls.{fits}
 use Rattle.pending_fetch.proofs.Keeping.{Keeps-reply}
@@ -31,8 +31,8 @@ returns-clause-list c =
 
 pub returns-clause-here : goal.returns-clause-here
 returns-clause-here c =
-    let before = ap (λ (w : Fetches). place_of c.args.number w.list) c.self.view_is ∙ c.requires.here in
-    ap (place_of c.args.number) c.reply_in-decided.ensures.list ∙ place_changed (with_reply (record { s = c.args.s; n = c.args.n; kind = c.args.kind })) (λ f. refl) c.args.number c.args.number c.self.inside.slots.items ∙ before
+    let before = ap (λ (w : Fetches). fetch_index c.args.number w.list) c.self.view_is ∙ c.requires.here in
+    ap (fetch_index c.args.number) c.reply_in-decided.ensures.list ∙ place_changed (with_reply (record { s = c.args.s; n = c.args.n; kind = c.args.kind })) (λ f. refl) c.args.number c.args.number c.self.inside.slots.items ∙ before
 
 pub returns-clause-decided : goal.returns-clause-decided
 returns-clause-decided c =
@@ -46,4 +46,4 @@ reply_in-decided-requires-clause-table c =
     ap (λ (w : Fetches). fits c.args.table.now.neighbours (fetch_of c.args.number w.list)) c.self.view_is ∙ c.requires.table
 
 pub reply_in-decided-requires-clause-here : goal.reply_in-decided-requires-clause-here
-reply_in-decided-requires-clause-here c = ap (λ (w : Fetches). place_of c.args.number w.list) c.self.view_is ∙ c.requires.here
+reply_in-decided-requires-clause-here c = ap (λ (w : Fetches). fetch_index c.args.number w.list) c.self.view_is ∙ c.requires.here

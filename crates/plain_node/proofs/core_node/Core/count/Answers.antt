@@ -1,11 +1,11 @@
 use Rattle.std.proofs.Common.{◌≡◌, ◌∙◌, ap, arith, length, []}
-use Rattle.pending_fetch.specs.Standing.{place_of}
+use Rattle.pending_fetch.specs.FetchIndex.{fetch_index}
 use Rattle.plain_node.specs.PlainNode.{PlainNode}
 use Rattle.plain_node.proofs.MessageLemmas.{counted_at}
 use Rattle.plain_node.proofs.core_node.Core.count.Goals as goal
 
 pub add_reply-is_decided-requires-clause-here : goal.add_reply-is_decided-requires-clause-here
-add_reply-is_decided-requires-clause-here c = ap (λ (node : PlainNode). place_of c.args.number node.fetches.list) c.sample.ensures ∙ c.requires.here
+add_reply-is_decided-requires-clause-here c = ap (λ (node : PlainNode). fetch_index c.args.number node.fetches.list) c.sample.ensures ∙ c.requires.here
 
 pub decide_at-requires-clause-room : goal.decide_at-requires-clause-room
 decide_at-requires-clause-room c = omega (arith, c.few_waiters.ensures, ap length c.requires.empty)

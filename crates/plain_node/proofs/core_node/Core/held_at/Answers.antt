@@ -2,7 +2,7 @@ use Rattle.std.proofs.Common.{◌≡◌, true, Some, ap, ◌∙◌, subst}
 use Rattle.std.specs.Option.{option_map}
 use Rattle.peer_select.specs.Poll.{matches}
 use Rattle.pending_fetch.specs.Fetches.{fetch_of}
-use Rattle.pending_fetch.specs.Standing.{place_of}
+use Rattle.pending_fetch.specs.FetchIndex.{fetch_index}
 use Rattle.pending_fetch.specs.Calls.{told}
 use Rattle.plain_node.specs.PlainNode.{PlainNode}
 use Rattle.plain_node.proofs.Keeps.{fits_each}
@@ -10,7 +10,7 @@ use Rattle.plain_node.proofs.Lent.{matching_of}
 use Rattle.plain_node.proofs.core_node.Core.held_at.Goals as goal
 
 pub fetch_at-requires : goal.fetch_at-requires
-fetch_at-requires c = ap (λ (node : PlainNode). place_of c.args.number node.fetches.list) c.self.view_is ∙ c.requires
+fetch_at-requires c = ap (λ (node : PlainNode). fetch_index c.args.number node.fetches.list) c.self.view_is ∙ c.requires
 
 pub returns-clause-held : goal.returns-clause-held
 returns-clause-held c = c.fetch_at.ensures ∙ ap (λ (node : PlainNode). option_map told (fetch_of c.args.number node.fetches.list)) c.self.view_is

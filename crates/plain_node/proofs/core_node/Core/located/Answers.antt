@@ -2,7 +2,7 @@ use Rattle.std.proofs.Common.{◌≡◌, Some, ap, ◌∙◌, subst}
 use Rattle.std.specs.Prelude.{IfSome}
 use Rattle.std.specs.Option.{option_map}
 use Rattle.pending_fetch.specs.Fetches.{fetch_of}
-use Rattle.pending_fetch.specs.Standing.{place_of}
+use Rattle.pending_fetch.specs.FetchIndex.{fetch_index}
 use Rattle.pending_fetch.specs.Calls.{told}
 use Rattle.plain_node.specs.PlainNode.{PlainNode}
 use Rattle.plain_node.proofs.Lent.{placed_at}
@@ -13,5 +13,5 @@ returns-clause-fetch c = c.locate.ensures.fetch ∙ ap (λ (node : PlainNode). o
 
 pub returns-clause-place : goal.returns-clause-place
 returns-clause-place c =
-    subst (λ (node : PlainNode). IfSome c.locate.result (λ it. place_of c.args.number node.fetches.list ≡ Some it.place)) c.self.view_is
+    subst (λ (node : PlainNode). IfSome c.locate.result (λ it. fetch_index c.args.number node.fetches.list ≡ Some it.place)) c.self.view_is
     (placed_at c.args.number c.self.inside.pending.list c.locate.result c.locate.ensures.place)

@@ -1,7 +1,7 @@
 use Rattle.std.proofs.Common.{◌≡◌, ◌≤◌, ◌++◌, List, length, Some, ap, sym, ◌∙◌, subst, arith}
 use Rattle.pending_fetch.specs.Fetches.{fetch_of, next_number}
 use Rattle.plain_node.specs.declared.action.Action.{Action}
-use Rattle.plain_node.specs.PlainNode.{PlainNode, moved}
+use Rattle.plain_node.specs.PlainNode.{PlainNode, at_clock}
 use Rattle.plain_node.specs.Sources.{decision_step}
 use Rattle.plain_node.specs.Fitting.{asked, asking}
 use Rattle.plain_node.proofs.Opens.{entered, entrant, entered_found, opening_is, length_asking}
@@ -10,7 +10,7 @@ use Rattle.plain_node.proofs.core_node.Core.open.Goals as goal
 pub decide-requires : goal.decide-requires
 decide-requires c =
     let old = c.args.self.now in
-    let asks = subst (λ (x : List Action). length x ≤ 64) (sym c.in_ok-number.ensures.ok) (length_asking (moved old c.args.now) (next_number old.fetches) c.args.key.now c.args.shared c.few.ensures) in
+    let asks = subst (λ (x : List Action). length x ≤ 64) (sym c.in_ok-number.ensures.ok) (length_asking (at_clock old c.args.now) (next_number old.fetches) c.args.key.now c.args.shared c.few.ensures) in
     record { room = omega (arith, asks, c.facts-2.ensures.few c.in_ok-number.number) }
 
 pub returns-clause-plain : goal.returns-clause-plain
@@ -29,5 +29,5 @@ returns-clause-actions c =
     let f = entrant old c.args.now c.args.client key c.args.shared in
     let e : c.ask_store.new.self ≡ asked (entered old c.args.now c.args.client key c.args.shared) key c.args.shared = c.ask_store.ensures ∙ ap (λ (n : PlainNode). asked n key c.args.shared) c.in_default.ensures.ok in
     let found = subst (λ (n : PlainNode). fetch_of c.in_ok-number.number n.fetches.list ≡ Some f) (sym e) (rw c.in_ok-number.ensures.number (entered_found old c.args.now c.args.client key c.args.shared c.next_law.ensures c.facts.ensures.legal.few)) in
-    c.decide.ensures.actions f found ∙ ap (λ x. x ++ (decision_step c.ask_store.new.self f).1) c.in_ok-number.ensures.ok ∙ ap (λ (n : PlainNode). asking (moved old c.args.now) (next_number old.fetches) key c.args.shared ++ (decision_step n f).1) e
+    c.decide.ensures.actions f found ∙ ap (λ x. x ++ (decision_step c.ask_store.new.self f).1) c.in_ok-number.ensures.ok ∙ ap (λ (n : PlainNode). asking (at_clock old c.args.now) (next_number old.fetches) key c.args.shared ++ (decision_step n f).1) e
     ∙ sym (ap (λ p. p.1) (opening_is old c.args.now c.args.client key c.args.shared (sym c.is_full.ensures ∙ c.if-is_full.false)))

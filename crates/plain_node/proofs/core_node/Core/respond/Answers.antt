@@ -10,6 +10,6 @@ answer_request-requires-clause-suits c =
     let node = record c.args.self.now { clock = c.args.clock } in
     let view = c.args.view.now in
     let body = shown_body view.body in
-    let found = c.finding-finding.ensures ∙ ap (comes_to node body) (c.refusal-refusal.ensures c.args.clock) in
+    let found = c.finding-finding.ensures ∙ ap (comes_to node body) (c.refusal_code-refusal_code.ensures c.args.clock) in
     subst (λ finding. Suits view.opcode finding) (sym found)
     (finding-suits node c.args.from body view.opcode (shown_standing c.judgement-judgement.result) c.requires.fits)

@@ -1,0 +1,238 @@
+//! State shared by the threads of a proxy.
+use crate::addressing::{Destination, Peer, origin_of, peer_of};
+use crate::mailbox::{Field, Mailbox};
+use crate::objects::via;
+use crossbeam_channel::Sender;
+use futures::channel::mpsc::UnboundedSender;
+use futures::channel::oneshot;
+use hyper_cache::fetching::{Job, Order};
+use hyper_cache::names::{Wish, hand_over};
+use hyper_cache::serving;
+use node_book::Desk;
+use node_core::{Action, Answer, Mode, NoMemory};
+use peer_select::Source;
+use plain_node::MAX_PENDING_FETCHES;
+use std::alloc::{AllocError, Global};
+use std::sync::atomic::AtomicU16;
+use std::sync::ledger::Ledger;
+use std::sync::{Mutex, Wait};
+use std::time::{Clock, Duration, Instant};
+
+/// Senders to the threads that fetch.
+#[derive(Drop)]
+pub struct Lanes {
+    /// To the threads that look up names.
+    pub wishes: Sender<Wish, Global>,
+    /// To each fetch thread, by index.
+    pub jobs: Vec<UnboundedSender<Job>>,
+}
+
+/// One attempt of a fetch.
+#[derive(Clone, Copy)]
+pub struct Attempt {
+    pub fetch: u32,
+    pub attempt: u16,
+}
+
+/// State shared by the threads of a proxy. No thread holds two of these locks at once.
+#[derive(Drop)]
+pub struct ProxyState<L: Ledger> {
+    /// The node and its event log, behind a lock of its own that is held for one event or one question at a time.
+    pub desk: Desk<L>,
+    /// Waiting clients and in-flight fetches. Locked by the client thread when a client comes or leaves, by a thread whose action
+    /// starts a fetch or answers a client, and by a fetch thread when a fetch ends.
+    pub mailbox: Mutex<Mailbox>,
+    /// Senders to the threads that fetch; `None` before they start and after `close`. Locked while an order is sent.
+    pub lanes: Mutex<Option<Lanes>>,
+    /// Attempts that could not be started and that no thread has reported to the node yet. Locked to add or remove one.
+    pub failed: Mutex<Vec<Attempt>>,
+    /// The name of this cache.
+    pub name: String,
+    /// The neighbours, in the order of the configuration.
+    pub peers: Vec<Peer>,
+    /// Time limit of a fetch.
+    pub fetching: Duration,
+    /// The port that administration is served on: the configuration's, and once its socket is bound that of the socket.
+    pub admin_port: AtomicU16,
+}
+
+/// Room for fetches that could not be begun.
+pub fn no_failures(alloc: Global) -> Result<Mutex<Vec<Attempt>>, AllocError> {
+    Ok(Mutex::new(Vec::with_capacity(alloc, MAX_PENDING_FETCHES)?))
+}
+
+/// A fetch that the node asks for.
+#[derive(Clone, Copy)]
+struct Wanted {
+    fetch: u32,
+    attempt: u16,
+    source: Source,
+    only_if_cached: bool,
+    owner: Option<u64>,
+}
+
+impl<L: Ledger> ProxyState<L> {
+    /// Carries out an action other than `Send`, which it ignores. Errors: a fetch could not be started.
+    pub fn pass<R: Wait + Clock>(
+        &self,
+        rt: &R,
+        alloc: Global,
+        action: &Action,
+    ) -> Result<(), NoMemory> {
+        match action {
+            Action::Send { .. } => Ok(()),
+            Action::Serve { client, answer } => {
+                let answer = outcome_of(answer);
+                self.mailbox.lock(rt).answer(*client, answer);
+                Ok(())
+            }
+            Action::Fetch {
+                fetch,
+                attempt,
+                source,
+                only_if_cached,
+                owner,
+            } => self.begin(
+                rt,
+                alloc,
+                Wanted {
+                    fetch: *fetch,
+                    attempt: *attempt,
+                    source: *source,
+                    only_if_cached: *only_if_cached,
+                    owner: *owner,
+                },
+            ),
+        }
+    }
+
+    /// Starts a fetch.
+    fn begin<R: Wait + Clock>(
+        &self,
+        rt: &R,
+        alloc: Global,
+        wanted: Wanted,
+    ) -> Result<(), NoMemory> {
+        let Some(key) = self.desk.key_of(rt, wanted.fetch)? else {
+            return Err(AllocError);
+        };
+        let destination = self.destination(alloc, wanted.source, key.as_slice());
+        let destination = destination.ok_or(AllocError)?;
+        let fields = self.fields(rt, alloc, wanted)?;
+        let (sender, receiver) = oneshot::channel(alloc)?;
+        let mode = match wanted.owner {
+            Some(_) => Mode::Private,
+            None => Mode::Shared,
+        };
+        self.mailbox.lock(rt).begin(wanted.fetch, mode, sender)?;
+        let deadline = self.deadline(rt).ok_or(AllocError)?;
+        let Destination {
+            name,
+            port,
+            host,
+            target,
+        } = destination;
+        let order = Order {
+            fetch: wanted.fetch,
+            attempt: wanted.attempt,
+            host,
+            target,
+            fields,
+            deadline,
+            wanted: receiver,
+        };
+        self.send(rt, name, port, order)
+    }
+
+    /// The deadline of a fetch that starts now. Returns `None` if the clock cannot be read.
+    fn deadline<R: Clock>(&self, rt: &R) -> Option<Instant> {
+        Instant::now(rt).ok()?.checked_add(self.fetching)
+    }
+
+    /// Sends an order to a fetch thread or to the name lookups. Errors: it was not accepted; the fetch is no longer in flight.
+    fn send<R: Wait>(&self, rt: &R, name: String, port: u16, order: Order) -> Result<(), NoMemory> {
+        let fetch = order.fetch;
+        let taken = match &*self.lanes.lock(rt) {
+            Some(lanes) => hand_over(
+                rt,
+                &lanes.wishes,
+                lanes.jobs.as_slice(),
+                name,
+                port,
+                order,
+            ).is_ok(),
+            None => false,
+        };
+        if taken {
+            return Ok(());
+        }
+        let _ = self.mailbox.lock(rt).end(fetch);
+        Err(AllocError)
+    }
+
+    /// The destination of a fetch of `key` from `source`.
+    fn destination(&self, alloc: Global, source: Source, key: &[u8]) -> Option<Destination> {
+        match source {
+            Source::Origin => origin_of(alloc, key),
+            Source::Peer(place) => peer_of(alloc, key, *self.peers.get(place)?),
+        }
+    }
+
+    /// The request fields of a fetch other than Host: those of the client that owns a private fetch, `only-if-cached` for a
+    /// sibling, and Via.
+    fn fields<R: Wait>(
+        &self,
+        rt: &R,
+        alloc: Global,
+        wanted: Wanted,
+    ) -> Result<Vec<Field>, AllocError> {
+        let mut fields = match wanted.owner {
+            Some(client) => {
+                let kept = self
+                    .mailbox
+                    .lock(rt)
+                    .fields_for(alloc, client, wanted.fetch)?;
+                kept.ok_or(AllocError)?
+            }
+            None => Vec::new(alloc),
+        };
+        if wanted.only_if_cached {
+            let name = b"cache-control".to_vec(alloc)?;
+            fields.push((name, b"only-if-cached".to_vec(alloc)?))?;
+        }
+        fields.push(via(alloc, self.name.as_bytes())?)?;
+        Ok(fields)
+    }
+
+    /// Records an attempt that could not be started, for some thread to report to the node.
+    pub fn record_failure<R: Wait>(&self, rt: &R, failed: Attempt) {
+        let _ = self.failed.lock(rt).push(failed);
+    }
+
+    /// Removes a recorded attempt, which the caller reports to the node.
+    pub fn next_failure<R: Wait>(&self, rt: &R) -> Option<Attempt> {
+        self.failed.lock(rt).pop()
+    }
+
+    /// Shuts down: accepts no more orders, cancels in-flight fetches, and drops waiting clients without an answer.
+    pub fn close<R: Wait>(&self, rt: &R) {
+        let lanes = self.lanes.lock(rt).take();
+        drop(lanes);
+        self.mailbox.lock(rt).clear();
+    }
+}
+
+/// An answer of the node as the HTTP server takes it; status 503 if the object cannot get one more owner.
+fn outcome_of(answer: &Answer) -> serving::Outcome {
+    match answer {
+        Answer::Hit { object, age } => match object.share() {
+            Ok(object) => serving::Outcome::Hit { object, age: *age },
+            Err(_) => serving::Outcome::Fail(503),
+        },
+        Answer::Got(object) => match object.share() {
+            Ok(object) => serving::Outcome::Got(object),
+            Err(_) => serving::Outcome::Fail(503),
+        },
+        Answer::Fail(status) => serving::Outcome::Fail(*status),
+    }
+}

@@ -1,0 +1,21 @@
+//! Tests of the book: desks with threads at their seats, replays of whole books, long runs of a node, a client's fetch told by
+//! several kinds of clerk, and tallies of actions. They exercise node_core (`Node`, `run_events`), plain_node (`Tally`) and
+//! node_book (`Booked`, `Desk`, `Seat`, `Lone`, `Seated`) by their public calls. There are no contracts here but those that the
+//! calls require.
+//! Tested by: itself; `rt check --test` runs these tests.
+#![tactic(auto)]
+
+#[cfg(test)]
+mod desks;
+#[cfg(test)]
+mod events;
+#[cfg(test)]
+mod loads;
+#[cfg(test)]
+mod nodes;
+#[cfg(test)]
+mod replays;
+#[cfg(test)]
+mod stories;
+#[cfg(test)]
+mod tallies;

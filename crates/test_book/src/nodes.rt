@@ -1,0 +1,192 @@
+//! Tests of nodes that take many events or datagrams judged before, and of copies of nodes.
+
+use crate::events::{QUERY, arrival, datagram_of, limit, node_of, request, swap};
+use filter_slots::{Judged, Moment, Socket};
+use node_core::{Action, Answer, Event, Mode, Node, Out, run_events};
+use std::alloc::Global;
+use std::test::Fail;
+
+/// The MISS reply of the node at 10.0.0.1 to the query.
+const MISS: &[u8] =
+    b"\x03\x02\x00\x1e\x00\x00\x00\x01\x00\x00\x00\x00\x00\x00\x00\x00\x0a\x00\x00\x01http://a/\x00";
+
+/// A neighbour's query.
+fn query(alloc: Global) -> Option<Event> {
+    arrival(alloc, Socket::Icp, QUERY, Moment::new(5)?)
+}
+
+/// Whether the only action is to send a MISS.
+fn is_missed(out: &Out) -> bool {
+    match out.actions() {
+        [Action::Send { payload, .. }] => payload.as_slice() == MISS,
+        _ => false,
+    }
+}
+
+/// Whether a node answers an event with one MISS.
+fn is_missed_at(alloc: Global, node: &mut Node, event: &Event, out: &mut Out) -> bool {
+    out.clear();
+    node.step(alloc, event, out).is_ok() && is_missed(out)
+}
+
+/// How many of this many equal queries a node answers with a MISS.
+fn missed_by(alloc: Global, node: &mut Node, event: &Event, queries: u32) -> Option<u32> {
+    let mut out = Out::new(alloc).ok()?;
+    let mut count = 0u32;
+    for _ in 0..queries {
+        count = count.wrapping_add(is_missed_at(alloc, node, event, &mut out) as u32);
+    }
+    Some(count)
+}
+
+/// How many of this many queries a new node answers with a MISS.
+fn missed(alloc: Global, queries: u32) -> Option<u32> {
+    let event = query(alloc)?;
+    let mut node = node_of(alloc)?;
+    let count = missed_by(alloc, &mut node, &event, queries);
+    drop(node);
+    count
+}
+
+#[test]
+fn many_queries_get_their_replies(rt: HostRuntime) {
+    let count = missed(rt.alloc(), 100_000);
+    assert!(rt; count == Some(100_000));
+}
+
+/// This many queries.
+fn queries(alloc: Global, count: u32) -> Option<Vec<Event>> {
+    let mut events = Vec::new(alloc);
+    for _ in 0..count {
+        events.push(query(alloc)?).ok()?;
+    }
+    Some(events)
+}
+
+/// The actions of a new node for each of this many queries.
+fn outs_of(alloc: Global, count: u32) -> Option<Vec<Out>> {
+    let events = queries(alloc, count)?;
+    let mut node = node_of(alloc)?;
+    let outs = run_events(alloc, &mut node, &events).ok();
+    drop(node);
+    outs
+}
+
+#[test]
+fn a_long_list_is_taken(rt: HostRuntime) -> Result<(), Fail> {
+    let outs = outs_of(rt.alloc(), 1_000).ok_or("the list is taken")?;
+    assert!(rt; outs.len() == 1_000);
+    assert!(rt; outs.iter().all(|out| is_missed(out)));
+    Ok(())
+}
+
+/// The status that a client is answered with, if that is the only action.
+fn status_of(out: &Out) -> Option<u16> {
+    match out.actions() {
+        [
+            Action::Serve {
+                answer: Answer::Fail(status),
+                ..
+            },
+        ] => Some(*status),
+        _ => None,
+    }
+}
+
+/// The status that a client's request is answered with at once. `None` if there is none, or on allocation failure.
+fn told(alloc: Global, node: &mut Node, client: u64, mode: Mode) -> Option<u16> {
+    let mut out = Out::new(alloc).ok()?;
+    let event = request(alloc, client, mode, Moment::new(5)?)?;
+    node.step(alloc, &event, &mut out).ok()?;
+    status_of(&out)
+}
+
+/// Whether the requests of this many clients are all answered with this status at once.
+fn are_told(alloc: Global, node: &mut Node, clients: u64, mode: Mode, wanted: Option<u16>) -> bool {
+    for client in 0..clients {
+        if told(alloc, node, client, mode) != wanted {
+            return false;
+        }
+    }
+    true
+}
+
+/// Whether a new node, with nothing stored, refuses clients that want stored objects only; lets other clients wait; and refuses
+/// one more than it has room for.
+fn turned_away(alloc: Global) -> Option<[bool; 3]> {
+    let mut node = node_of(alloc)?;
+    let cached = are_told(alloc, &mut node, 1_000, Mode::Cached, Some(504));
+    let waits = are_told(alloc, &mut node, 1_024, Mode::Shared, None);
+    let is_full = told(alloc, &mut node, 1_024, Mode::Shared) == Some(503);
+    drop(node);
+    Some([cached, waits, is_full])
+}
+
+#[test]
+fn clients_join_and_are_turned_away(rt: HostRuntime) {
+    assert!(rt; turned_away(rt.alloc()) == Some([true, true, true]));
+}
+
+/// Whether a query that was judged by a filter rejecting it is answered with a MISS.
+fn is_missed_when_judged(alloc: Global, node: &mut Node) -> Option<bool> {
+    let datagram = datagram_of(alloc, Socket::Icp, QUERY)?;
+    let judged = Judged::new(datagram, Some(limit(alloc, 0)?), None);
+    let mut out = Out::new(alloc).ok()?;
+    node.step_judged(alloc, &judged, Moment::new(5)?, &mut out)
+        .ok()?;
+    Some(is_missed(&out))
+}
+
+/// Whether a node takes a swap for a filter that rejects every datagram.
+fn is_closed(alloc: Global, node: &mut Node) -> Option<bool> {
+    let event = swap(alloc, 0)?;
+    let mut out = Out::new(alloc).ok()?;
+    Some(node.step(alloc, &event, &mut out).is_ok())
+}
+
+/// Whether a new node answers a query with a MISS that a rejecting filter judged before, and how many datagrams it has then
+/// rejected. The node's own slot holds such a filter, or none.
+fn answered_judged(alloc: Global, closes: bool) -> Option<(bool, u64)> {
+    let mut node = node_of(alloc)?;
+    let is_ready = !closes || is_closed(alloc, &mut node) == Some(true);
+    let is_missed = is_missed_when_judged(alloc, &mut node);
+    let rejected = node.stats().icp.rejected;
+    drop(node);
+    if is_ready {
+        Some((is_missed?, rejected))
+    } else {
+        None
+    }
+}
+
+#[test]
+fn a_held_verdict_counts_only_under_its_filter(rt: HostRuntime) {
+    assert!(rt; answered_judged(rt.alloc(), true) == Some((false, 1)));
+    assert!(rt; answered_judged(rt.alloc(), false) == Some((true, 0)));
+}
+
+/// Gives a client's request to a node and a neighbour's query to its copy. Whether each acts on its own event only, and counts
+/// only that.
+fn are_apart(alloc: Global, node: &mut Node, copy: &mut Node) -> bool {
+    let waits = told(alloc, node, 1, Mode::Shared).is_none();
+    let is_missed = is_missed_when_judged(alloc, copy) == Some(true);
+    let judged = (node.stats().icp.judged, copy.stats().icp.judged);
+    waits && is_missed && judged == (0, 1) && node.key_of(1).is_some() && copy.key_of(1).is_none()
+}
+
+/// Whether a node and its copy are independent.
+fn is_copied(alloc: Global, node: &mut Node) -> Option<bool> {
+    let mut copy = node.copy(alloc).ok()?;
+    let are_apart = are_apart(alloc, node, &mut copy);
+    drop(copy);
+    Some(are_apart)
+}
+
+#[test]
+fn a_copy_goes_its_own_way(rt: HostRuntime) -> Result<(), Fail> {
+    let mut node = node_of(rt.alloc()).ok_or("a node")?;
+    let is_copied = is_copied(rt.alloc(), &mut node);
+    drop(node);
+    assert!(rt; is_copied == Some(true));
+    Ok(())
+}

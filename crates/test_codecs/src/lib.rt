@@ -1,0 +1,20 @@
+//! Tests of the codecs and filters: programs, listings and assembler text (bpf_check, bpf_run, bpf_asm), filter slots
+//! (filter_slots), ICP and HTCP messages (icp_packet, htcp_packet), the neighbour table and its rounds (neighbours, peer_select).
+//!
+//! A crate of tests only; most of them run a table of cases.
+#![tactic(auto)]
+
+#[cfg(test)]
+mod htcp;
+#[cfg(test)]
+mod icp;
+#[cfg(test)]
+mod programs;
+#[cfg(test)]
+mod rounds;
+#[cfg(test)]
+mod slots;
+#[cfg(test)]
+mod table;
+#[cfg(test)]
+mod texts;

@@ -1,0 +1,203 @@
+//! Verdicts of programs on the packets of two datagrams, and programs that the checker refuses.
+
+use bpf_check::{CheckFault, Insn, check};
+use bpf_run::{End, Packet, Verdict, judge};
+use std::test::Fail;
+
+const FROM: End = End {
+    addr: [10, 0, 0, 9],
+    port: 3130,
+};
+
+const TO: End = End {
+    addr: [10, 0, 0, 1],
+    port: 3131,
+};
+
+// An ICP QUERY of 34 octets for `http://a/`.
+const QUERY: [u8; 34] = [
+    1, 2, 0, 34, 0, 0, 0, 1, 0, 0, 0, 0, 0, 0, 0, 0, 0, 0, 0, 0, 0, 0, 0, 0, 104, 116, 116, 112,
+    58, 47, 47, 97, 47, 0,
+];
+
+// An ICP MISS of 30 octets for `http://a/`, from 10.0.0.9.
+const MISS: [u8; 30] = [
+    3, 2, 0, 30, 0, 0, 0, 1, 0, 0, 0, 0, 0, 0, 0, 0, 10, 0, 0, 9, 104, 116, 116, 112, 58, 47, 47,
+    97, 47, 0,
+];
+
+// The instructions of a program: code, `jt`, `jf` and `k` of each. (0x16, 0, 0, 0) is `ret a`.
+pub(crate) type Listing = &'static [(u16, u8, u8, u32)];
+
+// The instructions of a listing.
+pub(crate) fn insns_of(rt: &HostRuntime, listing: Listing) -> Result<Vec<Insn>, Fail> {
+    let mut insns = Vec::new(rt.alloc());
+    for (code, jt, jf, k) in listing {
+        insns.push(Insn {
+            code: *code,
+            jt: *jt,
+            jf: *jf,
+            k: *k,
+        })?;
+    }
+    Ok(insns)
+}
+
+// The result of a program on a payload: the value and the number of steps.
+fn verdict(insns: Vec<Insn>, payload: &[u8]) -> Result<(u32, u16), Fail> {
+    let program = check(insns).map_err(|_| "refused")?;
+    let packet = Packet::new(FROM, TO, payload).ok_or("too long")?;
+    let Verdict { value, steps } = judge(&program, &packet);
+    Ok((value, steps))
+}
+
+// The fault that the checker finds in a program.
+fn fault(insns: Vec<Insn>) -> Option<CheckFault> {
+    check(insns).err().map(|refused| refused.0)
+}
+
+// Accepts ICP queries: `ldb [28]`, `jeq #1`, `ret #65535`, `ret #0`.
+const QUERIES: Listing = &[
+    (48, 0, 0, 28),
+    (21, 0, 1, 1),
+    (6, 0, 0, 65_535),
+    (6, 0, 0, 0),
+];
+
+// Each program with its value and number of steps on the QUERY.
+const PROGRAMS: &[(Listing, (u32, u16))] = &[
+    // ldb [61], the last octet; ldh [61], where one octet is outside
+    (&[(0x30, 0, 0, 61), (0x16, 0, 0, 0)], (0, 2)),
+    (&[(0x28, 0, 0, 61), (0x16, 0, 0, 0)], (0, 1)),
+    // ldx #0; div x
+    (&[(1, 0, 0, 0), (0x3c, 0, 0, 0), (0x16, 0, 0, 0)], (0, 2)),
+    // ld #17; mod #5; xor #7
+    (
+        &[
+            (0, 0, 0, 17),
+            (148, 0, 0, 5),
+            (164, 0, 0, 7),
+            (0x16, 0, 0, 0),
+        ],
+        (5, 4),
+    ),
+    // ldx #0; mod x
+    (&[(1, 0, 0, 0), (156, 0, 0, 0), (6, 0, 0, 1)], (0, 2)),
+    // ld #12; ldx #10; xor x
+    (
+        &[
+            (0, 0, 0, 12),
+            (1, 0, 0, 10),
+            (172, 0, 0, 0),
+            (0x16, 0, 0, 0),
+        ],
+        (6, 4),
+    ),
+    // ldx #0xffffffff; ldb [x+1]
+    (
+        &[(1, 0, 0, 0xffff_ffff), (0x50, 0, 0, 1), (6, 0, 0, 1)],
+        (0, 2),
+    ),
+    // ld len
+    (&[(0x80, 0, 0, 0), (0x16, 0, 0, 0)], (62, 2)),
+    // ldh [2], ldh [24]: the lengths in both headers
+    (&[(0x28, 0, 0, 2), (0x16, 0, 0, 0)], (62, 2)),
+    (&[(0x28, 0, 0, 24), (0x16, 0, 0, 0)], (42, 2)),
+    // ld [20]: both ports
+    (
+        &[(0x20, 0, 0, 20), (0x16, 0, 0, 0)],
+        (3130 * 65_536 + 3131, 2),
+    ),
+    // ldxb 4*([0]&0xf); ldb [x+8]: the first octet of the payload
+    (&[(0xb1, 0, 0, 0), (0x50, 0, 0, 8), (0x16, 0, 0, 0)], (1, 3)),
+];
+
+#[test]
+fn verdicts(rt: HostRuntime) -> Result<(), Fail> {
+    assert!(rt; verdict(insns_of(&rt, QUERIES)?, &QUERY)? == (65_535, 3));
+    assert!(rt; verdict(insns_of(&rt, QUERIES)?, &MISS)? == (0, 3));
+    for (listing, want) in PROGRAMS {
+        assert!(rt;
+            verdict(insns_of(&rt, *listing)?, &QUERY)? == *want,
+            "{} {}",
+            want.0,
+            want.1
+        );
+    }
+    Ok(())
+}
+
+const REFUSED: &[(Listing, CheckFault)] = &[
+    (&[], CheckFault::Empty),
+    // div #0, mod #0
+    (
+        &[(0x34, 0, 0, 0), (0x16, 0, 0, 0)],
+        CheckFault::ZeroDivisor(0),
+    ),
+    (
+        &[(0x94, 0, 0, 0), (0x16, 0, 0, 0)],
+        CheckFault::ZeroDivisor(0),
+    ),
+    // ja with a distance that would wrap in 32 bits
+    (
+        &[(5, 0, 0, 0xffff_ffff), (6, 0, 0, 0)],
+        CheckFault::BadJump(0),
+    ),
+    // st M[16] before div #0
+    (
+        &[(2, 0, 0, 16), (0x34, 0, 0, 0), (6, 0, 0, 0)],
+        CheckFault::BadScratch(0),
+    ),
+    // tax after ret
+    (&[(6, 0, 0, 0), (7, 0, 0, 0)], CheckFault::NoReturn),
+];
+
+#[test]
+fn refusals(rt: HostRuntime) -> Result<(), Fail> {
+    for (listing, want) in REFUSED {
+        assert!(rt; fault(insns_of(&rt, *listing)?) == Some(*want));
+    }
+    Ok(())
+}
+
+// `ld #0`.
+const LOAD: Insn = Insn {
+    code: 0,
+    jt: 0,
+    jf: 0,
+    k: 0,
+};
+
+// `ret #1`.
+const RETURN: Insn = Insn {
+    code: 6,
+    jt: 0,
+    jf: 0,
+    k: 1,
+};
+
+// `count` instructions: loads of a constant, and `ret #1` at the end.
+fn of_length(rt: &HostRuntime, count: usize) -> Result<Vec<Insn>, Fail> {
+    let mut insns = Vec::new(rt.alloc());
+    for _ in 1..count {
+        insns.push(LOAD)?;
+    }
+    insns.push(RETURN)?;
+    Ok(insns)
+}
+
+const LENGTHS: [(usize, Option<CheckFault>); 4] = [
+    (1, None),
+    (513, None),
+    (4096, None),
+    (4097, Some(CheckFault::TooLong)),
+];
+
+#[test]
+fn lengths(rt: HostRuntime) -> Result<(), Fail> {
+    for (count, want) in &LENGTHS {
+        assert!(rt; fault(of_length(&rt, *count)?) == *want);
+    }
+    assert!(rt; verdict(of_length(&rt, 4096)?, &QUERY)? == (1, 4096));
+    Ok(())
+}

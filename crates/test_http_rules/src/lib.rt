@@ -1,0 +1,9 @@
+//! Tests of the HTTP caching rules (`http_rules`) and of the configuration of `serve` (`serve_config`), as tables of cases.
+//! No contract is proved here beyond the safety of the tests.
+//! Tested by: nothing; its `#[test]` functions are the tests.
+#![tactic(auto)]
+
+#[cfg(test)]
+mod rules;
+#[cfg(test)]
+mod settings;

@@ -1,0 +1,169 @@
+//! Two seats of one desk pump, one after the other.
+ghost use Rattle.std.specs.Prelude.{◌≡◌, IfSome};
+ghost use Rattle.node_book.specs.Book.{count_of};
+
+use crate::fixtures::{
+    Step, WAITS, asks, fetches_from_origin, has_replied, node_of, pumped, wire_of,
+};
+use mio_queries::{PumpFault, Pumped, WireFault};
+use node_book::{Booked, Desk, Report, Seat, Seated};
+use node_core::Action;
+use std::alloc::Global;
+use std::marker::Brand;
+use std::sync::Wait;
+use std::sync::ledger::{Blank, Ledger};
+use std::test::Fail;
+
+/// What one seat's wire receives, and the expected result: what `pump` returns, the queries that are answered, and whether the
+/// pending fetch is passed on.
+struct Row {
+    steps: &'static [Step],
+    turns: u32,
+    gives: Result<Pumped, PumpFault>,
+    replied: &'static [usize],
+    fetches: bool,
+}
+
+/// A client waits at the first seat; its round ends at 3000.
+const FIRST: Row = Row {
+    steps: &[Step::Query(0), Step::Idle(2_999), Step::Query(1)],
+    turns: 3,
+    gives: Ok(Pumped {
+        received: 2,
+        idle: 1,
+        sent: 2,
+        failed: 0,
+    }),
+    replied: &[0, 1],
+    fetches: false,
+};
+
+/// The second seat's idle turn ends the round.
+const SECOND: Row = Row {
+    steps: &[
+        Step::Query(2),
+        Step::Idle(3_000),
+        Step::Fault(WireFault::Io),
+    ],
+    turns: 9,
+    gives: Err(PumpFault::Receive),
+    replied: &[2],
+    fetches: true,
+};
+
+/// The book of a new node.
+fn book_of(alloc: Global) -> Option<Booked>
+    ensures { IfSome result (λ b. count_of b ≡ 0) }
+{
+    Booked::new(alloc, node_of(alloc, WAITS)?, 100).ok()
+}
+
+/// A desk with two seats.
+fn desk_of<L: Ledger>(alloc: Global, blank: Blank) -> Option<(Desk<L>, Vec<Seat<L>>)>
+    requires name { blank.name ≡ L.name }
+    requires parts { blank.parts ≡ L.parts }
+    requires two { blank.parts ≡ 2 }
+{
+    let booked = book_of(alloc)?;
+    Desk::<L>::open(alloc, blank, booked, 2).ok()
+}
+
+/// Whether the pending fetch was passed on, and nothing else.
+fn has_passed_fetch(passed: &[Action]) -> bool {
+    match passed {
+        [action] => fetches_from_origin(action, 1),
+        _ => false,
+    }
+}
+
+/// Pumps for a clerk. Returns whether the row holds, or `None` if an allocation fails.
+fn holds<L: Ledger, R: Wait>(
+    alloc: Global,
+    clerk: &mut Seated<'_, L, R>,
+    row: &Row,
+) -> Option<bool> {
+    let mut wire = wire_of(alloc, row.steps, &[])?;
+    let gives = pumped(alloc, &mut wire, clerk, row.turns);
+    let fetches = has_passed_fetch(clerk.passed());
+    Some(gives == row.gives && has_replied(&wire, row.replied) && fetches == row.fetches)
+}
+
+/// A client asks at the first seat, then both seats pump in turn. Returns whether each row holds, or `None` if the client's
+/// request is refused or an allocation fails.
+fn both_hold<L: Ledger, R: Wait>(
+    alloc: Global,
+    first: &mut Seated<'_, L, R>,
+    second: &mut Seated<'_, L, R>,
+) -> Option<(bool, bool)> {
+    if !asks(alloc, first, 1, b"http://a/") {
+        return None;
+    }
+    let one = holds(alloc, first, &FIRST)?;
+    Some((one, holds(alloc, second, &SECOND)?))
+}
+
+/// Takes both seats out of the list, first seat first.
+fn pair_of<L: Ledger>(seats: &mut Vec<Seat<L>>) -> Option<(Seat<L>, Seat<L>)> {
+    let second = seats.pop()?;
+    Some((seats.pop()?, second))
+}
+
+/// Both seats pump. Returns the result and the seats.
+fn seats_pump<L: Ledger, R: Wait>(
+    rt: &R,
+    alloc: Global,
+    desk: &Desk<L>,
+    first: Seat<L>,
+    second: Seat<L>,
+) -> (Option<(bool, bool)>, Seat<L>, Seat<L>) {
+    let mut first = Seated::new(alloc, rt, desk, first);
+    let mut second = Seated::new(alloc, rt, desk, second);
+    let hold = both_hold(alloc, &mut first, &mut second);
+    (hold, first.into_seat(), second.into_seat())
+}
+
+/// Both seats pump and are put back into the list.
+fn all_pump<L: Ledger, R: Wait>(
+    rt: &R,
+    alloc: Global,
+    desk: &Desk<L>,
+    seats: &mut Vec<Seat<L>>,
+) -> Option<(bool, bool)> {
+    let (first, second) = pair_of(seats)?;
+    let (hold, first, second) = seats_pump(rt, alloc, desk, first, second);
+    seats.push(second).ok()?;
+    seats.push(first).ok()?;
+    hold
+}
+
+/// The report of a settled desk, or `None` if it doesn't settle.
+fn report_of<L: Ledger>(desk: Desk<L>, seats: Vec<Seat<L>>) -> Option<Report> {
+    desk.settle(seats).ok()
+}
+
+/// Both seats of a new desk pump in turn, then the desk is settled. Returns whether each row holds, and the report.
+fn settled<L: Ledger, R: Wait>(rt: &R, alloc: Global, blank: Blank) -> Option<(bool, bool, Report)>
+    requires name { blank.name ≡ L.name }
+    requires parts { blank.parts ≡ L.parts }
+    requires two { blank.parts ≡ 2 }
+{
+    let (desk, mut seats) = desk_of::<L>(alloc, blank)?;
+    let (one, other) = all_pump(rt, alloc, &desk, &mut seats)?;
+    Some((one, other, report_of(desk, seats)?))
+}
+
+/// The book has six events: the client's request, and one for each receive that succeeded.
+#[test]
+fn two_seats_pump(rt: HostRuntime) -> Result<(), Fail> {
+    let settled = settled::<Brand, _>(&rt, rt.alloc(), Blank::new(2));
+    let (one, other, report) = settled.ok_or("a settled desk")?;
+    assert!(rt; one);
+    assert!(rt; other);
+    let wanted = Report {
+        count: 6,
+        base: 0,
+        matched: 6,
+    };
+    assert!(rt; report == wanted);
+    Ok(())
+}
