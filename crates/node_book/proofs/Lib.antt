@@ -1,4 +1,5 @@
 pub mod Legal
+pub mod Light
 pub mod Least
 pub mod Once
 pub mod Rising

@@ -5,4 +5,4 @@ use Rattle.node_book.specs.Book.{Book}
 use Rattle.node_book.specs.declared.booked.Booked.TheInside.{Inside}
 
 abbrev pub book_of : Inside → Book
-book_of b = record { first = b.first; opening = b.opening; entries = map entry_of b.kept.items; base = b.base; present = b.present; volume = b.volume }
+book_of b = record { first = b.first; opening = b.opening; entries = map entry_of b.kept.items; base = b.base; present = b.present; volume = b.volume; octets = b.most_octets }

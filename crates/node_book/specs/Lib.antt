@@ -1,5 +1,7 @@
+pub mod Audited
 pub mod Book
 pub mod Claims
+pub mod Contents
 pub mod Entries
 pub mod Good
 pub mod Kept

@@ -1,5 +1,5 @@
 //! A node with its book: the log of the events that it has taken, each with a tally of its actions.
-ghost use Rattle.std.specs.Prelude.{◌≡◌, ◌<◌, ◌≤◌, [], ◌∷◌, ◌+◌, length, IfOk, OnOk, OnErr, IsErrOf, IsTrue, ◌≢◌, ◌↔◌, map};
+ghost use Rattle.std.specs.Prelude.{true, false, ◌≡◌, ◌<◌, ◌≤◌, [], ◌∷◌, ◌+◌, length, IfOk, OnOk, OnErr, IsErrOf, IsTrue, ◌≢◌, ◌↔◌, map};
 ghost use Rattle.std.specs.Option.{option_map};
 ghost use Rattle.pending_fetch.specs.Fetches.{PendingFetch, fetch_of};
 ghost use Rattle.std.specs.Bool.{OnFalse};
@@ -10,9 +10,10 @@ ghost use Rattle.plain_node.specs.Tally.{tally_of};
 ghost use Rattle.node_book.specs.Claims.{claim_of, said_of};
 ghost use Rattle.node_book.specs.Entries.{entry_of};
 ghost use Rattle.node_book.specs.Good.{Stands};
-ghost use Rattle.node_book.specs.Book.{IsLegal, begun, count_of, turned, written};
+ghost use Rattle.node_book.specs.Book.{IsLegal, begun, begun_within, count_of, is_full, turned, written};
 
 use crate::NoMemory;
+use crate::contents::contents_of;
 use crate::image::Image;
 use filter_slots::{Judged, Moment};
 use node_core::{Event, Node, Out, Tally, append_law, same_event, same_tally};
@@ -26,10 +27,13 @@ use thiserror::Error;
 /// The greatest capacity of a volume, in events.
 pub const MOST_VOLUME: usize = 1_048_576;
 
-/// Errors of `Booked::new`.
+/// The capacity of a volume in octets of contents, unless set otherwise: 64 MiB.
+pub const BOOK_OCTETS: u32 = 67_108_864;
+
+/// Errors of `Booked::new` and `Booked::within`.
 #[derive(Clone, Copy, Debug, PartialEq, Eq, Error)]
 pub enum BookFault {
-    /// The capacity of a volume is not 1 to 1,048,576.
+    /// The capacity of a volume is not 1 to 1,048,576, or its capacity in octets is 0.
     #[error("the volume is not 1 to 1048576")]
     Limits,
     /// Allocation failure.
@@ -85,13 +89,17 @@ pub struct Booked {
     opening: Image,
     present: Node,
     kept: Vec<Entry>,
+    // The octets of the contents of `kept`.
+    octets: u64,
     base: u64,
     volume: usize,
+    most_octets: u32,
 }
 
 impl Model for Booked {
-    ghost use Rattle.std.specs.Prelude.{◌≤◌, vec_capacity};
-    ghost use Rattle.node_book.specs.Book.{Book, IsLegal};
+    ghost use Rattle.std.specs.Prelude.{◌≡◌, ◌≤◌, map, vec_capacity};
+    ghost use Rattle.node_book.specs.Book.{Book, IsLegal, entry_octets};
+    ghost use Rattle.node_book.specs.Entries.{entry_of};
 
     ghost Value = { Book };
 
@@ -99,16 +107,30 @@ impl Model for Booked {
 
     ghost view = { book_of };
 
-    ghost invariant = { λ b. IsLegal (book_of b) × (b.volume ≤ vec_capacity b.kept) };
+    ghost invariant = { λ b. IsLegal (book_of b) × (b.volume ≤ vec_capacity b.kept) × (b.octets ≡ entry_octets (map entry_of b.kept.items)) };
 }
 
 impl Booked {
-    /// Starts the book of a node. `volume` is the capacity of a volume in events, which is allocated at once.
+    /// Starts the book of a node. `volume` is the capacity of a volume in events, which is allocated at once. A volume also ends
+    /// when the contents of its events have 64 MiB.
     pub fn new(alloc: Global, node: Node, volume: usize) -> Result<Booked, BookFault>
         ensures begins { IfOk result (λ b. b ≡ begun node volume) }
         ensures limits { IsErrOf result BookFault.Limits ↔ ((0 < volume) × (volume ≤ 1048576) → ⊥) }
     {
-        if volume == 0 || volume > MOST_VOLUME {
+        Booked::within(alloc, node, volume, BOOK_OCTETS)
+    }
+
+    /// As `new`; a volume also ends when the contents of its events have `most_octets` octets.
+    pub fn within(
+        alloc: Global,
+        node: Node,
+        volume: usize,
+        most_octets: u32,
+    ) -> Result<Booked, BookFault>
+        ensures begins { IfOk result (λ b. b ≡ begun_within node volume most_octets) }
+        ensures limits { IsErrOf result BookFault.Limits ↔ ((0 < volume) × (volume ≤ 1048576) × (0 < most_octets) → ⊥) }
+    {
+        if volume == 0 || volume > MOST_VOLUME || most_octets == 0 {
             return Err(BookFault::Limits);
         }
         let Ok(kept) = Vec::with_capacity(alloc, volume) else {
@@ -119,8 +141,10 @@ impl Booked {
             opening: Image::of(&node),
             present: node,
             kept,
+            octets: 0,
             base: 0,
             volume,
+            most_octets,
         })
     }
 
@@ -163,12 +187,12 @@ impl Booked {
         self.base
     }
 
-    /// Whether the present volume is at its capacity.
+    /// Whether the present volume is at one of its capacities.
     pub fn is_full(&self) -> bool
-        ensures full { IsTrue result ↔ (length self.now.entries ≡ self.now.volume) }
+        ensures full { result ≡ is_full self.now }
         ensures room { OnFalse result (length self.now.entries < self.now.volume) }
     {
-        self.kept.len() == self.volume
+        self.kept.len() == self.volume || u64::from(self.most_octets) <= self.octets
     }
 
     /// The invariant: the book is legal. Changes nothing.
@@ -190,8 +214,9 @@ impl Booked {
         ensures taken { OnOk result (HasTaken self.old.present self.new.present (happening (arc_value event) ∷ []) (out.new ∷ [])) }
         ensures book { OnOk result (self.new ≡ written self.old (happening (arc_value event)) (tally_of out.new) self.new.present) }
         ensures receipt { IfOk result (λ r. (r.number ≡ count_of self.old) × (arc_value r.event ≡ arc_value event) × (r.tally ≡ tally_of out.new)) }
+        ensures count { OnOk result (count_of self.new ≡ count_of self.old + 1) }
         ensures ended { IsErrOf result TakeFault.Ended ↔ (count_of self.old ≡ 18446744073709551615) }
-        ensures full { IsErrOf result TakeFault.VolumeFull ↔ ((count_of self.old ≢ 18446744073709551615) × (length self.old.entries ≡ self.old.volume)) }
+        ensures full { IsErrOf result TakeFault.VolumeFull ↔ ((count_of self.old ≢ 18446744073709551615) × (is_full self.old ≡ true)) }
         ensures refused { OnErr result ((self.new ≡ self.old) × (out.new ≡ [])) }
     {
         let number = self.count();
@@ -226,7 +251,7 @@ impl Booked {
         ensures receipt { IfOk result (λ r. (r.number ≡ count_of self.old) × (happening (arc_value r.event) ≡ arrives judged.now.datagram now) × (r.tally ≡ tally_of out.new)) }
         ensures count { OnOk result (count_of self.new ≡ count_of self.old + 1) }
         ensures ended { IsErrOf result TakeFault.Ended ↔ (count_of self.old ≡ 18446744073709551615) }
-        ensures full { IsErrOf result TakeFault.VolumeFull ↔ ((count_of self.old ≢ 18446744073709551615) × (length self.old.entries ≡ self.old.volume)) }
+        ensures full { IsErrOf result TakeFault.VolumeFull ↔ ((count_of self.old ≢ 18446744073709551615) × (is_full self.old ≡ true)) }
         ensures refused { OnErr result ((self.new ≡ self.old) × (out.new ≡ [])) }
     {
         let number = self.count();
@@ -252,7 +277,7 @@ impl Booked {
     /// Takes an event, given that the volume has room.
     fn enter(&mut self, alloc: Global, event: &Arc<Event>, out: &mut Out) -> Result<Tally, NoMemory>
         requires out { out.old ≡ [] }
-        requires room { (length self.old.entries < self.old.volume) × (count_of self.old < 18446744073709551615) }
+        requires room { (is_full self.old ≡ false) × (count_of self.old < 18446744073709551615) }
         ensures taken { OnOk result (HasTaken self.old.present self.new.present (happening (arc_value event.now) ∷ []) (out.new ∷ [])) }
         ensures book { OnOk result (self.new ≡ written self.old (happening (arc_value event.now)) (tally_of out.new) self.new.present) }
         ensures tally { IfOk result (λ tally. tally ≡ tally_of out.new) }
@@ -262,6 +287,7 @@ impl Booked {
         let shared = Arc::try_clone(event)?;
         self.present.step(alloc, &**event, out)?;
         let tally = out.tally();
+        self.octets += contents_of(&**event);
         self.kept.push_reserved(Entry {
             event: shared,
             tally,
@@ -279,7 +305,7 @@ impl Booked {
         out: &mut Out,
     ) -> Result<Tally, NoMemory>
         requires out { out.old ≡ [] }
-        requires room { (length self.old.entries < self.old.volume) × (count_of self.old < 18446744073709551615) }
+        requires room { (is_full self.old ≡ false) × (count_of self.old < 18446744073709551615) }
         requires event { happening (arc_value event.now) ≡ arrives judged.now.datagram now }
         ensures taken { OnOk result (HasTaken self.old.present self.new.present (happening (arc_value event.now) ∷ []) (out.new ∷ [])) }
         ensures book { OnOk result (self.new ≡ written self.old (happening (arc_value event.now)) (tally_of out.new) self.new.present) }
@@ -290,6 +316,7 @@ impl Booked {
         let shared = Arc::try_clone(event)?;
         self.present.step_judged(alloc, judged, now, out)?;
         let tally = out.tally();
+        self.octets += contents_of(&**event);
         self.kept.push_reserved(Entry {
             event: shared,
             tally,
@@ -318,6 +345,7 @@ impl Booked {
     {
         self.opening = Image::of(&self.present);
         self.base += self.kept.len() as u64;
+        self.octets = 0;
         match Vec::with_capacity(alloc, self.volume) {
             Ok(fresh) => Volume {
                 _kept: mem::replace(&mut self.kept, fresh),

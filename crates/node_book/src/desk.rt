@@ -4,14 +4,15 @@ ghost use Rattle.std.specs.Arc.{arc_value};
 ghost use Rattle.node_core.specs.Happening.{arrives, happening};
 ghost use Rattle.plain_node.specs.Tally.{tally_of};
 ghost use Rattle.node_book.specs.Book.{IsLegal, count_of};
-ghost use Rattle.node_book.specs.Seats.{latest, claim, opened_seats};
+ghost use Rattle.node_book.specs.Audited.{Audits};
+ghost use Rattle.node_book.specs.Seats.{latest, light, claim, opened_seats, opened_with_room};
 ghost use Rattle.node_book.specs.Settled.{Settles};
 
 use crate::NoMemory;
 use crate::booked::Booked;
 use crate::ledgered::{Ledgered, Spent, SubmitFault};
 use crate::neighbour_view::{NeighbourView, views_of};
-use crate::seat::{Seat, seats_of};
+use crate::seat::{RECEIPT_OCTETS, Seat, seats_of};
 use crate::settle::{Report, SettleFault};
 use filter_slots::{Judged, Moment, Slots};
 use node_core::{Event, Out, Stats};
@@ -55,7 +56,8 @@ impl<L: Ledger> Model for Desk<L> {
 }
 
 impl<L: Ledger> Desk<L> {
-    /// Puts a new book behind a mutex and opens this many seats, each with one part of the new ledger.
+    /// Puts a new book behind a mutex and opens this many seats, each with one part of the new ledger. The receipts of a seat
+    /// keep at most 4 MiB of contents.
     pub fn open(
         alloc: Global,
         blank: Blank,
@@ -70,11 +72,30 @@ impl<L: Ledger> Desk<L> {
         ensures desk { IfOk result (λ r. r.0 ≡ seats) }
         ensures seats { IfOk result (λ r. r.1.items ≡ opened_seats seats) }
     {
+        Desk::open_with(alloc, blank, booked, seats, RECEIPT_OCTETS)
+    }
+
+    /// As `open`; the receipts of a seat keep at most `room` octets of contents.
+    pub fn open_with(
+        alloc: Global,
+        blank: Blank,
+        booked: Booked,
+        seats: u64,
+        room: u32,
+    ) -> Result<(Desk<L>, Vec<Seat<L>>), OpenFault>
+        requires new { count_of booked ≡ 0 }
+        requires name { blank.name ≡ L.name }
+        requires parts { blank.parts ≡ L.parts }
+        requires one_each { (0 < seats) × (seats ≤ 64) → blank.parts ≡ seats }
+        ensures refused { IsErrOf result OpenFault.Seats ↔ ((0 < seats) × (seats ≤ 64) → ⊥) }
+        ensures desk { IfOk result (λ r. r.0 ≡ seats) }
+        ensures seats { IfOk result (λ r. r.1.items ≡ opened_with_room room seats) }
+    {
         if seats == 0 || seats > 64 {
             return Err(OpenFault::Seats);
         }
         let (total, mut spare) = blank.open::<L>();
-        let Ok(all) = seats_of(alloc, &mut spare, seats) else {
+        let Ok(all) = seats_of(alloc, &mut spare, seats, room) else {
             return Err(OpenFault::NoMemory);
         };
         let desk = Desk {
@@ -98,8 +119,8 @@ impl<L: Ledger> Desk<L> {
         requires { out.old ≡ [] }
         ensures share { OnOk result (seat.new.share ≡ seat.old.share + 1) }
         ensures number { IfOk result (λ n. seat.old.share ≤ n) }
-        ensures receipt { IfOk result (λ n. seat.new.receipts ≡ latest (seat.old.receipts ++ claim n (happening (arc_value event)) (tally_of out.new) ∷ [])) }
-        ensures place { seat.new.place ≡ seat.old.place }
+        ensures receipt { IfOk result (λ n. seat.new.receipts ≡ light seat.old.room (latest (seat.old.receipts ++ claim n (happening (arc_value event)) (tally_of out.new) ∷ []))) }
+        ensures place { (seat.new.place ≡ seat.old.place) × (seat.new.room ≡ seat.old.room) }
         ensures refused { OnErr result ((seat.new ≡ seat.old) × (out.new ≡ [])) }
     {
         let mut spent = Spent::new();
@@ -110,6 +131,9 @@ impl<L: Ledger> Desk<L> {
             .submit(alloc, seat, event, out, &mut spent);
         if is_swap {
             self.swaps.fetch_add(1, Ordering::SeqCst);
+        }
+        if submitted.is_ok() {
+            seat.lighten();
         }
         submitted
     }
@@ -128,14 +152,36 @@ impl<L: Ledger> Desk<L> {
         requires { out.old ≡ [] }
         ensures share { OnOk result (seat.new.share ≡ seat.old.share + 1) }
         ensures number { IfOk result (λ n. seat.old.share ≤ n) }
-        ensures receipt { IfOk result (λ n. seat.new.receipts ≡ latest (seat.old.receipts ++ claim n (arrives judged.now.datagram now) (tally_of out.new) ∷ [])) }
-        ensures place { seat.new.place ≡ seat.old.place }
+        ensures receipt { IfOk result (λ n. seat.new.receipts ≡ light seat.old.room (latest (seat.old.receipts ++ claim n (arrives judged.now.datagram now) (tally_of out.new) ∷ []))) }
+        ensures place { (seat.new.place ≡ seat.old.place) × (seat.new.room ≡ seat.old.room) }
         ensures refused { OnErr result ((seat.new ≡ seat.old) × (out.new ≡ [])) }
     {
         let mut spent = Spent::new();
-        self.ledgered
+        let submitted = self
+            .ledgered
             .lock(rt)
-            .submit_judged(alloc, seat, judged, now, out, &mut spent)
+            .submit_judged(alloc, seat, judged, now, out, &mut spent);
+        if submitted.is_ok() {
+            seat.lighten();
+        }
+        submitted
+    }
+
+    /// Compares the oldest 16 receipts of a seat with the book. If all of them agree with it, or are for events before the present
+    /// volume, the seat lets go of them; otherwise returns the lowest number of one that doesn't agree. Waits for the mutex.
+    pub fn audit<R: Wait>(&self, rt: &R, seat: &mut Seat<L>) -> Option<u64>
+        ensures book { (b : _) × IsLegal b × Audits seat.old seat.new b result }
+        ensures share { (seat.new.share ≡ seat.old.share) × (seat.new.place ≡ seat.old.place) }
+    {
+        let found = {
+            let ledgered = self.ledgered.lock(rt);
+            ledgered.agrees();
+            ledgered.audit(seat)
+        };
+        if found.is_none() {
+            seat.drop_audited();
+        }
+        found
     }
 
     /// Number of swap events submitted, modulo 2^64. Programs read after seeing swap count n stay current until the next swap. A

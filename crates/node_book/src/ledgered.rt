@@ -6,12 +6,13 @@ ghost use Rattle.node_core.specs.State.{HasTaken};
 ghost use Rattle.plain_node.specs.Tally.{tally_of};
 ghost use Rattle.node_book.specs.Book.{IsLegal, count_of, ready, written};
 ghost use Rattle.node_book.specs.Seats.{AreAllOpened, claim, credited};
+ghost use Rattle.node_book.specs.Audited.{IsAstray};
 ghost use Rattle.node_book.specs.Good.{AreAllGood, IsLeastOf, IsMisfit, kept_from};
 
 use crate::NoMemory;
 use crate::booked::{Booked, Receipt, TakeFault, Volume};
 use crate::seat::Seat;
-use crate::settle::{Report, SettleFault, all_opened, gather, how_many_from, least_misfit};
+use crate::settle::{Report, SettleFault, all_opened, astray, gather, how_many_from, least_misfit};
 use filter_slots::{Judged, Moment};
 use node_core::{Event, Out};
 use std::alloc::Global;
@@ -192,6 +193,14 @@ impl<L: Ledger> Ledgered<L> {
         let number = receipt.number;
         spent.receipt = seat.credit(&mut self.total, receipt);
         Ok(number)
+    }
+
+    /// Compares the oldest 16 receipts of a seat with the book. Returns the lowest number, from the base on, of one that doesn't
+    /// agree, or `None`.
+    pub fn audit(&self, seat: &Seat<L>) -> Option<u64>
+        ensures { IsLeastOf (IsAstray self.now.book seat.now.receipts) result }
+    {
+        astray(&self.booked, seat)
     }
 
     /// Checks the receipts of the seats against the book, and joins their shares. Errors: these are not the seats that were

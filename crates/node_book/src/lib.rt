@@ -9,6 +9,7 @@
 
 mod booked;
 mod clerk;
+mod contents;
 mod desk;
 mod image;
 mod laws;
@@ -16,11 +17,12 @@ mod ledgered;
 mod lone;
 mod neighbour_view;
 mod programs;
+mod receipts;
 mod seat;
 mod seated;
 mod settle;
 
-pub use booked::{BookFault, Booked, Entry, MOST_VOLUME, Receipt, TakeFault, Volume};
+pub use booked::{BOOK_OCTETS, BookFault, Booked, Entry, MOST_VOLUME, Receipt, TakeFault, Volume};
 pub use clerk::{Clerk, Gate};
 pub use desk::{Desk, OpenFault};
 pub use laws::settled_law;
@@ -28,7 +30,8 @@ pub use ledgered::{Ledgered, Spent, SubmitFault};
 pub use lone::Lone;
 pub use neighbour_view::NeighbourView;
 pub use programs::Programs;
-pub use seat::{MOST_RECEIPTS, Seat};
+pub use receipts::MOST_RECEIPTS;
+pub use seat::{RECEIPT_OCTETS, Seat};
 pub use seated::Seated;
 pub use settle::{Report, SettleFault};
 pub use std::alloc::AllocError as NoMemory;

@@ -1,39 +1,41 @@
 //! Seats: the handles through which events are submitted to a desk, with their latest receipts.
-ghost use Rattle.std.specs.Prelude.{◌≡◌, ◌<◌, ◌≤◌, ◌+◌, ◌==◌, length, take, Some, slice_get, count_by, nat_le, nat_lt, OnOk, IfOk};
+ghost use Rattle.std.specs.Prelude.{◌≡◌, ◌<◌, ◌≤◌, ◌+◌, ◌==◌, length, take, drop, Some, slice_get, count_by, nat_le, nat_lt, OnOk, IfOk};
 ghost use Rattle.std.specs.List.{list_all};
-ghost use Rattle.node_book.specs.Seats.{credited, opened_seats};
+ghost use Rattle.node_book.specs.Seats.{credited, lightened, opened_with_room};
 ghost use Rattle.node_book.specs.Claims.{claim_of};
 
 use crate::NoMemory;
 use crate::booked::Receipt;
+use crate::receipts::{MOST_RECEIPTS, Receipts};
 use std::alloc::Global;
-use std::collections::VecDeque;
 use std::marker::Model;
 use std::sync::ledger::{Book, Ledger, Share};
 
-/// Number of receipts that a seat keeps, the latest ones.
-pub const MOST_RECEIPTS: usize = 1_024;
+/// Octets of contents that the receipts of a seat keep at most, unless set otherwise.
+pub const RECEIPT_OCTETS: u32 = 4_194_304;
 
-/// A caller's seat at a desk: its index, its share of the count of events, and its latest 1,024 receipts. Contracts see these
-/// three.
+/// Number of receipts that one audit compares.
+pub(crate) const AUDITED: usize = 16;
+
+/// A caller's seat at a desk: its index, its share of the count of events, its latest receipts, and how many octets of contents
+/// it keeps. There are at most 1,024 receipts. Contracts see these four.
 #[derive(Drop)]
 pub struct Seat<L: Ledger> {
     place: u64,
     share: Share<L>,
-    receipts: VecDeque<Receipt>,
+    receipts: Receipts,
+    room: u32,
 }
 
 impl<L: Ledger> Model for Seat<L> {
-    ghost use Rattle.std.specs.Prelude.{◌≡◌, ◌≤◌, map};
-    ghost use Rattle.std.specs.VecDeque.{deque_len, deque_capacity};
+    ghost use Rattle.std.specs.Prelude.{◌≡◌};
     ghost use Rattle.node_book.specs.Seats.{Held};
-    ghost use Rattle.node_book.specs.Claims.{claim_of};
 
     ghost Value = { Held };
 
-    ghost view = { λ s. record { place = s.place; share = s.share.amount; receipts = map claim_of s.receipts.items } };
+    ghost view = { λ s. record { place = s.place; share = s.share.amount; receipts = s.receipts; room = s.room } };
 
-    ghost invariant = { λ s. (s.share.parts ≡ 1) × (deque_len s.receipts ≤ 1024) × (1024 ≤ deque_capacity s.receipts) };
+    ghost invariant = { λ s. s.share.parts ≡ 1 };
 }
 
 impl<L: Ledger> Seat<L> {
@@ -57,7 +59,7 @@ impl<L: Ledger> Seat<L> {
         requires { j < length self.now.receipts }
         ensures { slice_get self.now.receipts j ≡ Some (claim_of result.now) }
     {
-        &self.receipts[j]
+        self.receipts.get(j)
     }
 
     /// The number of the receipt at index `j`.
@@ -65,7 +67,7 @@ impl<L: Ledger> Seat<L> {
         requires { j < length self.now.receipts }
         ensures { (r : _) → slice_get self.now.receipts j ≡ Some r → result ≡ r.number }
     {
-        self.receipts[j].number
+        self.receipts.get(j).number
     }
 
     /// Number of kept receipts with this number.
@@ -73,7 +75,7 @@ impl<L: Ledger> Seat<L> {
         ensures count { result ≡ count_by (λ receipt. receipt.number == number) self.now.receipts }
         ensures few { result ≤ 1024 }
     {
-        self.receipts.iter().filter(|r| r.number == number).count() as u64
+        self.receipts.numbered(number)
     }
 
     /// Number of kept receipts whose number is at least `base`.
@@ -81,7 +83,7 @@ impl<L: Ledger> Seat<L> {
         ensures count { result ≡ count_by (λ receipt. nat_le base receipt.number) self.now.receipts }
         ensures few { result ≤ 1024 }
     {
-        self.receipts.iter().filter(|r| base <= r.number).count() as u64
+        self.receipts.kept_from(base)
     }
 
     /// Whether the receipts before index `j` all have lower numbers than `number`.
@@ -114,12 +116,26 @@ impl<L: Ledger> Seat<L> {
     {
         total.add(&mut self.share, 1);
         let spent = if self.receipts.len() == MOST_RECEIPTS {
-            self.receipts.pop_front()
+            self.receipts.pop()
         } else {
             None
         };
-        self.receipts.push_back_reserved(receipt);
+        self.receipts.push(receipt);
         spent
+    }
+
+    /// Drops the oldest receipts until the contents of the others have no more octets than the seat keeps.
+    pub(crate) fn lighten(&mut self)
+        ensures { self.new ≡ lightened self.old }
+    {
+        self.receipts.lighten(u64::from(self.room));
+    }
+
+    /// Drops the receipts that an audit has compared, the oldest 16.
+    pub(crate) fn drop_audited(&mut self)
+        ensures same { self.new ≡ record self.old { receipts = drop 16 self.old.receipts } }
+    {
+        self.receipts.drop_oldest(AUDITED);
     }
 
     /// Consumes the seat and returns its share.
@@ -130,21 +146,23 @@ impl<L: Ledger> Seat<L> {
         let Seat {
             place: _,
             share,
-            receipts: _,
+            ..
         } = self;
         share
     }
 }
 
-/// Splits all parts of a share into seats of one part each, with their receipt buffers allocated. Errors: allocation failure.
+/// Splits all parts of a share into seats of one part each, with memory for their receipts and room for this many octets of
+/// contents. Errors: allocation failure.
 pub(crate) fn seats_of<L: Ledger>(
     alloc: Global,
     spare: &mut Share<L>,
     count: u64,
+    room: u32,
 ) -> Result<Vec<Seat<L>>, NoMemory>
     requires { (spare.old.parts ≡ count) × (spare.old.amount ≡ 0) }
     ensures none { OnOk result (spare.new.parts ≡ 0) }
-    ensures seats { IfOk result (λ seats. seats.items ≡ opened_seats count) }
+    ensures seats { IfOk result (λ seats. seats.items ≡ opened_with_room room count) }
 {
     let mut seats = Vec::new(alloc);
     for place in 0..count {
@@ -152,7 +170,8 @@ pub(crate) fn seats_of<L: Ledger>(
         seats.push(Seat {
             place,
             share,
-            receipts: VecDeque::with_capacity(alloc, MOST_RECEIPTS)?,
+            receipts: Receipts::new(alloc)?,
+            room,
         })?;
     }
     Ok(seats)

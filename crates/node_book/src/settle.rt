@@ -1,10 +1,11 @@
 //! Checking receipts against the book.
 ghost use Rattle.std.specs.Prelude.{◌≡◌, ◌<◌, ◌≤◌, ◌+◌, ◌==◌, ℕ, IsTrue, ◌↔◌, length, take, sum_by, count_by, slice_get, Some};
 ghost use Rattle.node_book.specs.Seats.{AreAllOpened};
+ghost use Rattle.node_book.specs.Audited.{Agrees, IsAstray, IsAstrayAt};
 ghost use Rattle.node_book.specs.Good.{AreAllGood, IsGoodReceipt, IsGoodAt, IsMisfitAt, IsMisfit, IsLeastOf, lesser_of, numbered, kept_from};
 
 use crate::booked::Booked;
-use crate::seat::Seat;
+use crate::seat::{AUDITED, Seat};
 use std::sync::ledger::{Ledger, Share};
 use thiserror::Error;
 
@@ -128,6 +129,41 @@ pub(crate) fn least_misfit<L: Ledger>(booked: &Booked, seats: &[Seat<L>]) -> Opt
         least = lesser(least, seat_misfit(booked, seats, seat));
     }
     least
+}
+
+/// The lowest number, from the base on, of a receipt among the oldest 16 of a seat that doesn't agree with the book.
+pub(crate) fn astray<L: Ledger>(booked: &Booked, seat: &Seat<L>) -> Option<u64>
+    ensures { IsLeastOf (IsAstray booked.now seat.now.receipts) result }
+{
+    let mut least = None;
+    for j in 0..seat.len().min(AUDITED) {
+        least = lesser(least, astray_at(booked, seat, j));
+    }
+    least
+}
+
+/// The number of the receipt at index `j` of a seat, if it is at least the base and the receipt doesn't agree with the book.
+fn astray_at<L: Ledger>(booked: &Booked, seat: &Seat<L>, j: usize) -> Option<u64>
+    requires { j < length seat.now.receipts }
+    ensures { IsLeastOf (IsAstrayAt booked.now seat.now.receipts j) result }
+{
+    let receipt = seat.receipt(j);
+    if receipt.number < booked.base() {
+        return None;
+    }
+    if agrees(booked, seat, j) {
+        return None;
+    }
+    Some(receipt.number)
+}
+
+/// Whether the book has the receipt at index `j` of a seat, and the seat's earlier receipts have lower numbers.
+fn agrees<L: Ledger>(booked: &Booked, seat: &Seat<L>, j: usize) -> bool
+    requires { j < length seat.now.receipts }
+    ensures { (r : _) → slice_get seat.now.receipts j ≡ Some r → (IsTrue result ↔ Agrees booked.now (take j seat.now.receipts) r) }
+{
+    let receipt = seat.receipt(j);
+    booked.has(receipt) && seat.rises_to(j, receipt.number)
 }
 
 /// The lesser of two optional numbers; an absent one is ignored.

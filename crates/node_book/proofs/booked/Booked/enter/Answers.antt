@@ -1,15 +1,16 @@
-use Rattle.std.proofs.Common.{◌<◌, ◌≤◌, ◌∙◌, ap, ◌++◌, [], ◌∷◌, map, subst, sym, length, arith}
+use Rattle.std.proofs.Common.{◌≡◌, false, ◌<◌, ◌≤◌, ◌∙◌, ap, ◌++◌, [], ◌∷◌, map, subst, sym, length, arith}
 use Rattle.std.proofs.lemmas.List.{map-append}
 use Rattle.node_core.specs.Happening.{happening}
-use Rattle.node_book.specs.Book.{Book, count_of}
+use Rattle.node_book.specs.Book.{Book, count_of, entry_octets, is_full}
+use Rattle.node_book.specs.Contents.{contents_of}
 use Rattle.node_book.specs.Kept.{book_of}
 use Rattle.node_book.specs.Entries.{entry_of}
-use Rattle.node_book.proofs.Legal.{legal-push}
+use Rattle.node_book.proofs.Legal.{legal-push, longer-octets, short, slender}
 use Rattle.node_book.proofs.booked.Booked.enter.Goals as goal
 
 pub invariant_of-self-2 : goal.invariant_of-self-2
 invariant_of-self-2 c =
-    let room : Book → Type 0 = λ b. (length b.entries < b.volume) × (count_of b < 18446744073709551615) in
+    let room : Book → Type 0 = λ b. (is_full b ≡ false) × (count_of b < 18446744073709551615) in
     let has = subst room (sym c.self.view_is) c.requires.room in
     let legal = c.self.invariant.0 in
     let roomy = c.self.invariant.1 in
@@ -18,6 +19,20 @@ invariant_of-self-2 c =
           (ap (map entry_of) c.push_reserved.ensures.items ∙ map-append entry_of c.self.inside.kept.items _
           ∙ (λ i. map entry_of c.self.inside.kept.items ++ (happening ((c.in_ok-shared.ensures ∙ sym c.deref.ensures) i), c.tally-tally.ensures i) ∷ []))
           (c.append_law.ensures.one _ _ _ _ _ _ _ legal.taken c.in_ok-step.ensures.taken)
-          has.0 has.1,
+          (short (book_of c.self.inside) legal has.0) has.1,
       (omega (arith, capacity, roomy)),
+      (let same =
+          ap (λ e. contents_of (happening e)) (c.in_ok-shared.ensures ∙ sym c.deref-2.ensures) ∙ sym c.contents_of.ensures.value in
+          let whole =
+          ap entry_octets (ap (map entry_of) c.push_reserved.ensures.items ∙ map-append entry_of c.self.inside.kept.items _)
+          ∙ longer-octets (map entry_of c.self.inside.kept.items) _ in
+          omega (arith, c.self.invariant.2, same, whole)),
     )
+
+pub overflow_add-self : goal.overflow_add-self
+overflow_add-self c =
+    let room : Book → Type 0 = λ b. (is_full b ≡ false) × (count_of b < 18446744073709551615) in
+    let has = subst room (sym c.self.view_is) c.requires.room in
+    let few = slender (book_of c.self.inside) has.0 in
+    let small = c.self.invariant.0.octets_fit.1 in
+    omega (arith, few, small, c.self.invariant.2, c.contents_of.ensures.few)

@@ -1,5 +1,5 @@
 use Rattle.std.proofs.Common.{◌<◌, ◌≤◌, arith}
-use Rattle.node_book.proofs.desk.Desk.open.Goals as goal
+use Rattle.node_book.proofs.desk.Desk.open_with.Goals as goal
 
 pub returns-clause-refused : goal.returns-clause-refused
 returns-clause-refused g c =
