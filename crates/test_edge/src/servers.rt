@@ -521,6 +521,10 @@ struct Refusing<R> {
 impl<R: Clock + Copy> Accept for Refusing<R> {
     type Serving = Refusal<R>;
 
+    fn has_seat(&self, _: SocketAddr) -> bool {
+        false
+    }
+
     fn accept(&self, socket: TcpStream, address: SocketAddr) -> Option<Refusal<R>> {
         let stage = SharedStage::new(self.alloc).ok()?;
         let still = serve_limits().still;
