@@ -124,8 +124,8 @@ impl<L: Ledger> ProxyState<L> {
             Some(_) => Mode::Private,
             None => Mode::Shared,
         };
-        self.mailbox.lock(rt).begin(wanted.fetch, mode, sender)?;
         let deadline = self.deadline(rt).ok_or(AllocError)?;
+        self.mailbox.lock(rt).begin(wanted.fetch, mode, sender)?;
         let Destination {
             name,
             port,
