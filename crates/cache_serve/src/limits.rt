@@ -19,6 +19,9 @@ pub const THREADS: usize = SEATS as usize + LOOK_UPS;
 /// waits and never allocates.
 pub const ENDS: usize = 2 * THREADS;
 
+/// The most datagrams of other threads that the query thread sends before it receives again.
+pub const SENDS_A_TURN: u32 = 64;
+
 /// Consecutive allocation failures that the query thread tolerates, and retries of a fetch thread whose result was refused.
 pub const RETRIES: u32 = 1_000;
 

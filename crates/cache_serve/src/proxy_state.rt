@@ -8,6 +8,7 @@ use futures::channel::oneshot;
 use hyper_cache::fetching::{Job, Order};
 use hyper_cache::names::{Wish, hand_over};
 use hyper_cache::serving;
+use mio_queries::Timeline;
 use node_book::Desk;
 use node_core::{Action, Answer, Mode, NoMemory};
 use peer_select::Source;
@@ -46,6 +47,8 @@ pub struct ProxyState<L: Ledger> {
     pub lanes: Mutex<Option<Lanes>>,
     /// Attempts that could not be started and that no thread has reported to the node yet. Locked to add or remove one.
     pub failed: Mutex<Vec<Attempt>>,
+    /// The moments of all threads.
+    pub timeline: Timeline,
     /// The name of this cache.
     pub name: String,
     /// The neighbours, in the order of the configuration.
@@ -124,8 +127,8 @@ impl<L: Ledger> ProxyState<L> {
             Some(_) => Mode::Private,
             None => Mode::Shared,
         };
-        self.mailbox.lock(rt).begin(wanted.fetch, mode, sender)?;
         let deadline = self.deadline(rt).ok_or(AllocError)?;
+        self.mailbox.lock(rt).begin(wanted.fetch, mode, sender)?;
         let Destination {
             name,
             port,

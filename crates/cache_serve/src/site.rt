@@ -16,7 +16,7 @@ use filter_slots::End;
 use futures::channel::{mpsc, oneshot};
 use hyper_cache::fetching::Job;
 use hyper_cache::names::Wish;
-use mio_queries::Bell;
+use mio_queries::{Bell, Timeline};
 use node_book::{BookFault, Booked, Desk, Report, Seat};
 use node_core::{Config, Network, Node};
 use serve_config::Settings;
@@ -133,6 +133,7 @@ fn proxy_of<L: Ledger>(
         mailbox: Mutex::new(Mailbox::new(alloc)),
         lanes: Mutex::new(None),
         failed: no_failures(alloc).map_err(no_memory)?,
+        timeline: Timeline::new(alloc).map_err(no_memory)?,
         name,
         peers,
         fetching,

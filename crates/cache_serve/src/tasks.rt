@@ -16,7 +16,7 @@ use hyper_cache::administration::serve_admin;
 use hyper_cache::fetching::{FetchLimits, Job, run_fetches};
 use hyper_cache::names::{Wish, look_up};
 use hyper_cache::serving::serve_clients;
-use mio_queries::{Bell, BindFault, MioWire};
+use mio_queries::{Bell, BindFault, MioWire, Timeline};
 use node_book::Seat;
 use node_core::Network;
 use plain_node::MAX_PENDING_FETCHES;
@@ -210,7 +210,11 @@ where
     } = queries;
     let alloc = rt.alloc();
     let mut node = NodeHandle::new(rt, alloc, seat, None);
-    let fault = match bind(rt, icp, htcp) {
+    let bound_queries = match node.proxy().timeline.share() {
+        Ok(timeline) => bind(rt, timeline, icp, htcp),
+        Err(_) => Err(ServeFault::NoMemory),
+    };
+    let fault = match bound_queries {
         Ok((mut wire, ready)) => {
             let _ = bound.send(&rt, Ok(ready));
             carry(&rt, alloc, &mut wire, &mut node, &outgoing, &is_ended).err()
@@ -228,11 +232,16 @@ where
 }
 
 /// Binds both query sockets.
-fn bind<R>(rt: R, icp: End, htcp: End) -> Result<(MioWire<R>, BoundQueries), ServeFault>
+fn bind<R>(
+    rt: R,
+    timeline: Timeline,
+    icp: End,
+    htcp: End,
+) -> Result<(MioWire<R>, BoundQueries), ServeFault>
 where
     R: Net + Clock + AllocGlobal + Copy,
 {
-    let wire = match MioWire::bind(rt, icp, htcp) {
+    let wire = match MioWire::bind(rt, timeline, icp, htcp) {
         Ok(wire) => wire,
         Err(BindFault::End(Socket::Icp)) => return Err(ServeFault::Bind(Port::Icp)),
         Err(BindFault::End(Socket::Htcp)) => return Err(ServeFault::Bind(Port::Htcp)),
