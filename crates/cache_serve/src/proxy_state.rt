@@ -168,7 +168,8 @@ impl<L: Ledger> ProxyState<L> {
                 name,
                 port,
                 order,
-            ).is_ok(),
+            )
+            .is_ok(),
             None => false,
         };
         if taken {
