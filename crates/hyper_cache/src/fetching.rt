@@ -1,5 +1,5 @@
 //! Fetches from origin servers and neighbours, many concurrently on one thread.
-ghost use Rattle.std.specs.Prelude.{◌≡◌, ◌<◌, IfSome, ⊥};
+ghost use Rattle.std.specs.Prelude.{◌≡◌, ◌<◌, IfSome};
 ghost use Rattle.futures.specs.Poll.{OnPending};
 ghost use Rattle.futures.specs.Task.{Covers, Keeps};
 ghost use Rattle.tokio.specs.Timers.{timeout_future};
