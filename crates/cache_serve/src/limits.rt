@@ -12,8 +12,8 @@ pub const LOOK_UPS: usize = 4;
 /// Threads that have a seat at the node: those that fetch, and one each for queries, clients and administration.
 pub const SEATS: u64 = FETCHERS as u64 + 3;
 
-/// All threads.
-pub const THREADS: usize = SEATS as usize + LOOK_UPS;
+/// The threads that are joined: all but those that look up names.
+pub const THREADS: usize = SEATS as usize;
 
 /// The capacity of the channel that asks the proxy to end. Each thread sends at most two such messages, so that sending never
 /// waits and never allocates.

@@ -144,7 +144,7 @@ impl<L: Ledger> ProxyState<L> {
             deadline,
             wanted: receiver,
         };
-        self.send(rt, name, port, order)
+        self.send(rt, alloc, name, port, order)
     }
 
     /// The deadline of a fetch that starts now. Returns `None` if the clock cannot be read.
@@ -152,18 +152,27 @@ impl<L: Ledger> ProxyState<L> {
         Instant::now(rt).ok()?.checked_add(self.fetching)
     }
 
-    /// Sends an order to a fetch thread or to the name lookups. Errors: it was not accepted; the fetch is no longer in flight.
-    fn send<R: Wait>(&self, rt: &R, name: String, port: u16, order: Order) -> Result<(), NoMemory> {
+    /// Sends an order to a fetch thread. Errors: it was not accepted; the fetch is no longer in flight.
+    fn send<R: Wait>(
+        &self,
+        rt: &R,
+        alloc: Global,
+        name: String,
+        port: u16,
+        order: Order,
+    ) -> Result<(), NoMemory> {
         let fetch = order.fetch;
         let taken = match &*self.lanes.lock(rt) {
             Some(lanes) => hand_over(
                 rt,
+                alloc,
                 &lanes.wishes,
                 lanes.jobs.as_slice(),
                 name,
                 port,
                 order,
-            ).is_ok(),
+            )
+            .is_ok(),
             None => false,
         };
         if taken {

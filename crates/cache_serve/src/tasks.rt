@@ -14,7 +14,6 @@ use filter_slots::{End, Socket};
 use futures::channel::{mpsc, oneshot};
 use hyper_cache::administration::serve_admin;
 use hyper_cache::fetching::{FetchLimits, Job, run_fetches};
-use hyper_cache::names::{Wish, look_up};
 use hyper_cache::serving::serve_clients;
 use mio_queries::{Bell, BindFault, MioWire, Timeline};
 use node_book::Seat;
@@ -76,7 +75,6 @@ pub enum Work<L: Ledger> {
     Clients(ClientTask<L>),
     Administration(AdministrationTask<L>),
     Fetches(FetchTask<L>),
-    LookUps(LookUpTask),
 }
 
 /// The work of the query thread, which owns both UDP sockets and sends every datagram.
@@ -125,13 +123,6 @@ pub struct FetchTask<L: Ledger> {
     pub end: Sender<(), Global>,
 }
 
-/// The work of a thread that looks up host names. It has no seat, since it only forwards orders to the fetch threads.
-#[derive(Drop)]
-pub struct LookUpTask {
-    pub wishes: Receiver<Wish, Global>,
-    pub lanes: Vec<mpsc::UnboundedSender<Job>>,
-}
-
 /// The life of one thread of a proxy.
 pub fn run_task<R, L>(rt: R, task: Task<L>) -> Ending<L>
 where
@@ -143,13 +134,6 @@ where
         Work::Clients(clients) => answer_clients(rt, clients),
         Work::Administration(administration) => administer(rt, administration),
         Work::Fetches(fetches) => fetch(rt, fetches),
-        Work::LookUps(names) => {
-            look_up(&rt, &names.wishes, names.lanes.as_slice());
-            Ending {
-                seat: None,
-                fault: None,
-            }
-        }
     }
 }
 
