@@ -6,6 +6,7 @@ answers (`finish`), or by its process id (`kill`). What a test leaves running is
 import json
 import os
 import resource
+import shutil
 import socket
 import struct
 import subprocess
@@ -309,6 +310,50 @@ def htcp_tst(number, url):
     specifier = counted(b"GET") + counted(url.encode()) + counted(b"HTTP/1.1") + counted(b"")
     data = struct.pack(">HBBI", 8 + len(specifier), 0x10, 2, number) + specifier
     return struct.pack(">HBB", 4 + len(data) + 2, 0, 0) + data + struct.pack(">H", 2)
+
+
+# ---- names
+
+def with_silent_names(name):
+    """Runs a test of the calling file where the only name server never answers, in a network and mount namespace of its own."""
+    tools = shutil.which("unshare") and shutil.which("ip") and shutil.which("mount")
+    with tempfile.NamedTemporaryFile("w") as it:
+        it.write("nameserver 127.0.0.1\noptions timeout:30 attempts:2\n")
+        it.flush()
+        inside = ["sh", "-c", 'ip link set lo up && mount --bind "$2" /etc/resolv.conf && exec python3 "$0" "$1" "$3"',
+                  sys.argv[0], PROGRAM, it.name, name]
+        if not tools or subprocess.run(["unshare", "-rmn", *inside[:2], 'ip link set lo up && mount --bind "$2" /etc/resolv.conf',
+                                        *inside[3:]], capture_output=True).returncode:
+            raise Skipped("no namespace with its own name server can be made here (unshare -rmn, ip and mount are needed)")
+        ran = subprocess.run(["unshare", "-rmn", *inside], capture_output=True, text=True, timeout=150)
+    check(ran.stdout.splitlines()[-1:], ["1 passed, 0 failed"], ran.stdout + ran.stderr)
+
+
+def silent_names():
+    """The socket of a name server that never answers."""
+    s = socket.socket(socket.AF_INET, socket.SOCK_DGRAM)
+    s.bind(("127.0.0.1", 53))
+    s.settimeout(10)
+    return s
+
+
+def ask_for_names(proxy, names, seconds=10):
+    """So many connections with a private request each, for a page of a host of this name."""
+    connections = []
+    for name in names:
+        s = proxy.connect(seconds)
+        s.sendall(f"GET http://{name}.example/ HTTP/1.1\r\nHost: x\r\nCookie: a=b\r\nConnection: close\r\n\r\n".encode())
+        connections.append(s)
+    return connections
+
+
+def names_asked(server, count):
+    """The next so many names that the name server was asked for, each once."""
+    seen = set()
+    while len(seen) < count:
+        octets = server.recv(4096)
+        seen.add(octets[13:13 + octets[12]].decode())
+    return seen
 
 
 # ---- running tests

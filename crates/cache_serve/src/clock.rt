@@ -1,18 +1,27 @@
-//! The system clock, in the unit of the node's events.
+//! The times that the threads use.
 use filter_slots::Moment;
+use mio_queries::Timeline;
 use std::time::{Clock, SystemTime};
 
-/// Milliseconds since 1970-01-01 UTC. Returns 0 if the clock cannot be read or its value is out of range; an event at 0 leaves
-/// the node's clock as it is.
-pub fn now<R: Clock>(rt: &R) -> Moment {
-    match read(rt) {
-        Some(now) => now,
-        None => Moment::new(0).unwrap(),
+/// The moment of an event that happens now. Returns 0 if a clock cannot be read or is out of range; an event at 0 leaves the node's
+/// clock as it is.
+pub fn now<R: Clock>(rt: &R, timeline: &Timeline) -> Moment {
+    match timeline.now(rt) {
+        Ok(now) => now,
+        Err(_) => Moment::new(0).unwrap(),
     }
 }
 
-fn read<R: Clock>(rt: &R) -> Option<Moment> {
+/// Seconds since 1970-01-01 UTC by the system's clock, which may be set back, for a Date field. Returns 0 if it cannot be read.
+pub fn date_seconds<R: Clock>(rt: &R) -> u64 {
+    match read(rt) {
+        Some(seconds) => seconds,
+        None => 0,
+    }
+}
+
+fn read<R: Clock>(rt: &R) -> Option<u64> {
     let now = SystemTime::now(rt).ok()?;
     let since = now.duration_since(SystemTime::UNIX_EPOCH).ok()?;
-    Moment::new(u64::try_from(since.as_millis()).ok()?)
+    Some(since.as_secs())
 }

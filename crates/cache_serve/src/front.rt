@@ -121,7 +121,7 @@ impl<R: Wait + Clock + Drop, L: Ledger> NodeFront<R, L> {
             client,
             key,
             mode,
-            now: now(&self.rt),
+            now: now(&self.rt, &self.proxy.timeline),
         };
         let Some(actions) = self.take(event) else {
             self.forget(client);

@@ -12,12 +12,15 @@ pub const LOOK_UPS: usize = 4;
 /// Threads that have a seat at the node: those that fetch, and one each for queries, clients and administration.
 pub const SEATS: u64 = FETCHERS as u64 + 3;
 
-/// All threads.
-pub const THREADS: usize = SEATS as usize + LOOK_UPS;
+/// The threads that are joined: all but those that look up names.
+pub const THREADS: usize = SEATS as usize;
 
 /// The capacity of the channel that asks the proxy to end. Each thread sends at most two such messages, so that sending never
 /// waits and never allocates.
 pub const ENDS: usize = 2 * THREADS;
+
+/// The most datagrams of other threads that the query thread sends before it receives again.
+pub const SENDS_A_TURN: u32 = 64;
 
 /// Consecutive allocation failures that the query thread tolerates, and retries of a fetch thread whose result was refused.
 pub const RETRIES: u32 = 1_000;

@@ -107,7 +107,7 @@ impl<R: Wait + Clock + Drop, L: Ledger> NodeHandle<R, L> {
                 fetch: failed.fetch,
                 attempt: failed.attempt,
                 result: Outcome::Failed,
-                now: crate::clock::now(&self.rt),
+                now: crate::clock::now(&self.rt, &self.proxy.timeline),
             };
             if self.hand_in(event).is_err() {
                 self.proxy.record_failure(&self.rt, failed);

@@ -8,6 +8,7 @@ use futures::channel::oneshot;
 use hyper_cache::fetching::{Job, Order};
 use hyper_cache::names::{Wish, hand_over};
 use hyper_cache::serving;
+use mio_queries::Timeline;
 use node_book::Desk;
 use node_core::{Action, Answer, Mode, NoMemory};
 use peer_select::Source;
@@ -46,6 +47,8 @@ pub struct ProxyState<L: Ledger> {
     pub lanes: Mutex<Option<Lanes>>,
     /// Attempts that could not be started and that no thread has reported to the node yet. Locked to add or remove one.
     pub failed: Mutex<Vec<Attempt>>,
+    /// The moments of all threads.
+    pub timeline: Timeline,
     /// The name of this cache.
     pub name: String,
     /// The neighbours, in the order of the configuration.
@@ -124,8 +127,8 @@ impl<L: Ledger> ProxyState<L> {
             Some(_) => Mode::Private,
             None => Mode::Shared,
         };
-        self.mailbox.lock(rt).begin(wanted.fetch, mode, sender)?;
         let deadline = self.deadline(rt).ok_or(AllocError)?;
+        self.mailbox.lock(rt).begin(wanted.fetch, mode, sender)?;
         let Destination {
             name,
             port,
@@ -141,7 +144,7 @@ impl<L: Ledger> ProxyState<L> {
             deadline,
             wanted: receiver,
         };
-        self.send(rt, name, port, order)
+        self.send(rt, alloc, name, port, order)
     }
 
     /// The deadline of a fetch that starts now. Returns `None` if the clock cannot be read.
@@ -149,18 +152,27 @@ impl<L: Ledger> ProxyState<L> {
         Instant::now(rt).ok()?.checked_add(self.fetching)
     }
 
-    /// Sends an order to a fetch thread or to the name lookups. Errors: it was not accepted; the fetch is no longer in flight.
-    fn send<R: Wait>(&self, rt: &R, name: String, port: u16, order: Order) -> Result<(), NoMemory> {
+    /// Sends an order to a fetch thread. Errors: it was not accepted; the fetch is no longer in flight.
+    fn send<R: Wait>(
+        &self,
+        rt: &R,
+        alloc: Global,
+        name: String,
+        port: u16,
+        order: Order,
+    ) -> Result<(), NoMemory> {
         let fetch = order.fetch;
         let taken = match &*self.lanes.lock(rt) {
             Some(lanes) => hand_over(
                 rt,
+                alloc,
                 &lanes.wishes,
                 lanes.jobs.as_slice(),
                 name,
                 port,
                 order,
-            ).is_ok(),
+            )
+            .is_ok(),
             None => false,
         };
         if taken {

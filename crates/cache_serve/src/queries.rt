@@ -1,6 +1,6 @@
 //! The thread that owns the query sockets.
 use crate::fault::ServeFault;
-use crate::limits::{RETRIES, RETRY_MILLIS};
+use crate::limits::{RETRIES, RETRY_MILLIS, SENDS_A_TURN};
 use crate::node_handle::{NodeHandle, Outgoing};
 use crossbeam_channel::Receiver;
 use mio_queries::{MioWire, PumpFault, Wire, pump_with};
@@ -29,12 +29,17 @@ where
     let Ok(mut out) = Out::new(alloc) else {
         return Err(ServeFault::NoMemory);
     };
+    let Ok(bell) = wire.bell() else {
+        return Err(ServeFault::NoMemory);
+    };
     let mut failures = 0u32;
     for _ in rt.forever() {
         if is_ended.load(Ordering::SeqCst) {
             return Ok(());
         }
-        send_all(rt, wire, outgoing);
+        if send_some(rt, wire, outgoing) {
+            bell.ring();
+        }
         node.report_failures();
         out.clear();
         match pump_with(alloc, wire, node, &mut out, 1) {
@@ -50,12 +55,18 @@ where
     Ok(())
 }
 
-/// Sends the datagrams that other threads have queued, in order. One that cannot be sent is dropped, as UDP may drop any.
-fn send_all<R: Wait, W: Wire>(rt: &R, wire: &mut W, outgoing: &Receiver<Outgoing, Global>) {
-    for _ in 0..u64::MAX {
+/// Sends the datagrams that other threads have queued, in order, at most `SENDS_A_TURN` of them. One that cannot be sent is dropped,
+/// as UDP may drop any. Returns whether there may be more.
+fn send_some<R: Wait, W: Wire>(
+    rt: &R,
+    wire: &mut W,
+    outgoing: &Receiver<Outgoing, Global>,
+) -> bool {
+    for _ in 0..SENDS_A_TURN {
         let Ok(next) = outgoing.try_recv(rt) else {
-            return;
+            return false;
         };
         let _ = wire.send(next.socket, next.to, next.payload.as_slice());
     }
+    true
 }

@@ -1,5 +1,5 @@
 //! Results of fetches on their way to the node.
-use crate::clock::now;
+use crate::clock::{date_seconds, now};
 use crate::limits::{RETRIES, RETRY_MILLIS};
 use crate::node_handle::NodeHandle;
 use crate::objects::object_of;
@@ -31,8 +31,7 @@ impl<R: Wait + Clock + Drop, L: Ledger> Results<R, L> {
         let Some(page) = page else {
             return Outcome::Failed;
         };
-        let seconds = now(&self.rt).seconds();
-        let Ok(date) = HttpDate::from_unix_secs(u64::from(seconds)) else {
+        let Ok(date) = HttpDate::from_unix_secs(date_seconds(&self.rt)) else {
             return Outcome::Failed;
         };
         let name = self.node.proxy().name.as_bytes();
@@ -47,7 +46,7 @@ impl<R: Wait + Clock + Drop, L: Ledger> Results<R, L> {
             fetch,
             attempt,
             result: outcome,
-            now: now(&self.rt),
+            now: now(&self.rt, &self.node.proxy().timeline),
         };
         self.node.take(event).is_ok()
     }

@@ -8,15 +8,14 @@ use crate::mailbox::Mailbox;
 use crate::node_handle::{Outbox, Outgoing, ThreadSeat};
 use crate::proxy_state::{Lanes, ProxyState, no_failures};
 use crate::tasks::{
-    AdministrationTask, BoundQueries, ClientTask, Ending, FetchTask, LookUpTask, QueryTask, Task,
-    ThreadConfig, Work, no_memory, run_task,
+    AdministrationTask, BoundQueries, ClientTask, Ending, FetchTask, QueryTask, Task, ThreadConfig,
+    Work, no_memory, run_task,
 };
 use crossbeam_channel::{Receiver, Sender, bounded, unbounded};
 use filter_slots::End;
 use futures::channel::{mpsc, oneshot};
-use hyper_cache::fetching::Job;
-use hyper_cache::names::Wish;
-use mio_queries::Bell;
+use hyper_cache::names::{Wish, look_up};
+use mio_queries::{Bell, Timeline};
 use node_book::{BookFault, Booked, Desk, Report, Seat};
 use node_core::{Config, Network, Node};
 use serve_config::Settings;
@@ -133,6 +132,7 @@ fn proxy_of<L: Ledger>(
         mailbox: Mutex::new(Mailbox::new(alloc)),
         lanes: Mutex::new(None),
         failed: no_failures(alloc).map_err(no_memory)?,
+        timeline: Timeline::new(alloc).map_err(no_memory)?,
         name,
         peers,
         fetching,
@@ -207,7 +207,7 @@ impl<L: Ledger + Send + Sync + 'static> Site<L> {
         self.shut(rt)
     }
 
-    /// Stops and joins all threads, and settles the event log.
+    /// Stops and joins all threads but those that look up names, and settles the event log.
     fn shut<R: Threads + Wait + Copy>(self, rt: R) -> Result<Report, ServeFault> {
         let Site {
             proxy,
@@ -311,7 +311,7 @@ where
             };
             self.begin(Work::Fetches(fetches))?;
         }
-        let wishes = self.open_look_ups(lanes.as_slice())?;
+        let wishes = self.open_look_ups()?;
         let lanes = Lanes {
             wishes,
             jobs: lanes,
@@ -320,17 +320,17 @@ where
         Ok(())
     }
 
-    fn open_look_ups(
-        &mut self,
-        lanes: &[mpsc::UnboundedSender<Job>],
-    ) -> Result<Sender<Wish, Global>, ServeFault> {
+    /// Starts the threads that look up names. They are not joined, since the system's resolver may hold each for as long as it
+    /// likes: a thread that is idle ends when the last sender is dropped, and one that is held ends with the process. None of
+    /// them has a seat or a part of the shared state.
+    fn open_look_ups(&mut self) -> Result<Sender<Wish, Global>, ServeFault> {
         let (to, wishes) = unbounded(self.alloc).map_err(no_memory)?;
         for _ in 0..LOOK_UPS {
-            let names = LookUpTask {
-                wishes: wishes.clone().map_err(no_memory)?,
-                lanes: cloned(self.alloc, lanes).map_err(no_memory)?,
+            let (rt, wishes) = (self.rt, wishes.clone().map_err(no_memory)?);
+            let Ok(thread) = thread::spawn(&rt, move || look_up(&rt, &wishes)) else {
+                return Err(ServeFault::NoMemory);
             };
-            self.begin(Work::LookUps(names))?;
+            drop(thread);
         }
         Ok(to)
     }
@@ -400,18 +400,6 @@ where
         port.store(address.port(), Ordering::SeqCst);
         Ok(address)
     }
-}
-
-/// Clones each sender.
-fn cloned(
-    alloc: Global,
-    lanes: &[mpsc::UnboundedSender<Job>],
-) -> Result<Vec<mpsc::UnboundedSender<Job>>, AllocError> {
-    let mut all = Vec::with_capacity(alloc, lanes.len())?;
-    for lane in lanes {
-        all.push(lane.clone()?)?;
-    }
-    Ok(all)
 }
 
 /// Settles the event log, unless a thread ended with a fault.

@@ -14,9 +14,8 @@ use filter_slots::{End, Socket};
 use futures::channel::{mpsc, oneshot};
 use hyper_cache::administration::serve_admin;
 use hyper_cache::fetching::{FetchLimits, Job, run_fetches};
-use hyper_cache::names::{Wish, look_up};
 use hyper_cache::serving::serve_clients;
-use mio_queries::{Bell, BindFault, MioWire};
+use mio_queries::{Bell, BindFault, MioWire, Timeline};
 use node_book::Seat;
 use node_core::Network;
 use plain_node::MAX_PENDING_FETCHES;
@@ -76,7 +75,6 @@ pub enum Work<L: Ledger> {
     Clients(ClientTask<L>),
     Administration(AdministrationTask<L>),
     Fetches(FetchTask<L>),
-    LookUps(LookUpTask),
 }
 
 /// The work of the query thread, which owns both UDP sockets and sends every datagram.
@@ -125,13 +123,6 @@ pub struct FetchTask<L: Ledger> {
     pub end: Sender<(), Global>,
 }
 
-/// The work of a thread that looks up host names. It has no seat, since it only forwards orders to the fetch threads.
-#[derive(Drop)]
-pub struct LookUpTask {
-    pub wishes: Receiver<Wish, Global>,
-    pub lanes: Vec<mpsc::UnboundedSender<Job>>,
-}
-
 /// The life of one thread of a proxy.
 pub fn run_task<R, L>(rt: R, task: Task<L>) -> Ending<L>
 where
@@ -143,13 +134,6 @@ where
         Work::Clients(clients) => answer_clients(rt, clients),
         Work::Administration(administration) => administer(rt, administration),
         Work::Fetches(fetches) => fetch(rt, fetches),
-        Work::LookUps(names) => {
-            look_up(&rt, &names.wishes, names.lanes.as_slice());
-            Ending {
-                seat: None,
-                fault: None,
-            }
-        }
     }
 }
 
@@ -210,7 +194,11 @@ where
     } = queries;
     let alloc = rt.alloc();
     let mut node = NodeHandle::new(rt, alloc, seat, None);
-    let fault = match bind(rt, icp, htcp) {
+    let bound_queries = match node.proxy().timeline.share() {
+        Ok(timeline) => bind(rt, timeline, icp, htcp),
+        Err(_) => Err(ServeFault::NoMemory),
+    };
+    let fault = match bound_queries {
         Ok((mut wire, ready)) => {
             let _ = bound.send(&rt, Ok(ready));
             carry(&rt, alloc, &mut wire, &mut node, &outgoing, &is_ended).err()
@@ -228,11 +216,16 @@ where
 }
 
 /// Binds both query sockets.
-fn bind<R>(rt: R, icp: End, htcp: End) -> Result<(MioWire<R>, BoundQueries), ServeFault>
+fn bind<R>(
+    rt: R,
+    timeline: Timeline,
+    icp: End,
+    htcp: End,
+) -> Result<(MioWire<R>, BoundQueries), ServeFault>
 where
     R: Net + Clock + AllocGlobal + Copy,
 {
-    let wire = match MioWire::bind(rt, icp, htcp) {
+    let wire = match MioWire::bind(rt, timeline, icp, htcp) {
         Ok(wire) => wire,
         Err(BindFault::End(Socket::Icp)) => return Err(ServeFault::Bind(Port::Icp)),
         Err(BindFault::End(Socket::Htcp)) => return Err(ServeFault::Bind(Port::Htcp)),

@@ -12,12 +12,18 @@ use tokio::net::{TcpListener, TcpStream};
 use tokio::sync::{AcquireOwned, OwnedSemaphorePermit, Semaphore};
 use tokio::time::{Handle, Sleep};
 
+// The most clients that are refused concurrently. Further ones are closed without an answer.
+const MOST_REFUSALS: usize = 64;
+
 /// Makes the future that serves a client.
 pub trait Accept: Drop {
     /// Serves one client until its connection ends.
     type Serving: Future<Output = ()>;
 
-    /// Serves the client that connected from `address`. Returning `None` closes the connection.
+    /// Whether a client at `address` takes one of the seats for clients. Others are refused, and take none of these.
+    fn has_seat(&self, address: SocketAddr) -> bool;
+
+    /// Serves or refuses the client that connected from `address`. Returning `None` closes the connection.
     fn accept(&self, socket: TcpStream, address: SocketAddr) -> Option<Self::Serving>
         ensures { IfSome result Self.Serving.can_poll };
 }
@@ -71,8 +77,9 @@ struct Asking {
 }
 
 /// The clients of a listener, as a stream of futures that ends when `stop` is ready or its sender is dropped. Each future holds a
-/// permit; while none is free, no connection is accepted, and further clients wait in the listener's queue. After a failed accept
-/// the next one waits for `rest`.
+/// permit; while none is free, no connection is accepted, and further clients wait in the listener's queue. A client that takes no
+/// seat holds one of 64 other permits, and is closed where none of these is free. After a failed accept the next one waits for
+/// `rest`.
 #[derive(Drop)]
 pub struct AcceptedClients<A, R> {
     rt: R,
@@ -81,6 +88,7 @@ pub struct AcceptedClients<A, R> {
     stop: Option<oneshot::Receiver<()>>,
     accept: A,
     seats: Arc<Semaphore>,
+    refusals: Arc<Semaphore>,
     asking: Option<Asking>,
     seat: Option<OwnedSemaphorePermit>,
     rest: Duration,
@@ -103,6 +111,7 @@ impl<A: Accept, R: Clock + Drop> AcceptedClients<A, R> {
             alloc,
             Semaphore::new(alloc, most.min(Semaphore::MAX_PERMITS))?,
         )?;
+        let refusals = Arc::new(alloc, Semaphore::new(alloc, MOST_REFUSALS)?)?;
         Ok(AcceptedClients {
             rt,
             timers,
@@ -110,11 +119,21 @@ impl<A: Accept, R: Clock + Drop> AcceptedClients<A, R> {
             stop: Some(stop),
             accept,
             seats,
+            refusals,
             asking: None,
             seat: None,
             rest,
             resting: None,
         })
+    }
+
+    // The permit that a client at `address` holds. `None` if it takes no seat and too many others are being refused.
+    fn permit(&mut self, address: SocketAddr) -> Option<OwnedSemaphorePermit> {
+        if self.accept.has_seat(address) {
+            return self.seat.take();
+        }
+        let refusals = Arc::try_clone(&self.refusals).ok()?;
+        Semaphore::try_acquire_owned(refusals).ok()
     }
 
     // Delays the next accept.
@@ -167,8 +186,8 @@ impl<A: Accept, R: Clock + Drop> Stream for AcceptedClients<A, R> {
         }
         match ready!(self.listener.poll_accept(cx)) {
             Ok((socket, address)) => {
-                if let Some(serving) = self.accept.accept(socket, address)
-                    && let Some(seat) = self.seat.take()
+                if let Some(seat) = self.permit(address)
+                    && let Some(serving) = self.accept.accept(socket, address)
                 {
                     return Poll::Ready(Some(Seated { serving, seat }));
                 }

@@ -5,11 +5,11 @@ use futures::{Future, ready};
 use std::time::Clock;
 use tokio::io::{AsyncRead, AsyncWrite};
 
-// The most reads of up to 1 KiB each that discard what the client still sends; closing with unread octets could lose the text.
+// The most reads of up to 1 KiB each that discard what the client has sent; closing with unread octets could lose the text.
 const MOST_READS: u32 = 64;
 
-/// Sends a client one text, shuts down its own side, and discards what the client still sends, at most some 64 KiB, until the
-/// client closes or is silent for too long.
+/// Sends a client one text, shuts down its own side, discards what the client has sent by then, at most some 64 KiB, and ends. It
+/// waits only until the socket takes the text, which a new connection does at once, so a silent client is not waited for.
 #[derive(Drop)]
 pub struct Refusal<R> {
     socket: Patient<R>,
@@ -46,8 +46,8 @@ impl<R: Clock + Drop> Future for Refusal<R> {
             self.is_shut = true;
         }
         let mut piece = [0; 1024];
-        match ready!(AsyncRead::poll_read(&mut self.socket, cx, &mut piece)) {
-            Ok(count) if 0 < count && self.reads < MOST_READS => {
+        match AsyncRead::poll_read(&mut self.socket, cx, &mut piece) {
+            Poll::Ready(Ok(count)) if 0 < count && self.reads < MOST_READS => {
                 self.reads = self.reads.saturating_add(1);
                 cx.yield_now()
             }

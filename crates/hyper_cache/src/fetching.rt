@@ -1,5 +1,7 @@
 //! Fetches from origin servers and neighbours, many concurrently on one thread.
-ghost use Rattle.std.specs.Prelude.{◌<◌, IfSome};
+ghost use Rattle.std.specs.Prelude.{◌≡◌, ◌<◌, IfSome};
+ghost use Rattle.futures.specs.Poll.{OnPending};
+ghost use Rattle.futures.specs.Task.{Covers, Keeps};
 ghost use Rattle.tokio.specs.Timers.{timeout_future};
 
 use crate::exchange::{Call, Get, Talk};
@@ -17,7 +19,7 @@ use std::net::{Net, SocketAddr};
 use std::random::RandomSource;
 use std::sync::Wait;
 use std::time::{Clock, Duration, Instant};
-use tokio::net::TcpStream;
+use tokio::net::{ConnectFuture, TcpStream};
 use tokio::runtime::{Handle, LocalRuntime};
 use tokio::time::Timeout;
 
@@ -40,10 +42,19 @@ pub struct Order {
     pub wanted: oneshot::Receiver<()>,
 }
 
-/// An order and the address of its server. Without an address the fetch fails.
+/// The server of an order.
+#[derive(Drop)]
+pub enum Server {
+    /// Its address.
+    At(SocketAddr),
+    /// Receives its address once its name has been looked up. The fetch fails if the sender is dropped.
+    Sought(oneshot::Receiver<SocketAddr>),
+}
+
+/// An order and its server.
 #[derive(Drop)]
 pub struct Job {
-    pub server: Option<SocketAddr>,
+    pub server: Server,
     pub order: Order,
 }
 
@@ -88,24 +99,25 @@ struct Getter<R> {
     limits: FetchLimits,
 }
 
-impl<R: Net + Clock + Drop> Getter<R> {
-    // Connects to the server, with a timeout. Returns `None` without a server, or if out of memory.
-    fn connect(&self, server: Option<SocketAddr>) -> Option<Timeout<tokio::net::ConnectFuture>> {
-        let connecting = TcpStream::connect(&self.rt, server?, self.handle.reactor());
-        let time = self.handle.time();
-        time.timeout(&self.rt, self.limits.connecting, connecting)
-            .ok()
+impl<R: Net + Clock + Copy> Getter<R> {
+    // What connects one fetch. Returns `None` if out of memory.
+    fn dialer(&self) -> Option<Dialer<R>> {
+        Some(Dialer {
+            rt: self.rt,
+            handle: self.handle.clone().ok()?,
+            connecting: self.limits.connecting,
+        })
     }
 }
 
-impl<R: Net + Clock + Drop> Begin for Getter<R> {
+impl<R: Net + Clock + Copy> Begin for Getter<R> {
     type Job = Job;
 
     type Done = Fetched;
 
-    type Running = Fetch<Get>;
+    type Running = Fetch<R, Get>;
 
-    fn begin(&mut self, job: Job) -> Fetch<Get> {
+    fn begin(&mut self, job: Job) -> Fetch<R, Get> {
         let Job { server, order } = job;
         let Order {
             fetch,
@@ -124,36 +136,119 @@ impl<R: Net + Clock + Drop> Begin for Getter<R> {
             fields,
             limit: self.limits.octets,
         };
-        let call = Call::new(self.connect(server), get);
-        let timed = self.handle.time().timeout_at(deadline, call);
+        let visit = Visit::new(server, self.dialer(), get);
+        let timed = self.handle.time().timeout_at(deadline, visit);
         Fetch {
             fetch,
             attempt,
             wanted,
-            call: timed.ok(),
+            visit: timed.ok(),
+        }
+    }
+}
+
+// Connects to a server.
+#[derive(Drop)]
+struct Dialer<R> {
+    rt: R,
+    handle: Handle,
+    connecting: Duration,
+}
+
+impl<R: Net + Clock + Copy> Dialer<R> {
+    // Connects to this address, with a timeout. Returns `None` if out of memory.
+    fn connect(&self, server: SocketAddr) -> Option<Timeout<ConnectFuture>> {
+        let connecting = TcpStream::connect(&self.rt, server, self.handle.reactor());
+        let time = self.handle.time();
+        time.timeout(&self.rt, self.connecting, connecting).ok()
+    }
+}
+
+// Waits for the address of the server, then makes the call. Its output is `None` if either fails.
+#[derive(Drop)]
+struct Visit<R, T: Talk> {
+    server: Server,
+    dialer: Option<Dialer<R>>,
+    talk: Option<T>,
+    // The call, once it has begun.
+    call: Option<Call<T>>,
+}
+
+impl<R: Net + Clock + Copy, T: Talk> Visit<R, T> {
+    // A visit that has not begun; it fails without a dialer.
+    fn new(server: Server, dialer: Option<Dialer<R>>, talk: T) -> Visit<R, T>
+        ensures { IfSome result.call (λ c. IfSome c.talking T.Talking.can_poll) }
+    {
+        Visit {
+            server,
+            dialer,
+            talk: Some(talk),
+            call: None,
+        }
+    }
+
+    // Waits for the address of the server. `None` if its name has none.
+    fn poll_server(&mut self, cx: &mut Context<'_>) -> Poll<Option<SocketAddr>>
+        ensures same { self.new.call ≡ self.old.call }
+        ensures registered { OnPending result (Covers cx.new (λ _. ⊥)) }
+        ensures kept { Keeps cx.old cx.new }
+    {
+        match &mut self.server {
+            Server::At(server) => Poll::Ready(Some(*server)),
+            Server::Sought(sought) => Poll::Ready(ready!(sought.poll(cx)).ok()),
+        }
+    }
+
+    // The call to this address. Returns `None` if it has begun before, or if out of memory.
+    fn call(&mut self, server: SocketAddr) -> Option<Call<T>>
+        ensures { IfSome result (λ c. IfSome c.talking T.Talking.can_poll) }
+    {
+        let talk = self.talk.take()?;
+        match &self.dialer {
+            Some(dialer) => Some(Call::new(dialer.connect(server), talk)),
+            None => None,
+        }
+    }
+}
+
+impl<R: Net + Clock + Copy, T: Talk> Future for Visit<R, T> {
+    type Output = Option<Page>;
+
+    ghost can_poll = { λ v. IfSome v.call (λ c. IfSome c.talking T.Talking.can_poll) };
+
+    fn poll(&mut self, cx: &mut Context<'_>) -> Poll<Option<Page>> {
+        if self.call.is_none() {
+            let Some(server) = ready!(self.poll_server(cx)) else {
+                return Poll::Ready(None);
+            };
+            self.call = self.call(server);
+        }
+        match &mut self.call {
+            Some(call) => call.poll(cx),
+            None => Poll::Ready(None),
         }
     }
 }
 
 // A fetch in progress.
 #[derive(Drop)]
-struct Fetch<T: Talk> {
+struct Fetch<R, T: Talk> {
     fetch: u32,
     attempt: u16,
     wanted: oneshot::Receiver<()>,
-    call: Option<Timeout<Call<T>>>,
+    visit: Option<Timeout<Visit<R, T>>>,
 }
 
-impl<T: Talk> Future for Fetch<T> {
+impl<R: Net + Clock + Copy, T: Talk> Future for Fetch<R, T> {
     type Output = Fetched;
 
-    ghost can_poll = { λ f. IfSome f.call (λ t. IfSome (timeout_future t).talking T.Talking.can_poll) };
+    ghost can_poll = { λ f. IfSome f.visit (λ t. IfSome (timeout_future t).call (λ c. IfSome c.talking T.Talking.can_poll)) };
 
     fn poll(&mut self, cx: &mut Context<'_>) -> Poll<Fetched> {
         let page = if let Poll::Ready(_) = self.wanted.poll(cx) {
             None
-        } else if let Some(call) = &mut self.call {
-            match ready!(call.poll(cx)) {
+        } else if let Some(visit) = &mut self.visit {
+            match ready!(visit.poll(cx)) {
                 Ok(page) => page,
                 Err(_elapsed) => None,
             }

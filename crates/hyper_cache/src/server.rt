@@ -28,7 +28,8 @@ use tokio::time::Handle;
 pub struct ServeLimits {
     /// How long a client may stay silent.
     pub still: StreamTimeouts,
-    /// The most concurrent connections. Further ones wait in the socket's accept queue.
+    /// The most concurrent connections. Further ones wait in the socket's accept queue. A client that is not admitted is none of
+    /// these: it is closed once its 403 is sent.
     pub connections: usize,
     /// The pause after a failed accept.
     pub rest: Duration,
@@ -54,6 +55,10 @@ impl<R: Clock + Copy, H: Answers> Accept for Http<R, H> {
         Quiet<Connection<Patient<R>, Door<H>, Portions, TokioTimer<R>>>,
         Refusal<R>,
     >;
+
+    fn has_seat(&self, address: SocketAddr) -> bool {
+        self.answers.allows(address.ip())
+    }
 
     fn accept(&self, socket: TcpStream, address: SocketAddr) -> Option<Self::Serving> {
         let _ = socket.set_nodelay(true);

@@ -34,8 +34,9 @@ pub(crate) fn text_of(alloc: Global, status: u16, target: &[u8]) -> Result<Vec<u
 
 /// Why a request to the administration is not answered.
 pub(crate) fn not_administrator(alloc: Global) -> Result<Vec<u8>, AllocError> {
-    b"403 Forbidden: Host has to be 127.0.0.1 or localhost with this port, without Via and without an Origin of elsewhere\n"
-        .to_vec(alloc)
+    b"403 Forbidden: Host has to be 127.0.0.1 or localhost with this port, without Via and without an Origin of elsewhere\n".to_vec(
+        alloc,
+    )
 }
 
 /// A complete 403 response, for a client that is not admitted.

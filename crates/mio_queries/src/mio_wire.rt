@@ -6,6 +6,7 @@ ghost use Rattle.mio_queries.specs.Traffic.{Traffic};
 use crate::NoMemory;
 use crate::bell::Bell;
 use crate::sockets::{BindFault, Sockets};
+use crate::timeline::Timeline;
 use crate::traffic::{Received, WireFault};
 use crate::wire::Wire;
 use filter_slots::{End, Socket};
@@ -16,8 +17,8 @@ use std::time::Clock;
 /// The two non-blocking query sockets of a node. To contracts it reports only its number of failures, not its traffic.
 ///
 /// `receive` alternates between the sockets and waits at most 100 milliseconds if both would block. It returns `Idle` at least
-/// once in 100 milliseconds of the system's clock, however many datagrams are waiting, and when its bell rings. A send that
-/// would block fails. Times are the system's clock, in milliseconds since 1970.
+/// once in 100 milliseconds, however many datagrams are waiting, and when its bell rings. A send that
+/// would block fails. Times are those of its timeline.
 #[derive(Drop)]
 pub struct MioWire<R> {
     sockets: Sockets<R>,
@@ -27,11 +28,11 @@ pub struct MioWire<R> {
 impl<R: Net + Clock + AllocGlobal + Drop> MioWire<R> {
     /// Binds both sockets. For port 0 the system chooses a port. Errors: an address can't be bound, another system call failed,
     /// or allocation failure.
-    pub fn bind(rt: R, icp: End, htcp: End) -> Result<MioWire<R>, BindFault>
+    pub fn bind(rt: R, timeline: Timeline, icp: End, htcp: End) -> Result<MioWire<R>, BindFault>
         ensures { IfOk result (λ wire. wire.faults ≡ 0) }
     {
         Ok(MioWire {
-            sockets: Sockets::bind(rt, icp, htcp)?,
+            sockets: Sockets::bind(rt, timeline, icp, htcp)?,
             faults: 0,
         })
     }

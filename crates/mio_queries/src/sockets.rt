@@ -1,6 +1,7 @@
 //! The two query sockets, polled together.
 use crate::NoMemory;
 use crate::bell::Bell;
+use crate::timeline::Timeline;
 use crate::traffic::{Received, WireFault};
 use filter_slots::{Datagram, End, Moment, Socket};
 use mio::net::UdpSocket;
@@ -10,10 +11,10 @@ use std::io;
 use std::io::ErrorKind;
 use std::net::{Ipv4Addr, Net, SocketAddr, SocketAddrV4};
 use std::sync::Arc;
-use std::time::{Clock, Duration, SystemTime};
+use std::time::{Clock, Duration};
 use thiserror::Error;
 
-/// A receive returns `Idle` at least once in this many milliseconds of the system's clock.
+/// A receive returns `Idle` at least once in this many milliseconds of its timeline.
 pub const TICK: u64 = 100;
 
 const ICP: Token = Token(0);
@@ -57,6 +58,7 @@ struct Held {
 #[derive(Drop)]
 pub struct Sockets<R> {
     rt: R,
+    timeline: Timeline,
     poll: Poll,
     events: Events,
     bell: Bell,
@@ -76,14 +78,14 @@ pub struct Sockets<R> {
 
 impl<R: Net + Clock + AllocGlobal + Drop> Sockets<R> {
     /// Binds both sockets and registers them and a bell for polling.
-    pub fn bind(rt: R, icp: End, htcp: End) -> Result<Sockets<R>, BindFault> {
+    pub fn bind(rt: R, timeline: Timeline, icp: End, htcp: End) -> Result<Sockets<R>, BindFault> {
         let poll = Poll::new(&rt).map_err(|_| BindFault::Io)?;
         let events = Events::with_capacity(rt.alloc(), 4)?;
         let bell = Bell::new(rt.alloc(), poll.registry(), WAKES)?;
         let icp_socket = bound(&rt, &poll, Socket::Icp, icp)?;
         let htcp_socket = bound(&rt, &poll, Socket::Htcp, htcp)?;
         let buffer = vec![in rt.alloc(); 0; ROOM]?;
-        let ticked = now(&rt).map_err(|_| BindFault::Io)?;
+        let ticked = timeline.now(&rt).map_err(|_| BindFault::Io)?;
         Ok(Sockets {
             poll,
             events,
@@ -97,6 +99,7 @@ impl<R: Net + Clock + AllocGlobal + Drop> Sockets<R> {
             ticked,
             buffer,
             held: None,
+            timeline,
             rt,
         })
     }
@@ -115,9 +118,9 @@ impl<R: Net + Clock + AllocGlobal + Drop> Sockets<R> {
     }
 
     /// Returns a datagram, or `Idle` after at most 100 milliseconds or when the bell rings. Even under a constant stream of
-    /// datagrams it returns `Idle` at least once in 100 milliseconds of the system's clock.
+    /// datagrams it returns `Idle` at least once in 100 milliseconds of its timeline.
     pub fn receive(&mut self, alloc: Global) -> Result<Received, WireFault> {
-        let before = now(&self.rt)?;
+        let before = self.timeline.now(&self.rt)?;
         let Some(left) = self.until_tick(before) else {
             return Ok(self.idle(before));
         };
@@ -125,14 +128,14 @@ impl<R: Net + Clock + AllocGlobal + Drop> Sockets<R> {
             return self.hand_over(alloc, before);
         }
         let rang = self.wait(left)?;
-        let after = now(&self.rt)?;
+        let after = self.timeline.now(&self.rt)?;
         if rang || !self.try_both(after)? {
             return Ok(self.idle(after));
         }
         self.hand_over(alloc, after)
     }
 
-    // Milliseconds left until a receive has to return `Idle`; `None` if it has to now, or if the clock was set back.
+    // Milliseconds left until a receive has to return `Idle`; `None` if it has to now.
     fn until_tick(&self, at: Moment) -> Option<u64> {
         let since = at.millis().checked_sub(self.ticked.millis())?;
         TICK.checked_sub(since).filter(|left| *left > 0)
@@ -265,17 +268,6 @@ fn own_end(socket: &UdpSocket, asked: End) -> End {
     match socket.local_addr() {
         Ok(SocketAddr::V4(addr)) => end_of(addr),
         _ => asked,
-    }
-}
-
-// The system's clock, in milliseconds since 1970.
-fn now(rt: &impl Clock) -> io::Result<Moment> {
-    let Ok(since) = SystemTime::now(rt)?.duration_since(SystemTime::UNIX_EPOCH) else {
-        return Err(ErrorKind::Other.into());
-    };
-    match u64::try_from(since.as_millis()) {
-        Ok(millis) => Moment::new(millis).ok_or(ErrorKind::Other.into()),
-        Err(_) => Err(ErrorKind::Other.into()),
     }
 }
 

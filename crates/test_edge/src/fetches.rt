@@ -4,7 +4,7 @@ use crate::origin;
 use fetch_chain::Submit;
 use futures::channel::mpsc::{UnboundedSender, unbounded};
 use futures::channel::oneshot;
-use hyper_cache::fetching::{Fetched, Job, Order, run_fetches};
+use hyper_cache::fetching::{Fetched, Job, Order, Server, run_fetches};
 use hyper_cache::names::{hand_over, look_up};
 use std::alloc::Global;
 use std::net::{SocketAddr, TcpListener};
@@ -47,6 +47,16 @@ fn order_of<R: Clock>(
     Ok((order, keep))
 }
 
+// The server at this address, or one whose name has none.
+fn server_of(alloc: Global, server: Option<SocketAddr>) -> Result<Server, Fail> {
+    let (found, sought) = oneshot::channel(alloc)?;
+    drop(found);
+    Ok(match server {
+        Some(server) => Server::At(server),
+        None => Server::Sought(sought),
+    })
+}
+
 // Sends a job. Dropping the sender that is returned cancels its fetch.
 fn ask<R: Clock>(
     rt: &R,
@@ -57,6 +67,7 @@ fn ask<R: Clock>(
     target: &str,
 ) -> Result<oneshot::Sender<()>, Fail> {
     let (order, keep) = order_of(rt, alloc, fetch, target)?;
+    let server = server_of(alloc, server)?;
     if jobs.unbounded_send(Job { server, order }).is_err() {
         return Err(io::Error::other("no thread").into());
     }
@@ -180,17 +191,21 @@ fn names_are_looked_up(rt: HostRuntime) -> Result<(), Fail> {
         let (order, keep) = order_of(&rt, alloc, fetch, "/")?;
         keeps.push(keep)?;
         let name = String::from_str(alloc, name)?;
-        assert!(rt; hand_over(&rt, &wishes, lanes.as_slice(), name, port, order).is_ok());
+        assert!(rt; hand_over(&rt, alloc, &wishes, lanes.as_slice(), name, port, order).is_ok());
         fetch = fetch.saturating_add(2);
     }
     drop(wishes);
-    look_up(&rt, &sought, lanes.as_slice());
+    look_up(&rt, &sought);
     drop(lanes);
     for wanted in ["127.0.0.1:80", "127.0.0.1:81", ""] {
         let Ok(Some(job)) = work.try_next() else {
             panic!(rt; "no job");
         };
-        let got = match job.server {
+        let found = match job.server {
+            Server::At(server) => Some(server),
+            Server::Sought(mut sought) => sought.try_recv().unwrap_or(None),
+        };
+        let got = match found {
             Some(server) => server.to_string(alloc)?,
             None => String::new(alloc),
         };

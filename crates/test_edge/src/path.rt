@@ -72,6 +72,7 @@ impl<R: Wait + Clock + Copy> Asks<R> {
             table.wanted = Some(keep);
             hand_over(
                 &self.rt,
+                self.alloc,
                 &self.wishes,
                 self.lanes.as_slice(),
                 name,

@@ -418,7 +418,10 @@ const ADMINISTRATION: [(&[u8], [&[u8]; 2]); 18] = [
     ),
     (
         b"PUT http://elsewhere/filter/icp HTTP/1.1\r\nHost: o\r\nContent-Length: 6\r\n\r\nret #1",
-        [b"HTTP/1.1 403 Forbidden", b"\r\n\r\n403 Forbidden: Host has to be "],
+        [
+            b"HTTP/1.1 403 Forbidden",
+            b"\r\n\r\n403 Forbidden: Host has to be ",
+        ],
     ),
     (
         b"GET /filter/icp HTTP/1.1\r\nHost: o\r\n\r\n",
@@ -517,6 +520,10 @@ struct Refusing<R> {
 
 impl<R: Clock + Copy> Accept for Refusing<R> {
     type Serving = Refusal<R>;
+
+    fn has_seat(&self, _: SocketAddr) -> bool {
+        false
+    }
 
     fn accept(&self, socket: TcpStream, address: SocketAddr) -> Option<Refusal<R>> {
         let stage = SharedStage::new(self.alloc).ok()?;
