@@ -15,9 +15,12 @@ pub const SEATS: u64 = FETCHERS as u64 + 3;
 /// The threads that are joined: all but those that look up names.
 pub const THREADS: usize = SEATS as usize;
 
-/// The capacity of the channel that asks the proxy to end. Each thread sends at most two such messages, so that sending never
-/// waits and never allocates.
-pub const ENDS: usize = 2 * THREADS;
+/// The capacity of the channel that asks the proxy to end. Each thread sends at most two such messages, and one audit sends one,
+/// so that sending never waits and never allocates.
+pub const ENDS: usize = 2 * THREADS + 1;
+
+/// A thread compares its receipts with the event log once in so many of its events.
+pub const EVENTS_AN_AUDIT: u32 = 16;
 
 /// The most datagrams of other threads that the query thread sends before it receives again.
 pub const SENDS_A_TURN: u32 = 64;

@@ -1,4 +1,7 @@
 //! A thread's handle to the node.
+ghost use Rattle.std.specs.Prelude.{◌≡◌};
+
+use crate::limits::EVENTS_AN_AUDIT;
 use crate::proxy_state::{Attempt, ProxyState};
 use crossbeam_channel::Sender;
 use filter_slots::{Datagram, End, Judged, Moment, Slots, Socket};
@@ -7,6 +10,7 @@ use node_book::{Clerk, Programs, Seat, SubmitFault};
 use node_core::{Action, Event, NoMemory, Out, Outcome};
 use object_store::CacheKey;
 use std::alloc::{AllocError, Global};
+use std::sync::atomic::Ordering;
 use std::sync::ledger::Ledger;
 use std::sync::{Arc, Wait};
 use std::time::Clock;
@@ -56,6 +60,8 @@ pub struct NodeHandle<R, L: Ledger> {
     // Where datagrams go; `None` in the query thread, which sends them itself, and in threads whose events send none.
     outbox: Option<Outbox>,
     programs: Programs,
+    // Events submitted, modulo 2^32.
+    submitted: u32,
 }
 
 impl<R: Wait + Clock + Drop, L: Ledger> NodeHandle<R, L> {
@@ -75,6 +81,7 @@ impl<R: Wait + Clock + Drop, L: Ledger> NodeHandle<R, L> {
             out: None,
             outbox,
             programs: Programs::new(),
+            submitted: 0,
         }
     }
 
@@ -129,12 +136,27 @@ impl<R: Wait + Clock + Drop, L: Ledger> NodeHandle<R, L> {
             .proxy
             .desk
             .submit(&self.rt, self.alloc, &mut self.seat, event, &mut out)?;
+        self.audit();
         for action in out.actions() {
             self.carry_out(action);
         }
         let count = out.actions().len();
         self.out = Some(out);
         Ok(count)
+    }
+
+    // Counts one event, and compares receipts with the event log once in so many. If one doesn't agree, the proxy is to end.
+    fn audit(&mut self)
+        ensures { self.new.seat.share ≡ self.old.seat.share }
+    {
+        self.submitted = self.submitted.wrapping_add(1);
+        if self.submitted % EVENTS_AN_AUDIT != 0 {
+            return;
+        }
+        let found = self.proxy.desk.audit(&self.rt, &mut self.seat);
+        if found.is_some() && !self.proxy.is_astray.swap(true, Ordering::SeqCst) {
+            let _ = self.proxy.end.send(&self.rt, ());
+        }
     }
 
     fn carry_out(&mut self, action: &Action) {
@@ -195,9 +217,14 @@ impl<R: Wait + Clock + Drop, L: Ledger> Clerk for NodeHandle<R, L> {
         event: Arc<Event>,
         out: &mut Out,
     ) -> Result<u64, SubmitFault> {
-        self.proxy
+        let submitted = self
+            .proxy
             .desk
-            .submit(&self.rt, alloc, &mut self.seat, event, out)
+            .submit(&self.rt, alloc, &mut self.seat, event, out);
+        if submitted.is_ok() {
+            self.audit();
+        }
+        submitted
     }
 
     fn submit_judged(
@@ -207,9 +234,14 @@ impl<R: Wait + Clock + Drop, L: Ledger> Clerk for NodeHandle<R, L> {
         now: Moment,
         out: &mut Out,
     ) -> Result<u64, SubmitFault> {
-        self.proxy
+        let submitted = self
+            .proxy
             .desk
-            .submit_judged(&self.rt, alloc, &mut self.seat, judged, now, out)
+            .submit_judged(&self.rt, alloc, &mut self.seat, judged, now, out);
+        if submitted.is_ok() {
+            self.audit();
+        }
+        submitted
     }
 
     fn programs(&mut self) -> Result<Slots, NoMemory> {

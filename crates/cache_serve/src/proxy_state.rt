@@ -14,7 +14,7 @@ use node_core::{Action, Answer, Mode, NoMemory};
 use peer_select::Source;
 use plain_node::MAX_PENDING_FETCHES;
 use std::alloc::{AllocError, Global};
-use std::sync::atomic::AtomicU16;
+use std::sync::atomic::{AtomicBool, AtomicU16};
 use std::sync::ledger::Ledger;
 use std::sync::{Mutex, Wait};
 use std::time::{Clock, Duration, Instant};
@@ -57,6 +57,10 @@ pub struct ProxyState<L: Ledger> {
     pub fetching: Duration,
     /// The port that administration is served on: the configuration's, and once its socket is bound that of the socket.
     pub admin_port: AtomicU16,
+    /// Whether an audit found a receipt that does not agree with the event log.
+    pub is_astray: AtomicBool,
+    /// Receives a message when that happens, so that the proxy ends.
+    pub end: Sender<(), Global>,
 }
 
 /// Room for fetches that could not be begun.

@@ -1,5 +1,6 @@
 //! Starting and ending the threads of a proxy.
-ghost use Rattle.std.specs.Prelude.{◌≡◌};
+ghost use Rattle.std.specs.Prelude.{◌≡◌, IfOk};
+ghost use Rattle.node_book.specs.Book.{count_of};
 
 use crate::addressing::Peer;
 use crate::fault::{Port, ServeFault};
@@ -16,7 +17,7 @@ use filter_slots::End;
 use futures::channel::{mpsc, oneshot};
 use hyper_cache::names::{Wish, look_up};
 use mio_queries::{Bell, Timeline};
-use node_book::{BookFault, Booked, Desk, Report, Seat};
+use node_book::{BOOK_OCTETS, BookFault, Booked, Desk, RECEIPT_OCTETS, Report, Seat};
 use node_core::{Config, Network, Node};
 use serve_config::Settings;
 use std::alloc::{AllocError, AllocGlobal, Global};
@@ -74,12 +75,14 @@ where
     let alloc = rt.alloc();
     let allowed = networks_of(alloc, &settings.node).map_err(no_memory)?;
     let config = thread_config(&settings, limits);
-    let (proxy, seats) = proxy_of(alloc, blank, settings, limits.fetching)?;
+    let (end, ends) = bounded(alloc, ENDS).map_err(no_memory)?;
+    let told = end.clone().map_err(no_memory)?;
+    let (proxy, seats) = proxy_of(alloc, blank, settings, limits.fetching, told)?;
     let mut opening = Opening {
         rt,
         alloc,
         config,
-        site: Site::of(alloc, proxy, seats).map_err(no_memory)?,
+        site: Site::of(alloc, proxy, seats, (end, ends)).map_err(no_memory)?,
     };
     let opened = opening.open(allowed);
     let Opening { site, .. } = opening;
@@ -112,6 +115,7 @@ fn proxy_of<L: Ledger>(
     blank: Blank,
     settings: Settings,
     fetching: Duration,
+    end: Sender<(), Global>,
 ) -> Result<(ProxyState<L>, Vec<Seat<L>>), ServeFault>
     requires name { blank.name ≡ L.name }
     requires parts { blank.parts ≡ L.parts }
@@ -121,12 +125,17 @@ fn proxy_of<L: Ledger>(
     let Settings {
         name,
         volume,
+        book_octets,
+        receipt_octets,
         admin_port,
         node: config,
         ..
     } = settings;
     let node = Node::new(alloc, config).map_err(ServeFault::Node)?;
-    let (desk, seats) = desk_of(alloc, blank, node, volume as usize)?;
+    let book_octets = book_octets.unwrap_or(BOOK_OCTETS);
+    let booked = book_of(alloc, node, volume as usize, book_octets)?;
+    let room = receipt_octets.unwrap_or(RECEIPT_OCTETS);
+    let (desk, seats) = desk_of(alloc, blank, booked, room)?;
     let proxy = ProxyState {
         desk,
         mailbox: Mutex::new(Mailbox::new(alloc)),
@@ -137,27 +146,36 @@ fn proxy_of<L: Ledger>(
         peers,
         fetching,
         admin_port: AtomicU16::new(admin_port),
+        is_astray: AtomicBool::new(false),
+        end,
     };
     Ok((proxy, seats))
 }
 
-/// A new node with its event log behind a lock, and its seats.
+/// A new node with its event log, whose volumes have these capacities, in events and in octets of contents.
+fn book_of(alloc: Global, node: Node, volume: usize, octets: u32) -> Result<Booked, ServeFault>
+    ensures new { IfOk result (λ booked. count_of booked ≡ 0) }
+{
+    match Booked::within(alloc, node, volume, octets) {
+        Ok(booked) => Ok(booked),
+        Err(BookFault::Limits) => Err(ServeFault::Volume),
+        Err(BookFault::NoMemory) => Err(ServeFault::NoMemory),
+    }
+}
+
+/// The event log behind a lock, and the seats of the threads, whose receipts keep at most `room` octets of contents.
 fn desk_of<L: Ledger>(
     alloc: Global,
     blank: Blank,
-    node: Node,
-    volume: usize,
+    booked: Booked,
+    room: u32,
 ) -> Result<(Desk<L>, Vec<Seat<L>>), ServeFault>
+    requires new { count_of booked ≡ 0 }
     requires name { blank.name ≡ L.name }
     requires parts { blank.parts ≡ L.parts }
     requires seats { blank.parts ≡ SEATS }
 {
-    let booked = match Booked::new(alloc, node, volume) {
-        Ok(booked) => booked,
-        Err(BookFault::Limits) => return Err(ServeFault::Volume),
-        Err(BookFault::NoMemory) => return Err(ServeFault::NoMemory),
-    };
-    match Desk::open(alloc, blank, booked, SEATS) {
+    match Desk::open_with(alloc, blank, booked, SEATS, room) {
         Ok(opened) => Ok(opened),
         Err(_) => Err(ServeFault::NoMemory),
     }
@@ -181,8 +199,12 @@ fn networks_of(alloc: Global, config: &Config) -> Result<Vec<Network>, AllocErro
 }
 
 impl<L: Ledger + Send + Sync + 'static> Site<L> {
-    fn of(alloc: Global, proxy: ProxyState<L>, seats: Vec<Seat<L>>) -> Result<Site<L>, AllocError> {
-        let (end, ends) = bounded(alloc, ENDS)?;
+    fn of(
+        alloc: Global,
+        proxy: ProxyState<L>,
+        seats: Vec<Seat<L>>,
+        (end, ends): (Sender<(), Global>, Receiver<(), Global>),
+    ) -> Result<Site<L>, AllocError> {
         Ok(Site {
             proxy: Arc::new(alloc, proxy)?,
             addresses: None,
@@ -414,7 +436,14 @@ fn settled<L: Ledger>(
     let Some(proxy) = Arc::into_inner(proxy) else {
         return Err(ServeFault::Settle);
     };
-    let ProxyState { desk, .. } = proxy;
+    let ProxyState {
+        desk,
+        is_astray,
+        ..
+    } = proxy;
+    if is_astray.into_inner() {
+        return Err(ServeFault::Settle);
+    }
     match desk.settle(seats) {
         Ok(report) => Ok(report),
         Err(_) => Err(ServeFault::Settle),

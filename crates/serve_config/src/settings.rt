@@ -1,5 +1,5 @@
 //! The settings of `serve`.
-ghost use Rattle.std.specs.Prelude.{◌≡◌, ◌≤◌, All, IfOk, true, false};
+ghost use Rattle.std.specs.Prelude.{◌≡◌, ◌≤◌, All, IfOk, IfSome, true, false};
 ghost use Rattle.std.specs.List.{list_any};
 ghost use Rattle.serve_config.specs.Addresses.{is_host};
 ghost use Rattle.serve_config.specs.Group.{IsReachable, IsSecret};
@@ -31,6 +31,10 @@ pub struct Settings {
     pub body_limit: u32,
     /// Capacity of the event log, in events: 1 to 1,048,576.
     pub volume: u32,
+    /// Octets of contents that the receipts of one thread keep at most, if the configuration says it.
+    pub receipt_octets: Option<u32>,
+    /// Octets of contents at which a volume of the event log ends, at least 1, if the configuration says it.
+    pub book_octets: Option<u32>,
     /// The number of answers to clients after which the program ends; 0 means never.
     pub stop_after: u64,
     /// The configuration of the node, including the endpoints of the query sockets.
@@ -45,6 +49,8 @@ impl Settings {
     pub fn read(alloc: Global, text: &[u8]) -> Result<Settings, Fault>
         ensures body_limit { IfOk result (λ s. (1 ≤ s.body_limit) × (s.body_limit ≤ 1073741824)) }
         ensures volume { IfOk result (λ s. (1 ≤ s.volume) × (s.volume ≤ 1048576)) }
+        ensures book_octets { IfOk result (λ s. IfSome s.book_octets (λ n. 1 ≤ n)) }
+        ensures book_octets { IfOk result (λ s. IfSome s.book_octets (λ n. 1 ≤ n)) }
         ensures entries { IfOk result (λ s. (1 ≤ s.node.entries) × (s.node.entries ≤ 1000000)) }
         ensures octets { IfOk result (λ s. (1 ≤ s.node.octets) × (s.node.octets ≤ 1073741824)) }
         ensures host { IfOk result (λ s. is_host s.address ≡ true) }
@@ -64,6 +70,7 @@ impl Settings {
 fn parse_values(alloc: Global, value: &Value) -> Result<Settings, Fault>
     ensures body_limit { IfOk result (λ s. (1 ≤ s.body_limit) × (s.body_limit ≤ 1073741824)) }
     ensures volume { IfOk result (λ s. (1 ≤ s.volume) × (s.volume ≤ 1048576)) }
+    ensures book_octets { IfOk result (λ s. IfSome s.book_octets (λ n. 1 ≤ n)) }
     ensures entries { IfOk result (λ s. (1 ≤ s.node.entries) × (s.node.entries ≤ 1000000)) }
     ensures octets { IfOk result (λ s. (1 ≤ s.node.octets) × (s.node.octets ≤ 1073741824)) }
     ensures host { IfOk result (λ s. is_host s.address ≡ true) }
@@ -79,8 +86,21 @@ fn parse_values(alloc: Global, value: &Value) -> Result<Settings, Fault>
         name: String::from_str(alloc, visible(alloc, value, top.key("name"))?)?,
         body_limit: number(alloc, value, top.key("body_limit"), 1, 1_073_741_824)? as u32,
         volume: number(alloc, value, top.key("volume"), 1, 1_048_576)? as u32,
+        receipt_octets: optional(alloc, value, "receipt_octets", 0)?,
+        book_octets: optional(alloc, value, "book_octets", 1)?,
         stop_after: number(alloc, value, top.key("stop_after"), 0, u64::MAX)?,
     })
+}
+
+// Parses the number of a key that may be left out, from `least` to 1,073,741,824.
+fn optional(alloc: Global, value: &Value, key: &str, least: u64) -> Result<Option<u32>, Fault>
+    ensures { IfOk result (λ given. IfSome given (λ n. least ≤ n)) }
+{
+    if value.get(key).is_none() {
+        return Ok(None);
+    }
+    let place = Place::whole().key(key);
+    Ok(Some(number(alloc, value, place, least, 1_073_741_824)? as u32))
 }
 
 // Parses JSON.

@@ -36,6 +36,12 @@ const TOP: [Known; 16] = [
     ("neighbours", Kind::List),
 ];
 
+/// The keys that a configuration may leave out.
+const OPTIONAL: [Known; 2] = [
+    ("receipt_octets", Kind::Number),
+    ("book_octets", Kind::Number),
+];
+
 /// The keys of a signing key.
 const KEY: [Known; 2] = [("name", Kind::Text), ("secret", Kind::Text)];
 
@@ -79,15 +85,21 @@ fn is_whole(value: &Value) -> bool {
 
 /// Checks the keys and kinds of a whole configuration. Errors: the first fault, of the top-level keys before those of the lists.
 pub(crate) fn check(alloc: Global, value: &Value) -> Result<(), Fault> {
-    check_object(alloc, value, Place::whole(), &TOP)?;
+    check_object(alloc, value, Place::whole(), &TOP, &OPTIONAL)?;
     for (i, network) in items(value, "allowed").iter().enumerate() {
         check_kind(alloc, Some(network), Place::item("allowed", i), Kind::Text)?;
     }
     for (i, key) in items(value, "keys").iter().enumerate() {
-        check_object(alloc, key, Place::item("keys", i), &KEY)?;
+        check_object(alloc, key, Place::item("keys", i), &KEY, &[])?;
     }
     for (i, neighbour) in items(value, "neighbours").iter().enumerate() {
-        check_object(alloc, neighbour, Place::item("neighbours", i), &NEIGHBOUR)?;
+        check_object(
+            alloc,
+            neighbour,
+            Place::item("neighbours", i),
+            &NEIGHBOUR,
+            &[],
+        )?;
     }
     Ok(())
 }
@@ -100,12 +112,13 @@ pub(crate) fn items<'a>(object: &'a Value, key: &str) -> &'a [Value] {
     }
 }
 
-// Checks that a value is an object with exactly these keys, each with a value of its kind.
+// Checks that a value is an object with all the known keys and perhaps some of the optional ones, each with a value of its kind.
 fn check_object(
     alloc: Global,
     value: &Value,
     place: Place<'_>,
     known: &[Known],
+    optional: &[Known],
 ) -> Result<(), Fault> {
     let Some(members) = value.as_object() else {
         return Err(Fault::shape(alloc, place, "not an object"));
@@ -113,7 +126,24 @@ fn check_object(
     for (key, kind) in known {
         check_kind(alloc, members.get(*key), place.key(*key), *kind)?;
     }
-    check_known(alloc, members, place, known)
+    check_optional(alloc, members, place, optional)?;
+    check_known(alloc, members, place, known, optional)
+}
+
+// Checks that each of the optional keys that is there has a value of its kind.
+fn check_optional(
+    alloc: Global,
+    members: &Map<String, Value>,
+    place: Place<'_>,
+    optional: &[Known],
+) -> Result<(), Fault> {
+    for (key, kind) in optional {
+        let value = members.get(*key);
+        if value.is_some() {
+            check_kind(alloc, value, place.key(*key), *kind)?;
+        }
+    }
+    Ok(())
 }
 
 // Checks that there are no keys other than these.
@@ -122,9 +152,10 @@ fn check_known(
     members: &Map<String, Value>,
     place: Place<'_>,
     known: &[Known],
+    optional: &[Known],
 ) -> Result<(), Fault> {
     for key in members.keys() {
-        if !is_known(key.as_str(), known) {
+        if !is_known(key.as_str(), known) && !is_known(key.as_str(), optional) {
             return Err(unknown(alloc, place, key.as_str()));
         }
     }
