@@ -1,0 +1,5 @@
+pub mod Fields
+pub mod Link
+pub mod Udp
+pub mod View
+pub mod Record
