@@ -12,3 +12,8 @@ pair octets at = big_number 2 (drop at octets)
 abbrev pub word : Order → List ℕ → ℕ → ℕ
 word Big octets at = big_number 4 (drop at octets)
 word Little octets at = little_number 4 (drop at octets)
+
+-- the two octets from place `at`, likewise
+abbrev pub half : Order → List ℕ → ℕ → ℕ
+half Big octets at = big_number 2 (drop at octets)
+half Little octets at = little_number 2 (drop at octets)

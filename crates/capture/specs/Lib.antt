@@ -3,3 +3,4 @@ pub mod Link
 pub mod Udp
 pub mod View
 pub mod Record
+pub mod Head

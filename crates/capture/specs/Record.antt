@@ -24,4 +24,3 @@ abbrev pub TakesRecord : Order → Option (List ℕ) → Option (List ℕ) → R
 TakesRecord order None new head captured = ⊤
 TakesRecord order (Some octets) None head captured = ⊥
 TakesRecord order (Some octets) (Some rest) head captured = IsRecord order octets head captured rest
-

@@ -1,9 +1,10 @@
-//! Reads captures of network traffic, as tcpdump and Wireshark write them: classic pcap and pcapng, record by record, and the UDP
-//! datagram in each frame.
+//! Reads captures of network traffic in the form of classic pcap files, as `tcpdump -w` writes them: their header, their records
+//! one after the other, and the UDP datagram in each frame. Memory is bounded by one record of 262,144 octets, whatever the file.
 //!
 //! `specs/Udp.antt` and `specs/Link.antt` define which datagram a frame holds, by its link type and its headers, and
-//! `specs/Record.antt` which record or block stands in front of a file's octets. Contracts see a frame as the list of its octets.
-//! Tested by: crates/test_capture, tests/captures, must-fail edits.
+//! `specs/Head.antt` and `specs/Record.antt` which header or record stands in front of a file's octets. Contracts see a frame as
+//! the list of its octets, and of a reader what it has left.
+//! Tested by: crates/test_capture, must-fail edits.
 #![tactic(auto)]
 
 mod fault;

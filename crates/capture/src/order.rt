@@ -1,7 +1,7 @@
 //! Byte orders, and the numbers of a file.
 
 ghost use Rattle.std.specs.Prelude.{◌≡◌, ◌+◌, ◌≤◌, length};
-ghost use Rattle.capture.specs.Fields.{pair, word};
+ghost use Rattle.capture.specs.Fields.{half, pair, word};
 
 use byteorder::{BigEndian, ByteOrder, LittleEndian};
 
@@ -36,6 +36,7 @@ pub(crate) fn word(order: Order, octets: &[u8], at: usize) -> u32
 /// The two octets from place `at`, in the byte order of the file.
 pub(crate) fn half(order: Order, octets: &[u8], at: usize) -> u16
     requires { at + 2 ≤ length octets.now }
+    ensures { result ≡ half order octets.now at }
 {
     match order {
         Order::Big => BigEndian::read_u16(&octets[at..]),

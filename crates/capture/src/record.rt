@@ -51,7 +51,11 @@ pub fn take_record<R: Read>(
 }
 
 // Takes `count` octets out of a reader; they replace the contents of `octets`.
-fn take_octets<R: Read>(reader: &mut R, count: u32, octets: &mut Vec<u8>) -> Result<(), CaptureFault>
+fn take_octets<R: Read>(
+    reader: &mut R,
+    count: u32,
+    octets: &mut Vec<u8>,
+) -> Result<(), CaptureFault>
     ensures taken { IfOk result (λ _. Consumes (R.remaining reader.old) (R.remaining reader.new) octets.new.items) }
     ensures long { IfOk result (λ _. length octets.new.items ≡ count) }
 {
