@@ -50,7 +50,6 @@ impl Settings {
         ensures body_limit { IfOk result (λ s. (1 ≤ s.body_limit) × (s.body_limit ≤ 1073741824)) }
         ensures volume { IfOk result (λ s. (1 ≤ s.volume) × (s.volume ≤ 1048576)) }
         ensures book_octets { IfOk result (λ s. IfSome s.book_octets (λ n. 1 ≤ n)) }
-        ensures book_octets { IfOk result (λ s. IfSome s.book_octets (λ n. 1 ≤ n)) }
         ensures entries { IfOk result (λ s. (1 ≤ s.node.entries) × (s.node.entries ≤ 1000000)) }
         ensures octets { IfOk result (λ s. (1 ≤ s.node.octets) × (s.node.octets ≤ 1073741824)) }
         ensures host { IfOk result (λ s. is_host s.address ≡ true) }
