@@ -28,7 +28,7 @@ fn a_good_one(rt: HostRuntime) -> Result<(), Fail> {
 }
 
 // Text of the good configuration, its replacement, and the expected result.
-const REPLACEMENTS: [(&str, &str, &str); 22] = [
+const REPLACEMENTS: [(&str, &str, &str); 26] = [
     ("1024,", "1024", "config fault 1\nline 1, column 253"),
     (GOOD, "[]", "config fault 2\nconfiguration: not an object"),
     (
@@ -45,6 +45,26 @@ const REPLACEMENTS: [(&str, &str, &str); 22] = [
         r#""volume""#,
         r#""\u0007": 1, "volume""#,
         "config fault 2\nconfiguration: the key \"\\u{7}\" is unknown",
+    ),
+    (
+        r#""volume""#,
+        r#""book_octets": 1, "receipt_octets": 0, "volume""#,
+        "read",
+    ),
+    (
+        r#""volume""#,
+        r#""book_octets": 0, "volume""#,
+        "config fault 3\nbook_octets: 0 is below 1",
+    ),
+    (
+        r#""volume""#,
+        r#""receipt_octets": 1073741825, "volume""#,
+        "config fault 3\nreceipt_octets: 1073741825 is above 1073741824",
+    ),
+    (
+        r#""volume""#,
+        r#""receipt_octets": "1", "volume""#,
+        "config fault 2\nreceipt_octets: not a whole number",
     ),
     (
         "1024",
