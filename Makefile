@@ -4,6 +4,7 @@
 #   make group   runs the built program as three proxies that ask one another; if it is not built, it says what to do
 #   make build   proves and builds the program and all crates below it
 #   make test    proves every crate from nothing, tries the must-fail edits, runs all tests, script cases and documents
+#   make format  lays out the files of all crates as rt fmt does; the gate refuses a crate with a file that is laid out otherwise
 #   make edits   tries every must-fail edit, also those in more-edits/
 #   make slow    tests the proxy with clients and origins that are silent for a minute (80 s)
 #   make interop tests the proxy beside a real squid (needs squid and curl)
@@ -17,7 +18,7 @@ SCRIPT ?= examples/first_path.script
 
 CONFIG ?= examples/serve.json
 
-.PHONY: serve group feed build test cases documents loopback hostile slow interop load edits bench sweep storm
+.PHONY: serve group feed build test format cases documents loopback hostile slow interop load edits bench sweep storm
 
 feed:
 	@tools/feed $(SCRIPT)
@@ -65,6 +66,9 @@ sweep:
 
 storm:
 	@tests/storm crates/test_storm/out/test_storm 100000000
+
+format:
+	@for crate in crates/*/; do (cd $$crate && rt fmt) || exit 1; done
 
 edits:
 	@tools/edits
