@@ -170,6 +170,19 @@ fn each_by_itself(rt: HostRuntime) -> Result<(), Fail> {
     Ok(())
 }
 
+// The address of a server, if it is known by now.
+fn address_of(server: Server) -> Option<SocketAddr> {
+    match server {
+        Server::At(address) => Some(address),
+        Server::Sought(sought) => told_of(sought),
+    }
+}
+
+fn told_of(sought: oneshot::Receiver<SocketAddr>) -> Option<SocketAddr> {
+    let mut sought = sought;
+    sought.try_recv().unwrap_or(None)
+}
+
 /// A host name goes through a lookup, an IPv4 address in digits straight to its fetch thread.
 #[test]
 fn names_are_looked_up(rt: HostRuntime) -> Result<(), Fail> {
@@ -201,11 +214,9 @@ fn names_are_looked_up(rt: HostRuntime) -> Result<(), Fail> {
         let Ok(Some(job)) = work.try_next() else {
             panic!(rt; "no job");
         };
-        let found = match job.server {
-            Server::At(server) => Some(server),
-            Server::Sought(mut sought) => sought.try_recv().unwrap_or(None),
-        };
-        let got = match found {
+        let Job { server, order } = job;
+        drop(order);
+        let got = match address_of(server) {
             Some(server) => server.to_string(alloc)?,
             None => String::new(alloc),
         };
