@@ -22,7 +22,8 @@ pub record IsAstrayAt (b : Book) (receipts : List Claim) (j n : ℕ) : Type 0 wh
 abbrev pub IsAstray : Book → List Claim → ℕ → Type 0
 IsAstray b receipts n = (j : ℕ) × (j < 16) × IsAstrayAt b receipts j n
 
--- the seat after an audit with this result: if the oldest 16 receipts agree with the book, it has let go of them
+-- the seat after an audit with this result: if it found nothing, the seat has let go of its oldest 16 receipts; otherwise it is as
+-- before
 abbrev pub after_audit : Held → Option ℕ → Held
 after_audit seat None = record seat { receipts = drop 16 seat.receipts }
 after_audit seat (Some n) = seat
