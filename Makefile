@@ -8,8 +8,11 @@
 #   make edits   tries every must-fail edit, also those in more-edits/
 #   make slow    tests the proxy with clients and origins that are silent for a minute (80 s)
 #   make interop tests the proxy beside a real squid (needs squid and curl)
-#   make load    runs a mixed load for eleven minutes (needs wrk, curl and a C compiler)
-#   make bench   runs the benchmarks (needs valgrind; wrk, nginx and squid are used if they are installed)
+#   make attacks tests the proxy against clients, origins, neighbours and strangers that mean harm (100 s)
+#   make open    tries the attacks that still succeed; docs/SECURITY.md has them under what does not hold
+#   make load    runs a mixed load for 15 minutes, for eleven of them with a hostile mix beside it (needs curl, a C compiler and unshare)
+#   make large   runs 100,000 answers of 1 MiB (5 to 20 minutes; needs a C compiler)
+#   make bench   runs the benchmarks (needs valgrind; wrk, nginx, squid, and a C compiler with libpcap-dev are used if they are installed)
 #   make sweep   makes each allocation of each script case, and of the stories of `test_refusals`, fail once; `make test` does a part
 #   make storm   gives 100,000,000 random events to two nodes, which must do the same; `make test` does 300,000
 
@@ -18,7 +21,7 @@ SCRIPT ?= examples/first_path.script
 
 CONFIG ?= examples/serve.json
 
-.PHONY: serve group feed build test format cases documents loopback hostile slow interop load edits bench sweep storm
+.PHONY: serve group feed build test format cases documents loopback attacks open hostile slow interop load large edits bench sweep storm
 
 feed:
 	@tools/feed $(SCRIPT)
@@ -54,8 +57,17 @@ slow:
 interop:
 	@tests/interop $(PROGRAM)
 
+attacks:
+	@tests/serve_attacks $(PROGRAM)
+
+open:
+	@tests/open_attacks $(PROGRAM)
+
 load:
 	@tests/load $(PROGRAM)
+
+large:
+	@tests/large_answers $(PROGRAM)
 
 # The proxy over loopback while allocations or descriptors fail.
 hostile:
@@ -77,3 +89,4 @@ bench: build
 	@bench/feed_ir $(PROGRAM)
 	@bench/node_ir $(PROGRAM)
 	@bench/proxy_side_by_side $(PROGRAM)
+	@bench/replay_side_by_side $(PROGRAM)

@@ -3,6 +3,8 @@
 A proxy is a process on free ports. Whoever starts one ends it: by its last answer (`end`), by as many requests as it still
 answers (`finish`), or by its process id (`kill`). What a test leaves running is ended after it.
 """
+import hashlib
+import hmac
 import json
 import os
 import resource
@@ -48,6 +50,27 @@ def until(truth, seconds=10.0, what="it did not come about"):
         holds(time.monotonic() - began < seconds, f"{what} within {seconds} s")
         time.sleep(0.02)
     return time.monotonic() - began
+
+
+def settled(number, seconds=0.5):
+    """Waits until a number has not changed for so many seconds. Returns it."""
+    began = since = time.monotonic()
+    seen = number()
+    while time.monotonic() - since < seconds:
+        holds(time.monotonic() - began < 20, "a number goes on changing")
+        time.sleep(0.02)
+        now = number()
+        if now != seen:
+            seen, since = now, time.monotonic()
+    return seen
+
+
+def unread(port, is_sender=False):
+    """How many octets on connections to this TCP port, or from it, nobody has read; each connection to it that has not been accepted
+    counts as one."""
+    with open("/proc/net/tcp") as it:
+        rows = [line.split() for line in it.readlines()[1:]]
+    return sum(int(row[4].split(":")[1], 16) for row in rows if int(row[2 if is_sender else 1].split(":")[1], 16) == port)
 
 
 def at_once(count, function):
@@ -226,7 +249,17 @@ class Proxy:
             s.sendall(f"{method} {target} {version}\r\n{head}\r\n".encode() + body)
             return whole(s)
 
-    def udp(self, port, payload, seconds=2.0):
+    def has_read_all(self):
+        """Whether it has accepted all its clients' connections, and has read what they sent."""
+        return unread(self.ports["http_port"]) == 0
+
+    def clients(self):
+        """How many connections to its port for clients it has not closed."""
+        with open("/proc/net/tcp") as it:
+            rows = [line.split() for line in it.readlines()[1:]]
+        return sum(int(row[1].split(":")[1], 16) == self.ports["http_port"] and row[3] in ("01", "08") for row in rows)
+
+    def udp(self, port, payload, seconds=10.0):
         with socket.socket(socket.AF_INET, socket.SOCK_DGRAM) as s:
             s.bind((self.address, 0))
             s.settimeout(seconds)
@@ -310,6 +343,26 @@ def htcp_tst(number, url):
     specifier = counted(b"GET") + counted(url.encode()) + counted(b"HTTP/1.1") + counted(b"")
     data = struct.pack(">HBBI", 8 + len(specifier), 0x10, 2, number) + specifier
     return struct.pack(">HBB", 4 + len(data) + 2, 0, 0) + data + struct.pack(">H", 2)
+
+
+def countstr(text):
+    return struct.pack(">H", len(text)) + text
+
+
+def htcp_clr(source, target, url, secret, name=b"group", now=None, lasts=30):
+    """A signed HTCP CLR (RFC 2756, sections 2.7 and 6): a key of None leaves the signature out."""
+    now = int(time.time()) if now is None else now
+    specifier = countstr(b"GET") + countstr(url.encode()) + countstr(b"HTTP/1.1") + countstr(b"")
+    data = struct.pack(">HBBI", 10 + len(specifier), 0x40, 2, 7) + struct.pack(">H", 0) + specifier
+    times = struct.pack(">II", now, now + lasts)
+    if secret is None:
+        auth = struct.pack(">H", 2)
+    else:
+        ends = b"".join(socket.inet_aton(address) + struct.pack(">H", port) for address, port in (source, target))
+        signature = hmac.new(secret, ends + bytes(2) + times + data + countstr(name), hashlib.md5).digest()
+        auth = times + countstr(name) + countstr(signature)
+        auth = struct.pack(">H", 2 + len(auth)) + auth
+    return struct.pack(">HBB", 4 + len(data) + len(auth), 0, 0) + data + auth
 
 
 # ---- names

@@ -3,13 +3,14 @@ use Rattle.std.proofs.Common.{◌≡◌, ℕ, suc, ◌+◌, ◌-◌, ◌*◌, �
 use Rattle.std.specs.Prelude.{codes}
 use Rattle.std.specs.Char.{is_ascii_digit}
 use Rattle.std.specs.Int.{is_in_range}
-use Rattle.std.specs.List.{list_all}
+use Rattle.std.specs.List.{list_all, list_any}
 use Rattle.std.specs.Str.{all_ascii_digits, bytes_eq}
 use Rattle.std.proofs.lemmas.Bool.Decides.{nat_tests}
 use Rattle.std.proofs.lemmas.Fmt.{digits_decimal, digits_value-decimal, decimal_nonempty}
 use Rattle.std.proofs.lemmas.Str.Parse.{IsNumeralModel, numerals_by_fold}
-use Rattle.bpf_asm.specs.Token.{is_word_octet, first_two, is_number_text}
-use Rattle.bpf_asm.specs.Number.{digit_value, value_in_base, IsNumber}
+use Rattle.bpf_asm.specs.declared.number.Notation.TheVariants.{Decimal}
+use Rattle.bpf_asm.specs.Token.{is_word_octet}
+use Rattle.bpf_asm.specs.Number.{digit_value, value_in_base, first_two, notation, IsNumeral, IsNumber}
 
 abbrev read_on : ℕ → List ℕ → ℕ
 read_on n [] = n
@@ -76,15 +77,24 @@ no_hexadecimal (a ∷ b ∷ cs) h =
     ∙ ap (λ (t : Bool). nat_eq a 48 && (t && true)) (digit_apart b 120 q.0 refl)
     ∙ and_false (nat_eq a 48)
 
-pub decimal_numeral : (n : ℕ) → n < 2 ^ 64 → is_number_text (decimal n) ≡ true
-unfolding is_number_text
-decimal_numeral n h = rw (no_hexadecimal (decimal n) (decimal_digits n h)) (decimal_digits n h)
+no_dot : (ds : List ℕ) → list_all is_ascii_digit ds ≡ true → list_any (λ (c : ℕ). nat_eq c 46) ds ≡ false
+no_dot [] h = refl
+no_dot (c ∷ cs) h =
+    let p = both (is_ascii_digit c) (list_all is_ascii_digit cs) h in
+    ap (λ (b : Bool). b || list_any (λ (c : ℕ). nat_eq c 46) cs) (digit_apart c 46 p.0 refl) ∙ no_dot cs p.1
+
+in_decimal : (ds : List ℕ) → list_all is_ascii_digit ds ≡ true → notation ds ≡ Decimal
+in_decimal ds h = rw (no_dot ds h, no_hexadecimal ds h) refl
+
+pub decimal_numeral : (n : ℕ) → n < 2 ^ 64 → IsNumeral (decimal n)
+unfolding IsNumeral
+decimal_numeral n h = rw (in_decimal (decimal n) (decimal_digits n h)) (decimal_digits n h)
 
 pub decimal_number : (n : ℕ) → n < 2 ^ 32 → IsNumber (decimal n) n
 unfolding IsNumber
 decimal_number n h =
     let wide : n < 2 ^ 64 = omega arith in
-    rw (no_hexadecimal (decimal n) (decimal_digits n wide)) ((decimal_nonempty n wide, decimal_value n wide), h)
+    rw (in_decimal (decimal n) (decimal_digits n wide)) ((decimal_nonempty n wide, decimal_value n wide), h)
 
 pub decimal_words : (n : ℕ) → n < 2 ^ 64 → list_all is_word_octet (decimal n) ≡ true
 decimal_words n h = digits_words (decimal n) (decimal_digits n h)

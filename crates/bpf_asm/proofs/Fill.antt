@@ -8,9 +8,11 @@ use Rattle.std.specs.Str.{bytes_eq}
 use Rattle.std.proofs.lemmas.Slice.Eq.{bytes_eq-Decides}
 use Rattle.bpf_asm.specs.declared.form.Piece.{Piece}
 use Rattle.bpf_asm.specs.declared.form.Piece.TheVariants.{Number, Label}
-use Rattle.bpf_asm.specs.Token.{ended, is_number_text, starts_word, is_label}
+use Rattle.bpf_asm.specs.Token.{ended, starts_word, is_label}
+use Rattle.bpf_asm.specs.Number.{IsNumeral}
 use Rattle.bpf_asm.specs.Spelling.{Kind, a_number, a_label, exactly, kind, kinds, spelled_with, AreOpen}
-use Rattle.bpf_asm.specs.Reading.{Front, number_front, label_front, left_of, fill, open_places}
+use Rattle.bpf_asm.specs.Reading.{Front, is_numeral, number_front, label_front, left_of, fill, open_places}
+use Rattle.bpf_asm.proofs.Addresses.{test_numeral}
 
 and_then : {A B : Type 0} (o : Option A) (g : A → Option B) (y : B) → option_and_then g o ≡ Some y → (x : A) × (o ≡ Some x) × (g x ≡ Some y)
 and_then None g y e = absurd (cc)
@@ -31,7 +33,7 @@ number_took : (ts : List (List ℕ)) (x : Front) → number_front ts ≡ Some x 
 number_took [] x e = let p = front_same [] [] x e in rw (← p.0, ← p.1) refl
 number_took ([] ∷ ts) x e = absurd (cc)
 number_took ((c ∷ cs) ∷ ts) x e =
-    elim (chosen (is_number_text (c ∷ cs)) _ _ x e) [
+    elim (chosen (is_numeral (c ∷ cs)) _ _ x e) [
       | inl h ↦ (let p = front_same (c ∷ cs) ts x h.1 in rw (← p.0, ← p.1) refl)
       | inr h ↦ elim (chosen (starts_word (c ∷ cs)) None _ x h.1) [
         | inl g ↦ absurd (let k = g.1 in cc)
@@ -70,16 +72,16 @@ read_spelled (exactly token ∷ ks) ts ws e =
     let p = and_then (left_of token ts) (λ left. fill ks left) ws e in
     exact_took token ts p.0 p.1 ∙ ap (λ (us : List (List ℕ)). token ∷ us) (read_spelled ks p.0 ws p.2)
 
-empty_numeral : is_number_text [] ≡ true
-unfolding is_number_text
+empty_numeral : IsNumeral []
+unfolding IsNumeral
 empty_numeral = refl
 
-number_is : (ts : List (List ℕ)) (x : Front) → number_front ts ≡ Some x → is_number_text x.word ≡ true
+number_is : (ts : List (List ℕ)) (x : Front) → number_front ts ≡ Some x → IsNumeral x.word
 number_is [] x e = let p = front_same [] [] x e in rw (← p.0) empty_numeral
 number_is ([] ∷ ts) x e = absurd (cc)
 number_is ((c ∷ cs) ∷ ts) x e =
-    elim (chosen (is_number_text (c ∷ cs)) _ _ x e) [
-      | inl h ↦ (let p = front_same (c ∷ cs) ts x h.1 in rw (← p.0) h.0)
+    elim (chosen (is_numeral (c ∷ cs)) _ _ x e) [
+      | inl h ↦ (let p = front_same (c ∷ cs) ts x h.1 in rw (← p.0) (test_numeral _ h.0))
       | inr h ↦ elim (chosen (starts_word (c ∷ cs)) None _ x h.1) [
         | inl g ↦ absurd (let k = g.1 in cc)
         | inr g ↦ (let p = front_same [] ((c ∷ cs) ∷ ts) x g.1 in rw (← p.0) empty_numeral)

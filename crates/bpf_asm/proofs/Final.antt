@@ -1,7 +1,6 @@
 -- A text of a program has no fault, and is a text of no other program.
 use Rattle.std.proofs.Common.{◌≡◌, ℕ, zero, suc, ◌+◌, ◌<◌, ◌^◌, inl, inr, List, [], ◌∷◌, length, Bool, true, false, Option, Some, Result, Ok, Err, MatchResult, refl, ap, sym, ◌∙◌, subst, arith}
-use Rattle.std.specs.Prelude.{slice_get, codes}
-use Rattle.std.specs.Str.{bytes_eq}
+use Rattle.std.specs.Prelude.{slice_get}
 use Rattle.std.proofs.lemmas.Option.{slice_get_within}
 use Rattle.bpf_check.specs.declared.insn.Insn.{Insn}
 use Rattle.bpf_check.specs.declared.operation.Operand.TheVariants.{Constant, Index}
@@ -10,8 +9,10 @@ use Rattle.bpf_check.specs.declared.operation.Operation.TheVariants.{Jump, Branc
 use Rattle.bpf_asm.specs.declared.fault.AsmFault.{AsmFault}
 use Rattle.bpf_asm.specs.declared.fault.AsmFault.TheVariants as faults
 use Rattle.bpf_asm.specs.Spelling.{kinds, AreOpen}
-use Rattle.bpf_asm.specs.Token.{first_two}
-use Rattle.bpf_asm.specs.Number.{IsNumber, SpelledBy}
+use Rattle.bpf_asm.specs.declared.number.Notation.{Notation}
+use Rattle.bpf_asm.specs.declared.number.Notation.TheVariants.{Decimal, Hexadecimal, Address}
+use Rattle.bpf_asm.specs.Number.{notation, HasValue, IsNumber}
+use Rattle.bpf_asm.proofs.Addresses.{address_same}
 use Rattle.bpf_asm.specs.Assembly.{body_of, some_token, has_body, instruction_index, LabelAt, IsAtDistance, Puts, IsInsn, Assembles, labels_in, WrongNumber, IsBranch, BodyFault, LineFault, JumpFault, FaultAt, IsAssemblyFault}
 use Rattle.bpf_asm.proofs.Bodies.{one_body}
 use Rattle.bpf_asm.proofs.Places.{place_less, place_line}
@@ -109,13 +110,14 @@ no_fault ls p time fault is h = elim h.3 [
 
 -- ---- one program
 
-spelled_same : (b : Bool) (w : List ℕ) (m n : ℕ) → SpelledBy b w m → SpelledBy b w n → m ≡ n
-spelled_same true w m n p q = sym p.1 ∙ q.1
-spelled_same false w m n p q = sym p.1 ∙ q.1
+value_same : (k : Notation) (w : List ℕ) (m n : ℕ) → HasValue k w m → HasValue k w n → m ≡ n
+value_same Decimal w m n p q = sym p.1 ∙ q.1
+value_same Hexadecimal w m n p q = sym p.1 ∙ q.1
+value_same Address w m n p q = address_same w m n p q
 
 number_same : (w : List ℕ) (m n : ℕ) → IsNumber w m → IsNumber w n → m ≡ n
 unfolding IsNumber
-number_same w m n p q = spelled_same (bytes_eq (first_two w) (codes "0x")) w m n p.0 q.0
+number_same w m n p q = value_same (notation w) w m n p.0 q.0
 
 lead_same : (ls : List (List (List ℕ))) (place : ℕ) (label : List ℕ) (d e : ℕ) → ((m n : ℕ) (l : List ℕ) → LabelAt ls m l → LabelAt ls n l → m ≡ n) → IsAtDistance ls place label d → IsAtDistance ls place label e → d ≡ e
 lead_same ls place label d e one a b = let same = ap (instruction_index ls) (one a.0 b.0 label a.1 b.1) in let x = a.2 in let y = b.2 in omega arith

@@ -1,4 +1,5 @@
 pub mod TokenLemmas
+pub mod Addresses
 pub mod Fill
 pub mod Codes
 pub mod OneRow
@@ -14,3 +15,4 @@ pub mod Written
 pub mod WrittenLines
 pub mod ReadBack
 pub mod TokenLaws
+pub mod AddressLaws

@@ -3,33 +3,63 @@ use Rattle.std.proofs.Common.{◌≡◌, ℕ, suc, ◌+◌, ◌-◌, ◌<◌, �
 use Rattle.std.proofs.lemmas.Bool.Decides.{nat_tests}
 use Rattle.std.proofs.lemmas.List.{append-nil, drop_all, take-append-drop}
 use Rattle.std.specs.List.{list_all, position, position_or_len}
-use Rattle.bpf_asm.specs.Token.{is_word_octet, is_blank, is_text, ended, sign_token, tokens_after, tokens, starts_word}
+use Rattle.bpf_asm.specs.Token.{is_word_octet, begins_number, goes_on, is_blank, is_text, ended, sign_token, tokens_after, tokens, starts_word}
 use Rattle.bpf_asm.specs.Reading.{ends_word}
 use Rattle.bpf_asm.proofs.Decimals.{both}
 
--- the text is at its end, or its next octet belongs to no word
-abbrev pub Breaks : List ℕ → Type 0
-Breaks [] = Unit {0}
-Breaks (c ∷ cs) = is_word_octet c ≡ false
+-- the text is at its end, or its next octet fails the test
+abbrev pub Stops : (ℕ → Bool) → List ℕ → Type 0
+Stops test [] = Unit {0}
+Stops test (c ∷ cs) = test c ≡ false
+
+-- the text is at its end, or its next octet doesn't go on with this word
+abbrev pub Breaks : List ℕ → List ℕ → Type 0
+Breaks w text = Stops (goes_on w) text
+
+any_by : (a b : Bool) → a ≡ true → (a || b) ≡ true
+any_by a b h = ap (λ (x : Bool). x || b) h
+
+-- an octet of a word goes on with any word
+pub word_goes : (w : List ℕ) (c : ℕ) → is_word_octet c ≡ true → goes_on w c ≡ true
+word_goes w c h = any_by (is_word_octet c) (nat_eq c 46 && begins_number w) h
+
+less_by : (a b d : Bool) → (a || (b && d)) ≡ false → (a || (b && false)) ≡ false
+less_by true b d h = h
+less_by false true d h = refl
+less_by false false d h = refl
+
+-- an octet that doesn't go on with a word doesn't begin one
+none_begins : (w : List ℕ) (c : ℕ) → goes_on w c ≡ false → goes_on [] c ≡ false
+none_begins w c h = less_by (is_word_octet c) (nat_eq c 46) (begins_number w) h
 
 pub word_run : (w v text : List ℕ) → list_all is_word_octet v ≡ true → tokens_after w (v ++ text) ≡ tokens_after (w ++ v) text
 word_run w [] text h = ap (λ (x : List ℕ). tokens_after x text) (sym (append-nil w))
 word_run w (c ∷ v) text h =
     let p = both (is_word_octet c) (list_all is_word_octet v) h in
-    ap (λ (b : Bool). cond b (tokens_after (w ++ c ∷ []) (v ++ text)) (cond (nat_eq c 59) (ended w) ((ended w ++ sign_token c) ++ tokens_after [] (v ++ text)))) p.0
+    ap (λ (b : Bool). cond b (tokens_after (w ++ c ∷ []) (v ++ text)) (cond (nat_eq c 59) (ended w) ((ended w ++ sign_token c) ++ tokens_after [] (v ++ text)))) (word_goes w c p.0)
     ∙ word_run (w ++ c ∷ []) v text p.1
     ∙ ap (λ (x : List ℕ). tokens_after x text) (append_assoc w (c ∷ []) v)
+
+-- the octets of v go on with a word that begins with c
+pub run_on : (c : ℕ) (u v text : List ℕ) → list_all (goes_on (c ∷ [])) v ≡ true → tokens_after (c ∷ u) (v ++ text) ≡ tokens_after (c ∷ (u ++ v)) text
+run_on c u [] text h = ap (λ (x : List ℕ). tokens_after (c ∷ x) text) (sym (append-nil u))
+run_on c u (d ∷ v) text h =
+    let p = both (goes_on (c ∷ []) d) (list_all (goes_on (c ∷ [])) v) h in
+    let w = c ∷ u in
+    ap (λ (b : Bool). cond b (tokens_after (w ++ d ∷ []) (v ++ text)) (cond (nat_eq d 59) (ended w) ((ended w ++ sign_token d) ++ tokens_after [] (v ++ text)))) p.0
+    ∙ run_on c (u ++ d ∷ []) v text p.1
+    ∙ ap (λ (x : List ℕ). tokens_after (c ∷ x) text) (append_assoc u (d ∷ []) v)
 
 parted : (b : Bool) (e m t : List (List ℕ)) → cond b e ((e ++ m) ++ t) ≡ e ++ cond b [] (m ++ t)
 parted true e m t = sym (append-nil e)
 parted false e m t = append_assoc e m t
 
-pub after_break : (w text : List ℕ) → Breaks text → tokens_after w text ≡ ended w ++ tokens_after [] text
+pub after_break : (w text : List ℕ) → Breaks w text → tokens_after w text ≡ ended w ++ tokens_after [] text
 after_break w [] h = sym (append-nil (ended w))
 after_break w (c ∷ cs) h =
     let rest = tokens_after [] cs in
     let left = ap (λ (b : Bool). cond b (tokens_after (w ++ c ∷ []) cs) (cond (nat_eq c 59) (ended w) ((ended w ++ sign_token c) ++ rest))) h in
-    let right = ap (λ (b : Bool). cond b (tokens_after (c ∷ []) cs) (cond (nat_eq c 59) [] (sign_token c ++ rest))) h in
+    let right = ap (λ (b : Bool). cond b (tokens_after (c ∷ []) cs) (cond (nat_eq c 59) [] (sign_token c ++ rest))) (none_begins w c h) in
     left ∙ parted (nat_eq c 59) (ended w) (sign_token c) rest ∙ ap (λ (x : List (List ℕ)). ended w ++ x) (sym right)
 
 -- ---- the index of the first octet that passes
@@ -106,58 +136,77 @@ from_text line text start h e =
 pub comment_first : (text cs : List ℕ) (c : ℕ) → text ≡ c ∷ cs → c ≡ 59 → tokens text ≡ []
 comment_first text cs c e h = ap tokens e ∙ ap (λ (x : ℕ). tokens (x ∷ cs)) h
 
+and_false : (b : Bool) → (b && false) ≡ false
+and_false true = refl
+and_false false = refl
+
+no_begin : (c : ℕ) → is_word_octet c ≡ false → goes_on [] c ≡ false
+no_begin c h = ap (λ (a : Bool). a || (nat_eq c 46 && false)) h ∙ and_false (nat_eq c 46)
+
 mark_by : (c : ℕ) (cs : List ℕ) → is_blank c ≡ false → is_word_octet c ≡ false → nat_eq c 59 ≡ false → tokens (c ∷ cs) ≡ (c ∷ []) ∷ tokens cs
 mark_by c cs text word more =
-    ap (λ (b : Bool). cond b (tokens_after (c ∷ []) cs) (cond (nat_eq c 59) [] (sign_token c ++ tokens cs))) word
+    ap (λ (b : Bool). cond b (tokens_after (c ∷ []) cs) (cond (nat_eq c 59) [] (sign_token c ++ tokens cs))) (no_begin c word)
     ∙ ap (λ (b : Bool). cond b [] (sign_token c ++ tokens cs)) more
     ∙ ap (λ (b : Bool). cond b [] ((c ∷ []) ∷ []) ++ tokens cs) text
 
 pub mark_first : (text cs : List ℕ) (c : ℕ) → text ≡ c ∷ cs → BeginsText text → is_word_octet c ≡ false → nat_eq c 59 ≡ false → tokens text ≡ (c ∷ []) ∷ tokens cs
 mark_first text cs c e begins word more = ap tokens e ∙ mark_by c cs (subst BeginsText e begins) word more
 
-run_step : (c : ℕ) (cs : List ℕ) (b : Bool) → is_word_octet c ≡ b → list_all is_word_octet (take (position_or_len ends_word cs) cs) ≡ true
-    → list_all is_word_octet (take (cond (not (not b)) (1 + position_or_len ends_word cs) 0) (c ∷ cs)) ≡ true
-run_step c cs true e rest =
-    ap (λ (k : ℕ). list_all is_word_octet (take k (c ∷ cs))) (one_more (position_or_len ends_word cs))
-    ∙ ap (λ (b : Bool). b && list_all is_word_octet (take (position_or_len ends_word cs) cs)) e ∙ rest
-run_step c cs false e rest = refl
+-- the number of octets in front that pass the test
+abbrev passing : (ℕ → Bool) → List ℕ → ℕ
+passing test text = position_or_len (λ (c : ℕ). not (test c)) text
 
-run : (text : List ℕ) → list_all is_word_octet (take (position_or_len ends_word text) text) ≡ true
-run [] = refl
-run (c ∷ cs) = run_step c cs (is_word_octet c) refl (run cs)
+run_step : (test : ℕ → Bool) (c : ℕ) (cs : List ℕ) (b : Bool) → test c ≡ b → list_all test (take (passing test cs) cs) ≡ true
+    → list_all test (take (cond (not (not b)) (1 + passing test cs) 0) (c ∷ cs)) ≡ true
+run_step test c cs true e rest =
+    ap (λ (k : ℕ). list_all test (take k (c ∷ cs))) (one_more (passing test cs))
+    ∙ ap (λ (b : Bool). b && list_all test (take (passing test cs) cs)) e ∙ rest
+run_step test c cs false e rest = refl
 
-stop_step : (c : ℕ) (cs : List ℕ) (b : Bool) → is_word_octet c ≡ b → Breaks (drop (position_or_len ends_word cs) cs) → Breaks (drop (cond (not (not b)) (1 + position_or_len ends_word cs) 0) (c ∷ cs))
-stop_step c cs true e rest = rw (one_more (position_or_len ends_word cs)) rest
-stop_step c cs false e rest = e
+run : (test : ℕ → Bool) (text : List ℕ) → list_all test (take (passing test text) text) ≡ true
+run test [] = refl
+run test (c ∷ cs) = run_step test c cs (test c) refl (run test cs)
 
-stop : (text : List ℕ) → Breaks (drop (position_or_len ends_word text) text)
-stop [] = tt
-stop (c ∷ cs) = stop_step c cs (is_word_octet c) refl (stop cs)
+stop_step : (test : ℕ → Bool) (c : ℕ) (cs : List ℕ) (b : Bool) → test c ≡ b → Stops test (drop (passing test cs) cs) → Stops test (drop (cond (not (not b)) (1 + passing test cs) 0) (c ∷ cs))
+stop_step test c cs true e rest = rw (one_more (passing test cs)) rest
+stop_step test c cs false e rest = e
 
-run_first : (text : List ℕ) → tokens text ≡ ended (take (position_or_len ends_word text) text) ++ tokens (drop (position_or_len ends_word text) text)
-run_first text =
-    let n = position_or_len ends_word text in
-    ap tokens (sym (take-append-drop n text)) ∙ word_run [] (take n text) (drop n text) (run text) ∙ after_break (take n text) (drop n text) (stop text)
+stop : (test : ℕ → Bool) (text : List ℕ) → Stops test (drop (passing test text) text)
+stop test [] = tt
+stop test (c ∷ cs) = stop_step test c cs (test c) refl (stop test cs)
 
-some_run : (text : List ℕ) (n : ℕ) → position_or_len ends_word text ≡ n → starts_word text ≡ true → ended (take n text) ≡ take n text ∷ []
-some_run [] n e h = absurd (cc)
-some_run (c ∷ cs) n e h =
-    let k : suc (position_or_len ends_word cs) ≡ n = sym (one_more (position_or_len ends_word cs)) ∙ sym (ap (λ (b : Bool). cond (not (not b)) (1 + position_or_len ends_word cs) 0) h) ∙ e in
-    rw (← k) refl
+-- a word and the octets after it, when n octets after its first one go on with it
+run_first : (c : ℕ) (cs : List ℕ) (n : ℕ) → is_word_octet c ≡ true → passing (goes_on (c ∷ [])) cs ≡ n → tokens (c ∷ cs) ≡ (c ∷ take n cs) ∷ tokens (drop n cs)
+run_first c cs n h e =
+    let test = goes_on (c ∷ []) in
+    let all : list_all test (take n cs) ≡ true = rw e at (run test cs) in
+    let end : Stops test (drop n cs) = rw e at (stop test cs) in
+    ap (λ (b : Bool). cond b (tokens_after (c ∷ []) cs) (cond (nat_eq c 59) [] (sign_token c ++ tokens cs))) (word_goes [] c h)
+    ∙ ap (tokens_after (c ∷ [])) (sym (take-append-drop n cs))
+    ∙ run_on c [] (take n cs) (drop n cs) all
+    ∙ after_break (c ∷ take n cs) (drop n cs) end
+
+-- the first octet is one of those that go on with the word
+first_goes : (c : ℕ) (cs : List ℕ) → is_word_octet c ≡ true → position_or_len (ends_word (c ∷ cs)) (c ∷ cs) ≡ suc (passing (goes_on (c ∷ [])) cs)
+first_goes c cs h =
+    ap (λ (b : Bool). cond (not (not b)) (1 + passing (goes_on (c ∷ [])) cs) 0) (word_goes (c ∷ cs) c h) ∙ one_more (passing (goes_on (c ∷ [])) cs)
+
+cut_at : (c : ℕ) (cs : List ℕ) (end : ℕ) → is_word_octet c ≡ true → position_or_len (ends_word (c ∷ cs)) (c ∷ cs) ≡ end → tokens (c ∷ cs) ≡ take end (c ∷ cs) ∷ tokens (drop end (c ∷ cs))
+cut_at c cs end h e = rw (← e, first_goes c cs h) (run_first c cs (passing (goes_on (c ∷ [])) cs) h refl)
 
 -- a word and the rest after it
-pub word_cut : (text more : List ℕ) (end : ℕ) → starts_word text ≡ true → position ends_word text ≡ Some end → more ≡ take (length text - end) (drop end text) → tokens text ≡ take end text ∷ tokens more
-word_cut text more end h e f =
-    let s = placed ends_word text end e in
-    run_first text ∙ ap (λ (n : ℕ). ended (take n text) ++ tokens (drop n text)) s.0
-    ∙ ap (λ (x : List (List ℕ)). x ++ tokens (drop end text)) (some_run text end s.0 h)
-    ∙ ap (λ (x : List ℕ). take end text ∷ tokens x) (sym (f ∙ tail_is text end))
+pub word_cut : (text more : List ℕ) (end : ℕ) → starts_word text ≡ true → position (ends_word text) text ≡ Some end → more ≡ take (length text - end) (drop end text) → tokens text ≡ take end text ∷ tokens more
+word_cut [] more end h e f = absurd (cc)
+word_cut (c ∷ cs) more end h e f =
+    let s = placed (ends_word (c ∷ cs)) (c ∷ cs) end e in
+    cut_at c cs end h s.0 ∙ ap (λ (x : List ℕ). take end (c ∷ cs) ∷ tokens x) (sym (f ∙ tail_is (c ∷ cs) end))
 
-pub word_alone : (text : List ℕ) → starts_word text ≡ true → position ends_word text ≡ None → tokens text ≡ text ∷ []
-word_alone text h e =
-    let n = position_or_len ends_word text in
-    let le = unplaced ends_word text e in
-    run_first text
-    ∙ ap (λ (x : List (List ℕ)). x ++ tokens (drop n text)) (some_run text n refl h)
+pub word_alone : (text : List ℕ) → starts_word text ≡ true → position (ends_word text) text ≡ None → tokens text ≡ text ∷ []
+word_alone [] h e = absurd (cc)
+word_alone (c ∷ cs) h e =
+    let text = c ∷ cs in
+    let n = position_or_len (ends_word text) text in
+    let le = unplaced (ends_word text) text e in
+    cut_at c cs n h refl
     ∙ ap (λ (x : List ℕ). x ∷ tokens (drop n text)) (take_all n text le)
     ∙ ap (λ (x : List ℕ). text ∷ tokens x) (drop_all n text le)

@@ -16,10 +16,10 @@ use Rattle.bpf_asm.specs.Assembly.{label_of, body_of}
 use Rattle.bpf_asm.proofs.Decimals.{decimal_words, decimal_numeral}
 use Rattle.bpf_asm.proofs.TokenLemmas.{Breaks, word_run, after_break}
 
-number_run : (n : ℕ) (text : List ℕ) → n < 2 ^ 64 → Breaks text → tokens_after [] (decimal n ++ text) ≡ ended (decimal n) ++ tokens_after [] text
+number_run : (n : ℕ) (text : List ℕ) → n < 2 ^ 64 → Breaks (decimal n) text → tokens_after [] (decimal n ++ text) ≡ ended (decimal n) ++ tokens_after [] text
 number_run n text h b = word_run [] (decimal n) text (decimal_words n h) ∙ after_break (decimal n) text b
 
-pub label_run : (n : ℕ) (text : List ℕ) → n < 2 ^ 64 → Breaks text → tokens_after (76 ∷ []) (decimal n ++ text) ≡ (76 ∷ decimal n) ∷ tokens_after [] text
+pub label_run : (n : ℕ) (text : List ℕ) → n < 2 ^ 64 → Breaks (76 ∷ decimal n) text → tokens_after (76 ∷ []) (decimal n ++ text) ≡ (76 ∷ decimal n) ∷ tokens_after [] text
 label_run n text h b = word_run (76 ∷ []) (decimal n) text (decimal_words n h) ∙ after_break (76 ∷ decimal n) text b
 
 -- the words for the placeholders of an instruction's text

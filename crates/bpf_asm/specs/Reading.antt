@@ -1,15 +1,35 @@
 -- Intermediate definitions for reading tokens, step by step as the code does it. No public contract depends on them.
 use Rattle.std.specs.Prelude.{ℕ, ◌+◌, List, [], ◌∷◌, Bool, true, false, not, Option, Some, None, option_and_then, if◌then◌else◌}
-use Rattle.std.specs.Option.{option_map}
+use Rattle.std.specs.Char.{is_ascii_digit, is_ascii_hexdigit}
+use Rattle.std.specs.List.{list_all}
+use Rattle.std.specs.Net.Reader.{read_ipv4, whole_value}
+use Rattle.std.specs.Option.{is_some, option_map}
 use Rattle.std.specs.Str.{bytes_eq}
 use Rattle.bpf_check.specs.declared.operation.Operation.{Operation}
 use Rattle.bpf_asm.specs.Form.{mnemonic}
-use Rattle.bpf_asm.specs.Token.{is_word_octet, is_number_text, starts_word, is_label}
+use Rattle.bpf_asm.specs.declared.number.Notation.{Notation}
+use Rattle.bpf_asm.specs.declared.number.Notation.TheVariants.{Decimal, Hexadecimal, Address}
+use Rattle.bpf_asm.specs.Token.{goes_on, starts_word, is_label}
+use Rattle.bpf_asm.specs.Number.{notation, after_two}
 use Rattle.bpf_asm.specs.Spelling.{Kind, a_number, a_label, exactly, kinds}
 
--- not an octet of a word
-abbrev pub ends_word : ℕ → Bool
-ends_word c = not (is_word_octet c)
+-- an octet that doesn't go on with this word
+abbrev pub ends_word : List ℕ → ℕ → Bool
+ends_word word c = not (goes_on word c)
+
+-- whether the word is an IPv4 address and nothing else
+abbrev pub is_address : List ℕ → Bool
+is_address word = is_some (whole_value (read_ipv4 word))
+
+-- whether the word is a numeral of this notation
+abbrev pub is_written : Notation → List ℕ → Bool
+is_written Decimal word = list_all is_ascii_digit word
+is_written Hexadecimal word = list_all is_ascii_hexdigit (after_two word)
+is_written Address word = is_address word
+
+-- whether the word is a numeral
+unfoldable pub is_numeral : List ℕ → Bool
+is_numeral word = is_written (notation word) word
 
 -- the word for a placeholder, and the tokens after it
 pub record Front : Type 0 where
@@ -21,7 +41,7 @@ abbrev pub number_front : List (List ℕ) → Option Front
 number_front [] = Some (record { word = []; left = [] })
 number_front ([] ∷ ts) = None
 number_front ((c ∷ cs) ∷ ts) =
-    if is_number_text (c ∷ cs) then Some (record { word = c ∷ cs; left = ts })
+    if is_numeral (c ∷ cs) then Some (record { word = c ∷ cs; left = ts })
     else (if starts_word (c ∷ cs) then None else Some (record { word = []; left = (c ∷ cs) ∷ ts }))
 
 -- the label at the front of the tokens

@@ -4,7 +4,8 @@ use Rattle.bpf_check.specs.declared.operation.Operation.{Operation}
 use Rattle.bpf_asm.specs.declared.form.Piece.{Piece}
 use Rattle.bpf_asm.specs.declared.form.Piece.TheVariants.{Number, Label}
 use Rattle.bpf_asm.specs.Form.{fixed, pieces}
-use Rattle.bpf_asm.specs.Token.{ended, is_number_text, is_label}
+use Rattle.bpf_asm.specs.Token.{ended, is_label}
+use Rattle.bpf_asm.specs.Number.{IsNumeral}
 
 -- a placeholder for a number, one for a label, or a fixed token
 pub data Kind : Type 0 where
@@ -31,12 +32,12 @@ spelled_with (a_label ∷ ks) [] = []
 spelled_with (a_label ∷ ks) (w ∷ ws) = w ∷ spelled_with ks ws
 spelled_with (exactly token ∷ ks) ws = token ∷ spelled_with ks ws
 
--- there is one word for each placeholder: a numeral, perhaps without a digit, or a label
+-- there is one word for each placeholder: a numeral, perhaps one without digits, or a label
 abbrev pub AreOpen : List Kind → List (List ℕ) → Type 0
 AreOpen [] [] = Unit {0}
 AreOpen [] (w ∷ ws) = ⊥
 AreOpen (a_number ∷ ks) [] = ⊥
-AreOpen (a_number ∷ ks) (w ∷ ws) = (is_number_text w ≡ true) × AreOpen ks ws
+AreOpen (a_number ∷ ks) (w ∷ ws) = IsNumeral w × AreOpen ks ws
 AreOpen (a_label ∷ ks) [] = ⊥
 AreOpen (a_label ∷ ks) (w ∷ ws) = (is_label w ≡ true) × AreOpen ks ws
 AreOpen (exactly token ∷ ks) ws = AreOpen ks ws

@@ -1,13 +1,20 @@
 -- The tokens of a line: words of letters, digits and `_`, and every other octet except blanks by itself.
--- A word that begins with a digit is meant as a number, any other as a name. `;` begins a comment.
-use Rattle.std.specs.Prelude.{ℕ, List, [], ◌∷◌, ◌++◌, Bool, false, ◌||◌, ◌&&◌, not, length, min, take, drop, codes, ◌==◌, if◌then◌else◌}
-use Rattle.std.specs.Char.{is_ascii_alphanumeric, is_ascii_digit, is_ascii_hexdigit}
-use Rattle.std.specs.List.{list_all}
-use Rattle.std.specs.Str.{bytes_eq}
+-- A word that begins with a digit is meant as a number and may have dots, any other is meant as a name. `;` begins a comment.
+use Rattle.std.specs.Prelude.{ℕ, List, [], ◌∷◌, ◌++◌, Bool, false, ◌||◌, ◌&&◌, not, ◌==◌, if◌then◌else◌}
+use Rattle.std.specs.Char.{is_ascii_alphanumeric, is_ascii_digit}
 
 -- a letter, a digit or `_`
 abbrev pub is_word_octet : ℕ → Bool
 is_word_octet c = is_ascii_alphanumeric c || (c == 95)
+
+-- begins with a digit
+abbrev pub begins_number : List ℕ → Bool
+begins_number [] = false
+begins_number (c ∷ cs) = is_ascii_digit c
+
+-- the octet goes on with this word: a letter, a digit or `_`, or a dot in a word that begins with a digit
+abbrev pub goes_on : List ℕ → ℕ → Bool
+goes_on word c = is_word_octet c || ((c == 46) && begins_number word)
 
 -- a space or a tab
 abbrev pub is_blank : ℕ → Bool
@@ -26,26 +33,12 @@ sign_token c = if is_blank c then [] else (c ∷ []) ∷ []
 abbrev pub tokens_after : List ℕ → List ℕ → List (List ℕ)
 tokens_after word [] = ended word
 tokens_after word (c ∷ cs) =
-    if is_word_octet c then tokens_after (word ++ c ∷ []) cs
+    if goes_on word c then tokens_after (word ++ c ∷ []) cs
     else (if c == 59 then ended word else (ended word ++ sign_token c) ++ tokens_after [] cs)
 
 -- the tokens of a line
 abbrev pub tokens : List ℕ → List (List ℕ)
 tokens line = tokens_after [] line
-
--- the first two octets of a word, or fewer if it is shorter
-abbrev pub first_two : List ℕ → List ℕ
-first_two word = take (min 2 (length word)) word
-
--- the octets after these
-abbrev pub after_two : List ℕ → List ℕ
-after_two word = drop (min 2 (length word)) word
-
--- decimal digits, or `0x` and hexadecimal digits; there may be no digit
-unfoldable pub is_number_text : List ℕ → Bool
-is_number_text word =
-    if bytes_eq (first_two word) (codes "0x") then list_all is_ascii_hexdigit (after_two word)
-    else list_all is_ascii_digit word
 
 -- begins with an octet of a word
 abbrev pub starts_word : List ℕ → Bool

@@ -8,7 +8,8 @@ ghost use Rattle.bpf_asm.specs.Token.{tokens};
 ghost use Rattle.bpf_asm.specs.Reading.{number_front, label_front, left_of, fill, open_places};
 
 use crate::form::{Piece, fixed_of};
-use crate::token::{is_label_of, is_numeral_of, next_token, starts_word_of};
+use crate::number::is_numeral_of;
+use crate::token::{is_label_of, next_token, starts_word_of};
 
 /// The word for a placeholder, and the rest of the line.
 #[derive(Clone, Copy)]

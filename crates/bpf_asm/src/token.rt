@@ -1,15 +1,30 @@
 //! The tokens of a line.
 
 ghost use Rattle.std.specs.Prelude.{◌≡◌, true, MatchOption, [], ◌∷◌};
-ghost use Rattle.std.specs.List.{list_all, position};
-ghost use Rattle.std.specs.Char.{is_ascii_digit, is_ascii_hexdigit};
-ghost use Rattle.bpf_asm.specs.Token.{is_word_octet, is_text, tokens, is_number_text, starts_word, is_label};
+ghost use Rattle.std.specs.List.{position};
+ghost use Rattle.bpf_asm.specs.Token.{is_word_octet, begins_number, goes_on, is_text, tokens, starts_word, is_label};
 ghost use Rattle.bpf_asm.specs.Reading.{ends_word};
 
 fn is_word_octet_of(c: u8) -> bool
     ensures { result ≡ is_word_octet c }
 {
     c.is_ascii_alphanumeric() || c == b'_'
+}
+
+fn begins_number_of(word: &[u8]) -> bool
+    ensures { result ≡ begins_number word.now }
+{
+    match word {
+        [c, ..] => c.is_ascii_digit(),
+        [] => false,
+    }
+}
+
+// Whether an octet goes on with a word: a dot does so only in a number.
+fn goes_on_of(word: &[u8], c: u8) -> bool
+    ensures { result ≡ goes_on word.now c }
+{
+    is_word_octet_of(c) || (c == b'.' && begins_number_of(word))
 }
 
 // The index of the first octet that is not a blank.
@@ -19,11 +34,11 @@ fn text_in(line: &[u8]) -> Option<usize>
     line.iter().position(|c| !(*c == b' ' || *c == b'\t'))
 }
 
-// The index of the first octet that belongs to no word.
+// The index of the first octet that doesn't go on with the word at the front.
 fn word_end_in(text: &[u8]) -> Option<usize>
-    ensures { result ≡ position ends_word text.now }
+    ensures { result ≡ position (ends_word text.now) text.now }
 {
-    text.iter().position(|c| !is_word_octet_of(*c))
+    text.iter().position(|c| !goes_on_of(text, *c))
 }
 
 // The word at the front of a text, and the rest of the text.
@@ -56,30 +71,6 @@ pub(crate) fn next_token(line: &[u8]) -> Option<(&[u8], &[u8])>
         return Some(split_word(text));
     }
     Some((&text[..1], rest))
-}
-
-fn all_digits(text: &[u8]) -> bool
-    ensures { result ≡ list_all is_ascii_digit text.now }
-{
-    text.iter().all(|c| c.is_ascii_digit())
-}
-
-fn all_hexdigits(text: &[u8]) -> bool
-    ensures { result ≡ list_all is_ascii_hexdigit text.now }
-{
-    text.iter().all(|c| c.is_ascii_hexdigit())
-}
-
-/// Whether a token consists of decimal digits, or of `0x` and hexadecimal digits; there may be no digit.
-#[tactic(auto, unfolding(crate::specs::Token::is_number_text))]
-pub(crate) fn is_numeral_of(token: &[u8]) -> bool
-    ensures { result ≡ is_number_text token.now }
-{
-    let (front, digits) = token.split_at(2.min(token.len()));
-    if front == b"0x".as_slice() {
-        return all_hexdigits(digits);
-    }
-    all_digits(token)
 }
 
 pub(crate) fn starts_word_of(token: &[u8]) -> bool

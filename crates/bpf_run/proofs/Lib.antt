@@ -3,3 +3,4 @@ pub mod Accepts
 pub mod EachEnds
 pub mod Given
 pub mod Kept
+pub mod WholeRun

@@ -2,6 +2,7 @@
 
 ghost use Rattle.std.specs.Prelude.{◌≡◌, ℕ, ◌≤◌, length};
 ghost use Rattle.bpf_run.specs.Chain.{Gives};
+ghost use Rattle.bpf_run.specs.Run.{EndsAt};
 ghost use Rattle.bpf_run.specs.Verdict.{verdict_of, steps_of};
 
 use crate::machine::{Machine, Outcome, execute};
@@ -15,6 +16,15 @@ pub struct Verdict {
     pub value: u32,
     /// The number of executed instructions, including the one that ended the run.
     pub steps: u16,
+}
+
+/// The value of a run, and where it ended.
+#[derive(Clone, Copy, Debug, PartialEq, Eq)]
+pub struct Ending {
+    /// The value that the filter returned.
+    pub value: u32,
+    /// The 0-based index of the instruction that ended the run.
+    pub place: usize,
 }
 
 /// Runs an accepted program on a packet. It executes at most as many instructions as the program has.
@@ -47,6 +57,25 @@ pub fn judge(program: &Checked, packet: &Packet<'_>) -> Verdict
                     steps: (place + 1 - skipped) as u16,
                 };
             }
+        }
+    }
+}
+
+/// Runs an accepted program on a packet, as `judge` does, and says which instruction ended the run.
+// Not inlined, as `judge`.
+#[inline(never)]
+pub fn judge_with_end(program: &Checked, packet: &Packet<'_>) -> Ending
+    ensures value { result.value ≡ verdict_of program.now packet.now }
+    ensures place { EndsAt program.now packet.now result.place }
+{
+    let insns = program.insns();
+    let mut machine = Machine::new();
+    let mut place = 0;
+    'run: loop {
+        match execute(&insns[place], &mut machine, packet) {
+            Outcome::Next => place += 1,
+            Outcome::Skip(distance) => place += 1 + distance,
+            Outcome::End(value) => return Ending { value, place },
         }
     }
 }

@@ -2,7 +2,8 @@
 //! interpreter that returns an accepted program's verdict on it. Also the endpoints, sockets and moments that other crates share.
 //!
 //! Contracts see a packet as the list of its octets and a moment as its number of milliseconds. `specs/Machine.antt` defines the
-//! effect of each operation, `specs/Chain.antt` the runs. Every run ends, within as many steps as the program has instructions.
+//! effect of each operation, `specs/Chain.antt` the runs. Every run ends, within as many steps as the program has instructions;
+//! `run_states` keeps its states, the chain of the definitions; `judge_with_end` says which instruction ended it.
 //!
 //! Tested by: crates/test_codecs, the script cases in cases/filter, must-fail edits.
 #![tactic(auto)]
@@ -13,8 +14,10 @@ pub mod laws;
 pub mod machine;
 pub mod moment;
 pub mod packet;
+pub mod states;
 
 pub use ends::{End, Socket};
-pub use interpreter::{Verdict, judge};
+pub use interpreter::{Ending, Verdict, judge, judge_with_end};
 pub use moment::Moment;
 pub use packet::Packet;
+pub use states::{Run, State, run_states};

@@ -1,7 +1,7 @@
 //! The command `check`: prints the filter program in a file, or the line of its fault.
 
 use crate::NO_OUTPUT;
-use filter_text::{accepted_text, read_program, script_text};
+use filter_text::{accepted_text, is_for_ethernet, read_program, script_text};
 use std::fmt::Display;
 use std::fs::File;
 use std::io::Read;
@@ -10,7 +10,11 @@ use std::process::ExitCode;
 /// Maximum size of a program file in octets.
 const MOST_OCTETS: u64 = 16 * 1024 * 1024;
 
-/// Prints the program in a file on standard output, and in the form of a script on standard error. If the file is not a valid
+/// The warning about a program whose offsets are those of Ethernet frames.
+const FOR_ETHERNET: &str =
+    "warning: this looks made for Ethernet frames, and would misjudge datagrams; use tcpdump -y RAW";
+
+/// Prints the program in a file on standard output, and in the form of a script on standard error, there perhaps after a warning. If the file is not a valid
 /// program, prints the line of the fault on standard output and fails.
 pub fn run_check(rt: &HostRuntime, file: &str) -> ExitCode {
     let Some(octets) = read_file(rt, file) else {
@@ -23,6 +27,9 @@ pub fn run_check(rt: &HostRuntime, file: &str) -> ExitCode {
     let Some(text) = accepted_text(rt.alloc(), &program) else {
         return refuse(rt, "assembler fault 9");
     };
+    if is_for_ethernet(&program) {
+        let _ = eprintln!(rt; "{FOR_ETHERNET}");
+    }
     if let Some(script) = script_text(rt.alloc(), &program) {
         let _ = eprintln!(rt; "script: {script}");
     }

@@ -1,5 +1,5 @@
-//! The program `cache_main`, with three commands: `feed` runs a script from standard input, `check` reads a filter program from a
-//! file, `serve` runs the proxy from a configuration file.
+//! The program `cache_main`, with five commands: `feed` runs a script from standard input, `check` reads a filter program from a
+//! file, `replay` runs one over a capture, `explain` over one datagram, `serve` runs the proxy from a configuration file.
 //!
 //! This crate parses the arguments, calls the crates below it, and turns their results into lines and exit statuses. It has no
 //! functional contract of its own; `run_serve` only requires a ledger for seven threads, those that submit events to the node.
@@ -12,6 +12,7 @@ mod serve_command;
 use cache_serve::SEATS;
 use check_command::run_check;
 use feed_script::feed;
+use filter_replay::{run_explain, run_replay};
 use serve_command::{run_serve, settings_of};
 use std::env::Env;
 use std::marker::Brand;
@@ -22,12 +23,20 @@ use std::{env, io};
 /// The message when standard output cannot be written.
 pub const NO_OUTPUT: &str = "standard output can't be written";
 
+/// The usage line of the commands about captures.
+const CAPTURE_USAGE: &str =
+    "usage: cache_main replay <filter> <capture> [--icp-port <port>] [--htcp-port <port>] [--own <address>] [--from <network>] [--fail-if-rejected <percent>] [--show] [--compare <other filter>] [--json] | replay --script <capture> --own <address> [--icp-port <port>] [--htcp-port <port>] [--allow <network>] [--nofetch] [--clock] | replay --expect <capture> --own <address> [the same options] [--show] [--fail-if-different] | explain <filter> <octets in hexadecimal or capture:number>";
+
 /// A command of the program.
 enum Command<'a> {
     /// Run the script on standard input.
     Feed,
     /// Print the filter program in this file.
     Check(&'a str),
+    /// Run a filter program over a capture; the words after the command.
+    Replay(&'a [String]),
+    /// Print the run of a filter program on one datagram; the words after the command.
+    Explain(&'a [String]),
     /// Run the proxy with this configuration file.
     Serve(&'a str),
 }
@@ -39,6 +48,8 @@ fn main(rt: HostRuntime) -> ExitCode {
     match command_of(words.as_slice()) {
         Some(Command::Feed) => run_feed(&rt),
         Some(Command::Check(file)) => run_check(&rt, file),
+        Some(Command::Replay(words)) => told(&rt, run_replay(&rt, words)),
+        Some(Command::Explain(words)) => told(&rt, run_explain(&rt, words)),
         Some(Command::Serve(file)) => {
             let Some(settings) = settings_of(&rt, file) else {
                 return ExitCode::FAILURE;
@@ -56,6 +67,17 @@ fn main(rt: HostRuntime) -> ExitCode {
 fn tell_usage(rt: &HostRuntime) -> ExitCode {
     let _ = eprintln!(rt; "usage: cache_main feed | check <file> | serve <config.json>");
     ExitCode::from(2)
+}
+
+/// The status of a command about captures, or the usage line if its words were not understood.
+fn told(rt: &HostRuntime, status: Option<ExitCode>) -> ExitCode {
+    match status {
+        Some(status) => status,
+        None => {
+            let _ = eprintln!(rt; "{CAPTURE_USAGE}");
+            ExitCode::from(2)
+        }
+    }
 }
 
 /// Handles arguments that are not UTF-8. A file with such a name cannot be opened, so `check` reports a file fault.
@@ -81,6 +103,8 @@ fn command_of(words: &[String]) -> Option<Command<'_>> {
         [_, word] if word.as_str() == "feed" => Some(Command::Feed),
         [_, word, file] if word.as_str() == "check" => Some(Command::Check(file.as_str())),
         [_, word, file] if word.as_str() == "serve" => Some(Command::Serve(file.as_str())),
+        [_, word, rest @ ..] if word.as_str() == "replay" => Some(Command::Replay(rest)),
+        [_, word, rest @ ..] if word.as_str() == "explain" => Some(Command::Explain(rest)),
         _ => None,
     }
 }

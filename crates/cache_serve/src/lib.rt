@@ -9,19 +9,9 @@
 //! Tested by: tests/serve, tests/serve_slow and tests/serve_hostile, which run the built program over loopback.
 #![tactic(auto)]
 
-mod addressing;
-mod clock;
 mod fault;
-mod figures;
-mod front;
 mod limits;
-mod mailbox;
-mod node_handle;
-mod objects;
-mod panel;
-mod proxy_state;
 mod queries;
-mod results;
 mod site;
 mod tasks;
 

@@ -1,6 +1,6 @@
 //! Times and numbers of the proxy's threads and servers that the configuration does not set.
-use client_streams::StreamTimeouts;
-use hyper_cache::ServeLimits;
+use client_streams::{ClientLimits, StreamTimeouts};
+use http_clients::ServeLimits;
 use std::time::Duration;
 
 /// Threads that fetch.
@@ -8,6 +8,12 @@ pub const FETCHERS: usize = 4;
 
 /// Threads that look up names.
 pub const LOOK_UPS: usize = 4;
+
+/// The most octets of bodies under way, if the configuration does not say it. The first `FREE_OCTETS` of each don't count.
+pub const FETCH_OCTETS: u32 = 268_435_456;
+
+/// How many octets of each body take nothing of the octets under way.
+pub const FREE_OCTETS: usize = 65_536;
 
 /// Threads that have a seat at the node: those that fetch, and one each for queries, clients and administration.
 pub const SEATS: u64 = FETCHERS as u64 + 3;
@@ -19,17 +25,11 @@ pub const THREADS: usize = SEATS as usize;
 /// so that sending never waits and never allocates.
 pub const ENDS: usize = 2 * THREADS + 1;
 
-/// A thread compares its receipts with the event log once in so many of its events.
-pub const EVENTS_AN_AUDIT: u32 = 16;
-
 /// The most datagrams of other threads that the query thread sends before it receives again.
 pub const SENDS_A_TURN: u32 = 64;
 
-/// Consecutive allocation failures that the query thread tolerates, and retries of a fetch thread whose result was refused.
-pub const RETRIES: u32 = 1_000;
-
-/// The pause between two retries, in milliseconds.
-pub const RETRY_MILLIS: u64 = 10;
+/// The most connections of clients of one address, unless the configuration says another number.
+pub const ADDRESS_CONNECTIONS: u32 = 256;
 
 /// The most octets of the content of a client's request.
 const CLIENT_CONTENT: usize = 65_536;
@@ -51,11 +51,12 @@ pub struct ProxyLimits {
 }
 
 impl ProxyLimits {
-    /// The limits of the program: 4,096 connections of clients and 64 of administrators, 5 s to connect and 30 s to fetch.
+    /// The limits of the program: 4,096 connections of clients, 256 of one address, and 64 of administrators, 5 s to connect and
+    /// 30 s to fetch.
     pub fn usual() -> ProxyLimits {
         ProxyLimits {
-            clients: serve_limits(4_096, CLIENT_CONTENT),
-            administration: serve_limits(64, ADMINISTRATION_CONTENT),
+            clients: serve_limits(4_096, ADDRESS_CONNECTIONS, CLIENT_CONTENT),
+            administration: serve_limits(64, 64, ADMINISTRATION_CONTENT),
             connecting: Duration::from_secs(5),
             fetching: Duration::from_secs(30),
         }
@@ -64,7 +65,7 @@ impl ProxyLimits {
 
 /// What both servers have in common: 60 s for an idle connection and for a client that does not read its answer, 30 s for a head
 /// and between two pieces of content, 100 ms without an accept after one that failed, and 5 s for open connections to end.
-fn serve_limits(connections: usize, content: usize) -> ServeLimits {
+fn serve_limits(connections: usize, an_address: u32, content: usize) -> ServeLimits {
     ServeLimits {
         still: StreamTimeouts {
             idle: Duration::from_secs(60),
@@ -72,8 +73,11 @@ fn serve_limits(connections: usize, content: usize) -> ServeLimits {
             content: Duration::from_secs(30),
             taking: Duration::from_secs(60),
         },
-        connections,
-        rest: Duration::from_millis(100),
+        connections: ClientLimits {
+            most: connections,
+            an_address: an_address as usize,
+            rest: Duration::from_millis(100),
+        },
         grace: Duration::from_secs(5),
         content,
     }

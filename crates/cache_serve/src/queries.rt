@@ -1,10 +1,10 @@
 //! The thread that owns the query sockets.
 use crate::fault::ServeFault;
-use crate::limits::{RETRIES, RETRY_MILLIS, SENDS_A_TURN};
-use crate::node_handle::{NodeHandle, Outgoing};
+use crate::limits::SENDS_A_TURN;
 use crossbeam_channel::Receiver;
 use mio_queries::{MioWire, PumpFault, Wire, pump_with};
 use node_core::Out;
+use proxy_node::{NodeHandle, Outgoing, RETRIES, RETRY_MILLIS};
 use std::alloc::{AllocGlobal, Global};
 use std::net::Net;
 use std::sync::Wait;

@@ -2,12 +2,10 @@
 ghost use Rattle.std.specs.Prelude.{◌≡◌, IfOk};
 ghost use Rattle.node_book.specs.Book.{count_of};
 
-use crate::addressing::Peer;
 use crate::fault::{Port, ServeFault};
-use crate::limits::{ENDS, FETCHERS, LOOK_UPS, ProxyLimits, SEATS, THREADS};
-use crate::mailbox::Mailbox;
-use crate::node_handle::{Outbox, Outgoing, ThreadSeat};
-use crate::proxy_state::{Lanes, ProxyState, no_failures};
+use crate::limits::{
+    ADDRESS_CONNECTIONS, ENDS, FETCH_OCTETS, FETCHERS, LOOK_UPS, ProxyLimits, SEATS, THREADS,
+};
 use crate::tasks::{
     AdministrationTask, BoundQueries, ClientTask, Ending, FetchTask, QueryTask, Task, ThreadConfig,
     Work, no_memory, run_task,
@@ -15,13 +13,18 @@ use crate::tasks::{
 use crossbeam_channel::{Receiver, Sender, bounded, unbounded};
 use filter_slots::End;
 use futures::channel::{mpsc, oneshot};
-use hyper_cache::names::{Wish, look_up};
+use http_fetches::Budget;
+use http_rules::{OriginRules, loop_mark, usual_denials};
 use mio_queries::{Bell, Timeline};
+use name_lookup::{NameDesk, NameLimits, look_up, open_names};
 use node_book::{BOOK_OCTETS, BookFault, Booked, Desk, RECEIPT_OCTETS, Report, Seat};
 use node_core::{Config, Network, Node};
+use proxy_node::{
+    Lanes, Mailbox, Outbox, Outgoing, Peer, ProxyState, Tap, ThreadSeat, no_failures,
+};
 use serve_config::Settings;
 use std::alloc::{AllocError, AllocGlobal, Global};
-use std::net::{Ipv4Addr, Net, SocketAddr, SocketAddrV4};
+use std::net::{IpAddr, Ipv4Addr, Net, SocketAddr, SocketAddrV4};
 use std::random::RandomSource;
 use std::sync::atomic::{AtomicBool, AtomicU16, Ordering};
 use std::sync::ledger::{Blank, Ledger};
@@ -73,18 +76,21 @@ where
     requires seats { blank.parts ≡ SEATS }
 {
     let alloc = rt.alloc();
+    let mut settings = settings;
     let allowed = networks_of(alloc, &settings.node).map_err(no_memory)?;
     let config = thread_config(&settings, limits);
+    let token = settings.admin_token.take();
     let (end, ends) = bounded(alloc, ENDS).map_err(no_memory)?;
     let told = end.clone().map_err(no_memory)?;
-    let (proxy, seats) = proxy_of(alloc, blank, settings, limits.fetching, told)?;
+    let mark = random_mark(&rt, alloc, settings.name.as_bytes())?;
+    let (proxy, seats) = proxy_of(alloc, blank, settings, limits.fetching, told, mark)?;
     let mut opening = Opening {
         rt,
         alloc,
         config,
         site: Site::of(alloc, proxy, seats, (end, ends)).map_err(no_memory)?,
     };
-    let opened = opening.open(allowed);
+    let opened = opening.open(allowed, token);
     let Opening { site, .. } = opening;
     match opened {
         Ok(()) => Ok(site),
@@ -98,12 +104,16 @@ where
 /// What the threads need of the settings.
 fn thread_config(settings: &Settings, limits: ProxyLimits) -> ThreadConfig {
     let address = Ipv4Addr::from_octets(settings.address);
+    let mut limits = limits;
+    let an_address = settings.address_connections.unwrap_or(ADDRESS_CONNECTIONS);
+    limits.clients.connections.an_address = an_address as usize;
     ThreadConfig {
         icp: settings.node.icp,
         htcp: settings.node.htcp,
         clients: SocketAddr::V4(SocketAddrV4::new(address, settings.http_port)),
         admin_port: settings.admin_port,
         body_limit: settings.body_limit as usize,
+        fetch_octets: settings.fetch_octets.unwrap_or(FETCH_OCTETS) as usize,
         stop_after: settings.stop_after,
         limits,
     }
@@ -113,15 +123,17 @@ fn thread_config(settings: &Settings, limits: ProxyLimits) -> ThreadConfig {
 fn proxy_of<L: Ledger>(
     alloc: Global,
     blank: Blank,
-    settings: Settings,
+    mut settings: Settings,
     fetching: Duration,
     end: Sender<(), Global>,
+    loop_mark: Vec<u8>,
 ) -> Result<(ProxyState<L>, Vec<Seat<L>>), ServeFault>
     requires name { blank.name ≡ L.name }
     requires parts { blank.parts ≡ L.parts }
     requires seats { blank.parts ≡ SEATS }
 {
     let peers = peers_of(alloc, &settings.node).map_err(no_memory)?;
+    let origins = origins_of(alloc, &mut settings).map_err(no_memory)?;
     let Settings {
         name,
         volume,
@@ -143,9 +155,12 @@ fn proxy_of<L: Ledger>(
         failed: no_failures(alloc).map_err(no_memory)?,
         timeline: Timeline::new(alloc).map_err(no_memory)?,
         name,
+        loop_mark,
+        origins: Mutex::new(origins),
         peers,
         fetching,
         admin_port: AtomicU16::new(admin_port),
+        tap: Tap::new(),
         is_astray: AtomicBool::new(false),
         end,
     };
@@ -179,6 +194,29 @@ fn desk_of<L: Ledger>(
         Ok(opened) => Ok(opened),
         Err(_) => Err(ServeFault::NoMemory),
     }
+}
+
+/// The element of CDN-Loop of a cache with this name, with a number that no other run of any cache has. Errors: the system has no
+/// random numbers, or out of memory.
+fn random_mark<R: RandomSource>(rt: &R, alloc: Global, name: &[u8]) -> Result<Vec<u8>, ServeFault> {
+    let mut number = [0; 8];
+    if rt.fill_bytes(&mut number).is_err() {
+        return Err(ServeFault::NoMemory);
+    }
+    loop_mark(alloc, name, u64::from_be_bytes(number)).map_err(no_memory)
+}
+
+/// Which servers may be fetched from as origins; the sockets of this cache are added once they are bound.
+fn origins_of(alloc: Global, settings: &mut Settings) -> Result<OriginRules, AllocError> {
+    let denied = match settings.deny_origins.take() {
+        Some(denied) => denied,
+        None => usual_denials(alloc, settings.address)?,
+    };
+    Ok(OriginRules {
+        own: Vec::new(alloc),
+        denied,
+        ports: settings.origin_ports.take(),
+    })
 }
 
 fn peers_of(alloc: Global, config: &Config) -> Result<Vec<Peer>, AllocError> {
@@ -301,7 +339,7 @@ where
         }
     }
 
-    fn open(&mut self, allowed: Vec<Network>) -> Result<(), ServeFault> {
+    fn open(&mut self, allowed: Vec<Network>, token: Option<String>) -> Result<(), ServeFault> {
         self.open_fetchers()?;
         let (outgoing, incoming) = unbounded(self.alloc).map_err(no_memory)?;
         let queries = self.open_queries(incoming)?;
@@ -309,7 +347,9 @@ where
         self.site.bell = Some(queries.bell);
         let outbox = Outbox { to: outgoing, bell };
         let clients = self.open_clients(allowed, outbox)?;
-        let administration = self.open_administration()?;
+        self.add_own(clients)?;
+        let administration = self.open_administration(token)?;
+        self.add_own(administration)?;
         self.site.addresses = Some(Addresses {
             icp: queries.icp,
             htcp: queries.htcp,
@@ -319,7 +359,26 @@ where
         Ok(())
     }
 
+    /// The octets that bodies under way may have, for all fetch threads.
+    fn budget(&self) -> Result<Arc<Budget>, AllocError> {
+        let budget = Budget::new(self.alloc, self.config.fetch_octets);
+        Ok(Arc::new(self.alloc, budget)?)
+    }
+
+    /// Has a bound socket never fetched from.
+    fn add_own(&self, bound: SocketAddr) -> Result<(), ServeFault> {
+        let IpAddr::V4(address) = bound.ip() else {
+            return Ok(());
+        };
+        let end = End {
+            addr: address.octets(),
+            port: bound.port(),
+        };
+        self.site.proxy.add_own(&self.rt, end).map_err(no_memory)
+    }
+
     fn open_fetchers(&mut self) -> Result<(), ServeFault> {
+        let budget = self.budget().map_err(no_memory)?;
         let mut lanes = Vec::with_capacity(self.alloc, FETCHERS).map_err(no_memory)?;
         for _ in 0..FETCHERS {
             let (to, jobs) = mpsc::unbounded(self.alloc).map_err(no_memory)?;
@@ -327,34 +386,33 @@ where
             let fetches = FetchTask {
                 seat: self.seat()?,
                 jobs,
+                proxy: Arc::try_clone(&self.site.proxy).map_err(no_memory)?,
+                budget: Arc::try_clone(&budget).map_err(no_memory)?,
                 octets: self.config.body_limit,
                 connecting: self.config.limits.connecting,
                 end: self.site.end.clone().map_err(no_memory)?,
             };
             self.begin(Work::Fetches(fetches))?;
         }
-        let wishes = self.open_look_ups()?;
-        let lanes = Lanes {
-            wishes,
-            jobs: lanes,
-        };
+        let names = self.open_look_ups()?;
+        let lanes = Lanes { names, jobs: lanes };
         *self.site.proxy.lanes.lock(&self.rt) = Some(lanes);
         Ok(())
     }
 
     /// Starts the threads that look up names. They are not joined, since the system's resolver may hold each for as long as it
-    /// likes: a thread that is idle ends when the last sender is dropped, and one that is held ends with the process. None of
+    /// likes: a thread that is idle ends when the desk is dropped, and one that is held ends with the process. None of
     /// them has a seat or a part of the shared state.
-    fn open_look_ups(&mut self) -> Result<Sender<Wish, Global>, ServeFault> {
-        let (to, wishes) = unbounded(self.alloc).map_err(no_memory)?;
+    fn open_look_ups(&mut self) -> Result<NameDesk, ServeFault> {
+        let (desk, clerk) = open_names(self.alloc, NameLimits::usual()).map_err(no_memory)?;
         for _ in 0..LOOK_UPS {
-            let (rt, wishes) = (self.rt, wishes.clone().map_err(no_memory)?);
-            let Ok(thread) = thread::spawn(&rt, move || look_up(&rt, &wishes)) else {
+            let (rt, clerk) = (self.rt, clerk.share().map_err(no_memory)?);
+            let Ok(thread) = thread::spawn(&rt, move || look_up(&rt, &clerk)) else {
                 return Err(ServeFault::NoMemory);
             };
             drop(thread);
         }
-        Ok(to)
+        Ok(desk)
     }
 
     fn open_queries(
@@ -403,12 +461,13 @@ where
             .map_err(|_| ServeFault::Bind(Port::Clients))
     }
 
-    fn open_administration(&mut self) -> Result<SocketAddr, ServeFault> {
+    fn open_administration(&mut self, token: Option<String>) -> Result<SocketAddr, ServeFault> {
         let (stop, stopped) = oneshot::channel(self.alloc).map_err(no_memory)?;
         let (bound, heard) = unbounded(self.alloc).map_err(no_memory)?;
         let administration = AdministrationTask {
             seat: self.seat()?,
             config: self.config,
+            token,
             bound,
             stopped,
             end: self.site.end.clone().map_err(no_memory)?,

@@ -2,23 +2,21 @@
 ghost use Rattle.std.specs.Prelude.{◌<◌};
 
 use crate::fault::{Port, ServeFault};
-use crate::front::NodeFront;
-use crate::limits::ProxyLimits;
-use crate::node_handle::{NodeHandle, Outbox, Outgoing, ThreadSeat};
-use crate::panel::NodePanel;
-use crate::proxy_state::ProxyState;
+use crate::limits::{FREE_OCTETS, ProxyLimits};
 use crate::queries::carry;
-use crate::results::Results;
 use crossbeam_channel::{Receiver, Sender};
 use filter_slots::{End, Socket};
 use futures::channel::{mpsc, oneshot};
-use hyper_cache::administration::serve_admin;
-use hyper_cache::fetching::{FetchLimits, Job, run_fetches};
-use hyper_cache::serving::serve_clients;
+use http_clients::{serve_admin, serve_clients};
+use http_fetches::{Budget, FetchLimits, FetchRules, run_fetches};
+use http_traffic::Job;
 use mio_queries::{Bell, BindFault, MioWire, Timeline};
 use node_book::Seat;
 use node_core::Network;
 use plain_node::MAX_PENDING_FETCHES;
+use proxy_node::{
+    NodeFront, NodeHandle, NodePanel, Origins, Outbox, Outgoing, ProxyState, Results, ThreadSeat,
+};
 use std::alloc::{AllocError, AllocGlobal, Global};
 use std::io;
 use std::net::{Net, SocketAddr};
@@ -53,6 +51,7 @@ pub struct ThreadConfig {
     pub clients: SocketAddr,
     pub admin_port: u16,
     pub body_limit: usize,
+    pub fetch_octets: usize,
     pub stop_after: u64,
     pub limits: ProxyLimits,
 }
@@ -108,6 +107,7 @@ pub struct ClientTask<L: Ledger> {
 pub struct AdministrationTask<L: Ledger> {
     pub seat: ThreadSeat<L>,
     pub config: ThreadConfig,
+    pub token: Option<String>,
     pub bound: Sender<SocketAddr, Global>,
     pub stopped: oneshot::Receiver<()>,
     pub end: Sender<(), Global>,
@@ -118,6 +118,8 @@ pub struct AdministrationTask<L: Ledger> {
 pub struct FetchTask<L: Ledger> {
     pub seat: ThreadSeat<L>,
     pub jobs: mpsc::UnboundedReceiver<Job>,
+    pub proxy: Arc<ProxyState<L>>,
+    pub budget: Arc<Budget>,
     pub octets: usize,
     pub connecting: Duration,
     pub end: Sender<(), Global>,
@@ -146,6 +148,8 @@ where
     let FetchTask {
         seat,
         jobs,
+        proxy,
+        budget,
         octets,
         connecting,
         end,
@@ -153,6 +157,7 @@ where
     let alloc = rt.alloc();
     let limits = FetchLimits {
         octets,
+        free: FREE_OCTETS,
         connecting,
         // As many as a node has pending, so that none waits for another of its thread.
         at_once: MAX_PENDING_FETCHES,
@@ -164,7 +169,11 @@ where
         has_given_up: false,
         end,
     };
-    let ran = run_fetches(rt, jobs, &mut results, limits);
+    let rules = FetchRules {
+        budget,
+        admit: Origins { rt, proxy },
+    };
+    let ran = run_fetches(rt, jobs, &mut results, rules, limits);
     let _ = results.end.send(&rt, ());
     let is_well = ran.is_ok() && !results.has_given_up;
     Ending {
@@ -296,6 +305,7 @@ where
     let AdministrationTask {
         seat,
         config,
+        token,
         bound,
         stopped,
         end,
@@ -309,6 +319,7 @@ where
         rt,
         alloc,
         node: shared,
+        token,
     };
     let limits = config.limits.administration;
     let ran = serve_admin(rt, config.admin_port, panel, bound, stopped, limits);

@@ -4,3 +4,4 @@ pub mod Udp
 pub mod View
 pub mod Record
 pub mod Head
+pub mod Packet

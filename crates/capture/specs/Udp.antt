@@ -1,6 +1,7 @@
 -- The UDP datagram (RFC 768) in an IPv4 packet (RFC 791), as far as it was captured.
--- A fragment that isn't the first has no UDP header and is no datagram. The first fragment of several is a datagram that isn't
--- whole, as is one that the capture's snap length cut.
+-- A fragment that isn't the first has no UDP header and is no datagram. A datagram isn't whole where its UDP length goes beyond
+-- what was captured of its packet: so it is in the first of several fragments, whose UDP length counts all of them, and in a packet
+-- that the capture's snap length cut. Nothing else of a first fragment is looked at.
 use Rattle.std.specs.Prelude.{ℕ, ◌==◌, ◌&&◌, ◌-◌, ◌*◌, ◌/◌, ◌%◌, nat_le, Bool, if◌then◌else◌, List, [], ◌∷◌, length, take, drop, slice_index, Option, Some, None}
 use Rattle.bpf_run.specs.declared.ends.End.{End}
 use Rattle.capture.specs.declared.link.Link.{Link}

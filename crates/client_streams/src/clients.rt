@@ -1,19 +1,18 @@
 //! The clients of a listener.
-ghost use Rattle.std.specs.Prelude.{IfSome, IsSome};
+ghost use Rattle.std.specs.Prelude.{IfSome, IsSomeAnd, box_value};
+ghost use Rattle.futures.specs.Poll.{OnPending};
+ghost use Rattle.futures.specs.Task.{Covers, Keeps};
 
+use crate::patient::SharedStage;
+use crate::seats::{SharedSeats, TakenSeat};
 use futures::channel::oneshot;
 use futures::task::{Context, Poll};
 use futures::{Future, Stream, ready};
 use std::alloc::{AllocError, Global};
-use std::net::SocketAddr;
-use std::sync::Arc;
+use std::net::{IpAddr, SocketAddr};
 use std::time::{Clock, Duration};
 use tokio::net::{TcpListener, TcpStream};
-use tokio::sync::{AcquireOwned, OwnedSemaphorePermit, Semaphore};
 use tokio::time::{Handle, Sleep};
-
-// The most clients that are refused concurrently. Further ones are closed without an answer.
-const MOST_REFUSALS: usize = 64;
 
 /// Makes the future that serves a client.
 pub trait Accept: Drop {
@@ -23,8 +22,14 @@ pub trait Accept: Drop {
     /// Whether a client at `address` takes one of the seats for clients. Others are refused, and take none of these.
     fn has_seat(&self, address: SocketAddr) -> bool;
 
-    /// Serves or refuses the client that connected from `address`. Returning `None` closes the connection.
-    fn accept(&self, socket: TcpStream, address: SocketAddr) -> Option<Self::Serving>
+    /// Serves or refuses the client that connected from `address`. The service keeps `stage` up to date. Returning `None` closes
+    /// the connection.
+    fn accept(
+        &self,
+        socket: TcpStream,
+        address: SocketAddr,
+        stage: SharedStage,
+    ) -> Option<Self::Serving>
         ensures { IfSome result Self.Serving.can_poll };
 }
 
@@ -50,53 +55,92 @@ impl<T: Drop, F: Future<Output = T>> Future for Quiet<F> {
     }
 }
 
-/// A client that is being served, and its permit, which is released when this is dropped.
+/// A client that is being served or refused, and its seat, which is free again when this is dropped. It ends early where its
+/// connection has been idle for longer than all others and a client waits for a seat.
 #[derive(Drop)]
 pub struct Seated<F> {
-    serving: F,
-    seat: OwnedSemaphorePermit,
+    // None for a seat that is only taken until the server is open.
+    serving: Option<Box<F>>,
+    stage: SharedStage,
+    seat: TakenSeat,
 }
 
 impl<F: Future<Output = ()>> Future for Seated<F> {
     type Output = ();
 
-    ghost can_poll = { λ s. F.can_poll s.serving };
+    ghost can_poll = { λ s. IfSome s.serving (λ f. F.can_poll (box_value f)) };
 
-    ghost needs = { λ s. F.needs s.serving };
+    ghost needs = { λ s source. IsSomeAnd s.serving (λ f. F.needs (box_value f) source) };
 
     fn poll(&mut self, cx: &mut Context<'_>) -> Poll<()> {
-        self.serving.poll(cx)
+        let Some(mut serving) = self.serving.take() else {
+            return self.seat.wait_for_opening(cx);
+        };
+        if let Poll::Ready(()) = serving.poll(cx) {
+            return Poll::Ready(());
+        }
+        self.serving = Some(serving);
+        if self.seat.must_close(&self.stage, cx) {
+            return Poll::Ready(());
+        }
+        Poll::Pending
     }
 }
 
-// A place in the queue for a permit.
+// A client that was accepted.
 #[derive(Drop)]
-struct Asking {
-    queued: AcquireOwned,
-    ghost may_ask: { IsSome queued.semaphore },
+struct Arrival {
+    socket: TcpStream,
+    address: SocketAddr,
+}
+
+/// How many clients of a listener are served concurrently, and what follows an accept that fails.
+#[derive(Clone, Copy)]
+pub struct ClientLimits {
+    /// The most clients.
+    pub most: usize,
+    /// The most clients of one address.
+    pub an_address: usize,
+    /// The pause after a failed accept.
+    pub rest: Duration,
+}
+
+// How far a server is that opens.
+#[derive(Clone, Copy, PartialEq, Eq)]
+enum Opening {
+    // It takes each seat once.
+    Taking,
+    // It waits until all seats are free again.
+    Freeing,
+    // It accepts clients.
+    Done,
 }
 
 /// The clients of a listener, as a stream of futures that ends when `stop` is ready or its sender is dropped. Each future holds a
-/// permit; while none is free, no connection is accepted, and further clients wait in the listener's queue. A client that takes no
-/// seat holds one of 64 other permits, and is closed where none of these is free. After a failed accept the next one waits for
-/// `rest`.
+/// seat. A client of an address that has as many seats as it may is closed. While all seats are taken, the connection that has
+/// been idle for longest is closed in favour of the next client; while none is idle, that client waits, and further ones wait in
+/// the listener's queue. A client that takes no seat holds one of 64 others, and is closed where none of these is free.
+///
+/// The first futures serve nobody, and end together: one for each seat, so that whoever runs the futures has room for as many as
+/// there may be, and no client is refused for want of memory for that room.
 #[derive(Drop)]
 pub struct AcceptedClients<A, R> {
     rt: R,
+    alloc: Global,
     timers: Handle,
     listener: TcpListener,
     stop: Option<oneshot::Receiver<()>>,
     accept: A,
-    seats: Arc<Semaphore>,
-    refusals: Arc<Semaphore>,
-    asking: Option<Asking>,
-    seat: Option<OwnedSemaphorePermit>,
+    seats: SharedSeats,
+    opening: Opening,
+    // A client that waits for a seat.
+    arrival: Option<Arrival>,
     rest: Duration,
     resting: Option<Sleep>,
 }
 
 impl<A: Accept, R: Clock + Drop> AcceptedClients<A, R> {
-    /// The clients of `listener`, at most `most` concurrently.
+    /// The clients of `listener`, with these limits.
     pub fn new(
         rt: R,
         alloc: Global,
@@ -104,36 +148,88 @@ impl<A: Accept, R: Clock + Drop> AcceptedClients<A, R> {
         listener: TcpListener,
         stop: oneshot::Receiver<()>,
         accept: A,
-        most: usize,
-        rest: Duration,
+        limits: ClientLimits,
     ) -> Result<AcceptedClients<A, R>, AllocError> {
-        let seats = Arc::new(
-            alloc,
-            Semaphore::new(alloc, most.min(Semaphore::MAX_PERMITS))?,
-        )?;
-        let refusals = Arc::new(alloc, Semaphore::new(alloc, MOST_REFUSALS)?)?;
+        let seats = SharedSeats::new(alloc, limits.most, limits.an_address)?;
         Ok(AcceptedClients {
             rt,
+            alloc,
             timers,
             listener,
             stop: Some(stop),
             accept,
             seats,
-            refusals,
-            asking: None,
-            seat: None,
-            rest,
+            opening: Opening::Taking,
+            arrival: None,
+            rest: limits.rest,
             resting: None,
         })
     }
 
-    // The permit that a client at `address` holds. `None` if it takes no seat and too many others are being refused.
-    fn permit(&mut self, address: SocketAddr) -> Option<OwnedSemaphorePermit> {
-        if self.accept.has_seat(address) {
-            return self.seat.take();
+    // The next seat that is taken while the server opens. `None` once all were taken.
+    fn next_room(&mut self) -> Option<Seated<A::Serving>>
+        ensures { IfSome result (λ s. IfSome s.serving (λ f. A.Serving.can_poll (box_value f))) }
+    {
+        if self.opening != Opening::Taking {
+            return None;
         }
-        let refusals = Arc::try_clone(&self.refusals).ok()?;
-        Semaphore::try_acquire_owned(refusals).ok()
+        if let Some(seat) = self.seats.take_any()
+            && let Ok(stage) = SharedStage::new(self.alloc)
+        {
+            return Some(Seated {
+                serving: None,
+                stage,
+                seat,
+            });
+        }
+        self.opening = Opening::Freeing;
+        self.seats.open();
+        None
+    }
+
+    // Waits for the next client that is to be served or refused. `None` if one was closed, or if the accept failed.
+    fn poll_arrival(&mut self, cx: &mut Context<'_>) -> Poll<Option<Arrival>>
+        ensures registered { OnPending result (Covers cx.new (λ _. ⊥)) }
+        ensures kept { Keeps cx.old cx.new }
+    {
+        if let Some(arrival) = self.arrival.take() {
+            return Poll::Ready(Some(arrival));
+        }
+        let Ok((socket, address)) = ready!(self.listener.poll_accept(cx)) else {
+            self.rest();
+            return Poll::Ready(None);
+        };
+        if self.accept.has_seat(address) && self.seats.has_most(address.ip()) {
+            return Poll::Ready(None);
+        }
+        Poll::Ready(Some(Arrival { socket, address }))
+    }
+
+    // The seat for a client at this address. `None` if it has to wait for one. Errors: it is to be closed.
+    fn seat(&mut self, address: SocketAddr) -> Result<Option<TakenSeat>, AllocError> {
+        if self.accept.has_seat(address) {
+            return self.seats.take(address.ip());
+        }
+        match self.seats.take_refusal() {
+            Some(seat) => Ok(Some(seat)),
+            None => Err(AllocError),
+        }
+    }
+
+    // Serves or refuses a client. `None` if its connection is closed.
+    fn serve(&mut self, arrival: Arrival, seat: TakenSeat) -> Option<Seated<A::Serving>>
+        ensures { IfSome result (λ s. IfSome s.serving (λ f. A.Serving.can_poll (box_value f))) }
+    {
+        let Arrival { socket, address } = arrival;
+        let stage = SharedStage::new(self.alloc).ok()?;
+        let shared = stage.share().ok()?;
+        let serving = self.accept.accept(socket, address, shared)?;
+        let serving = Box::new(self.alloc, serving).ok()?;
+        Some(Seated {
+            serving: Some(serving),
+            stage,
+            seat,
+        })
     }
 
     // Delays the next accept.
@@ -145,7 +241,7 @@ impl<A: Accept, R: Clock + Drop> AcceptedClients<A, R> {
 impl<A: Accept, R: Clock + Drop> Stream for AcceptedClients<A, R> {
     type Item = Seated<A::Serving>;
 
-    ghost yields = { λ _ _ last. IfSome last (λ s. A.Serving.can_poll s.serving) };
+    ghost yields = { λ _ _ last. IfSome last (λ s. IfSome s.serving (λ f. A.Serving.can_poll (box_value f))) };
 
     fn poll_next(&mut self, cx: &mut Context<'_>) -> Poll<Option<Seated<A::Serving>>> {
         let Some(stop) = &mut self.stop else {
@@ -159,44 +255,27 @@ impl<A: Accept, R: Clock + Drop> Stream for AcceptedClients<A, R> {
             let _ = ready!(resting.poll(cx));
             self.resting = None;
         }
-        if self.seat.is_none() {
-            let Asking { mut queued } = match self.asking.take() {
-                Some(asking) => asking,
-                None => match Arc::try_clone(&self.seats) {
-                    Ok(seats) => Asking {
-                        queued: Semaphore::acquire_owned(seats),
-                    },
-                    Err(_) => {
-                        self.rest();
-                        return cx.yield_now();
-                    }
-                },
-            };
-            match queued.poll(cx) {
-                Poll::Ready(Ok(seat)) => self.seat = Some(seat),
-                Poll::Ready(Err(_)) => {
-                    self.rest();
-                    return cx.yield_now();
-                }
-                Poll::Pending => {
-                    self.asking = Some(Asking { queued });
-                    return Poll::Pending;
-                }
-            }
+        if let Some(room) = self.next_room() {
+            return Poll::Ready(Some(room));
         }
-        match ready!(self.listener.poll_accept(cx)) {
-            Ok((socket, address)) => {
-                if let Some(seat) = self.permit(address)
-                    && let Some(serving) = self.accept.accept(socket, address)
-                {
-                    return Poll::Ready(Some(Seated { serving, seat }));
-                }
+        if self.opening == Opening::Freeing {
+            ready!(self.seats.wait_for_all(cx));
+            self.opening = Opening::Done;
+        }
+        let Some(arrival) = ready!(self.poll_arrival(cx)) else {
+            return cx.yield_now();
+        };
+        match self.seat(arrival.address) {
+            Ok(Some(seat)) => match self.serve(arrival, seat) {
+                Some(seated) => Poll::Ready(Some(seated)),
+                None => cx.yield_now(),
+            },
+            Ok(None) => {
+                self.arrival = Some(arrival);
+                let _ = ready!(self.seats.wait(cx));
                 cx.yield_now()
             }
-            Err(_) => {
-                self.rest();
-                cx.yield_now()
-            }
+            Err(_) => cx.yield_now(),
         }
     }
 }

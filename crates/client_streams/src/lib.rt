@@ -9,7 +9,8 @@
 mod clients;
 mod patient;
 mod refusal;
+mod seats;
 
-pub use clients::{Accept, AcceptedClients, Quiet, Seated};
+pub use clients::{Accept, AcceptedClients, ClientLimits, Quiet, Seated};
 pub use patient::{Patient, SharedStage, Stage, StreamTimeouts};
 pub use refusal::Refusal;

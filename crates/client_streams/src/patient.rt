@@ -5,6 +5,7 @@ ghost use Rattle.tokio.specs.Net.{stream_readable, stream_writable};
 
 use futures::Future;
 use futures::task::{Context, Poll};
+use paced_stream::{CLIENT_TURN, Paced};
 use std::alloc::{AllocError, Global};
 use std::cell::Cell;
 use std::io;
@@ -22,7 +23,8 @@ pub struct StreamTimeouts {
     pub idle: Duration,
     /// From the first octet of a request's head to its end.
     pub head: Duration,
-    /// Between two pieces of a request's content.
+    /// From a request's head to the first piece of its content, and from each piece to the next. What frames the pieces, such as a
+    /// chunk's size, is none.
     pub content: Duration,
     /// While a write waits for the peer to read.
     pub taking: Duration,
@@ -41,14 +43,32 @@ pub enum Stage {
     Asked,
 }
 
+// What a connection is doing.
+#[derive(Drop)]
+struct Doing {
+    stage: Cell<Stage>,
+    // Whether the stage was set since this was last asked.
+    is_set: Cell<bool>,
+    // Whether the stage was set or a piece of content came since this was last asked.
+    is_anew: Cell<bool>,
+    // Whether a write waits for the peer to read.
+    is_sending: Cell<bool>,
+}
+
 /// The stage of a connection, set by its HTTP service and read by its socket. Reference-counted within one thread.
 #[derive(Drop)]
-pub struct SharedStage(Rc<Cell<Stage>>);
+pub struct SharedStage(Rc<Doing>);
 
 impl SharedStage {
     /// The stage `Idle`, with one owner.
     pub fn new(alloc: Global) -> Result<SharedStage, AllocError> {
-        Ok(SharedStage(Rc::new(alloc, Cell::new(Stage::Idle))?))
+        let doing = Doing {
+            stage: Cell::new(Stage::Idle),
+            is_set: Cell::new(false),
+            is_anew: Cell::new(false),
+            is_sending: Cell::new(false),
+        };
+        Ok(SharedStage(Rc::new(alloc, doing)?))
     }
 
     /// Another handle to the same stage. Errors: there are too many handles.
@@ -58,12 +78,39 @@ impl SharedStage {
 
     /// The current stage.
     pub fn get(&self) -> Stage {
-        self.0.get()
+        self.0.stage.get()
     }
 
     /// Sets the stage.
     pub fn set(&self, stage: Stage) {
-        self.0.set(stage);
+        self.0.stage.set(stage);
+        self.0.is_set.set(true);
+        self.0.is_anew.set(true);
+    }
+
+    /// Notes that a piece of a request's content came, so the peer has the time `content` anew.
+    pub fn note_piece(&self) {
+        self.0.is_anew.set(true);
+    }
+
+    // Whether the stage was set or a piece of content came since this was last asked.
+    fn take_anew(&self) -> bool {
+        self.0.is_anew.replace(false)
+    }
+
+    // Whether the stage was set since this was last asked.
+    pub(crate) fn take_set(&self) -> bool {
+        self.0.is_set.replace(false)
+    }
+
+    /// Whether nothing is under way: the last response was sent, and nothing of the next request has come.
+    pub fn is_idle(&self) -> bool {
+        self.0.stage.get() == Stage::Idle && !self.0.is_sending.get()
+    }
+
+    // Sets whether a write waits for the peer to read.
+    fn set_sending(&self, is_sending: bool) {
+        self.0.is_sending.set(is_sending);
     }
 }
 
@@ -130,10 +177,12 @@ impl<R: Clock + Drop> Patience<R> {
 
 /// A socket that fails with `TimedOut` when its peer is silent for longer than its limits allow. A read has the limit of the
 /// current stage, unless a write is waiting too, and a write has the limit `taking`. The time of `head` starts with the first
-/// octet of a head, and each other time with the last octet received or sent.
+/// octet of a head, that of `content` with the last piece of the content that the service noted, and each other time with the last
+/// octet received or sent. So octets without end that are no content are an end of the connection as well: a read gives up its turn
+/// after some of them, and the time is looked at then.
 #[derive(Drop)]
 pub struct Patient<R> {
-    socket: TcpStream,
+    socket: Paced,
     limits: StreamTimeouts,
     stage: SharedStage,
     coming: Patience<R>,
@@ -150,7 +199,7 @@ impl<R: Clock + Copy> Patient<R> {
         stage: SharedStage,
     ) -> Result<Patient<R>, AllocError> {
         Ok(Patient {
-            socket,
+            socket: Paced::new(socket, CLIENT_TURN),
             limits,
             stage,
             coming: Patience::new(rt, timers.clone()?),
@@ -165,12 +214,9 @@ impl<R: Clock + Drop> Patient<R> {
         ensures { self.new.socket ≡ self.old.socket }
     {
         match self.stage.get() {
-            Stage::Head => {}
-            Stage::Idle => {
-                self.stage.set(Stage::Head);
-                self.coming.begin_anew();
-            }
-            Stage::Content | Stage::Asked => self.coming.begin_anew(),
+            Stage::Head | Stage::Content => {}
+            Stage::Idle => self.stage.set(Stage::Head),
+            Stage::Asked => self.coming.begin_anew(),
         }
     }
 
@@ -179,6 +225,9 @@ impl<R: Clock + Drop> Patient<R> {
         ensures socket { self.new.socket ≡ self.old.socket }
         ensures kept { Keeps cx.old cx.new }
     {
+        if self.stage.take_anew() {
+            self.coming.begin_anew();
+        }
         if self.going.is_waiting() {
             return false;
         }
@@ -196,7 +245,7 @@ impl<R: Clock + Drop> Patient<R> {
 }
 
 impl<R: Clock + Drop> AsyncRead for Patient<R> {
-    ghost needs = { λ p source. source ≡ stream_readable p.socket };
+    ghost needs = { λ p source. source ≡ stream_readable p.socket.socket };
 
     ghost reads = { λ _ _ _. ⊤ };
 
@@ -223,7 +272,7 @@ impl<R: Clock + Drop> AsyncRead for Patient<R> {
 }
 
 impl<R: Clock + Drop> AsyncWrite for Patient<R> {
-    ghost needs = { λ p source. source ≡ stream_writable p.socket };
+    ghost needs = { λ p source. source ≡ stream_writable p.socket.socket };
 
     ghost writes = { λ _ _ _. ⊤ };
 
@@ -234,11 +283,13 @@ impl<R: Clock + Drop> AsyncWrite for Patient<R> {
     fn poll_write(&mut self, cx: &mut Context<'_>, buf: &[u8]) -> Poll<io::Result<usize>> {
         match AsyncWrite::poll_write(&mut self.socket, cx, buf) {
             Poll::Ready(put) => {
+                self.stage.set_sending(false);
                 self.going.begin_anew();
                 self.coming.begin_anew();
                 Poll::Ready(put)
             }
             Poll::Pending => {
+                self.stage.set_sending(true);
                 if self.going.is_over(self.limits.taking, cx) {
                     return Poll::Ready(Err(io::Error::from(ErrorKind::TimedOut)));
                 }

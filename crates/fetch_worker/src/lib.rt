@@ -1,7 +1,7 @@
-//! A worker that answers a list of fetch jobs one at a time. `serve` doesn't run it: its fetches overlap (hyper_cache,
+//! A worker that answers a list of fetch jobs one at a time. `serve` doesn't run it: its fetches overlap (http_fetches,
 //! cache_serve). The worker takes jobs from a channel, fetches while holding no lock, and submits each result to its clerk.
-//! Contracts see, of a clerk whose node is known, that each job is answered by one result, the outcome of its fetch or a failure,
-//! and that the actions of that result which are not sends are passed on in order.
+//! Contracts see, as far as the clerk tells of its node, its seat and what was passed on, that each job is answered by one result,
+//! the outcome of its fetch or a failure, and that the actions of that result which are not sends are passed on in order.
 //! Tested by: crates/test_workers, must-fail edits.
 #![tactic(auto)]
 

@@ -1,6 +1,5 @@
 //! The loop of a worker.
-ghost use Rattle.std.specs.Prelude.{◌≡◌, ◌≤◌, ◌+◌, ◌++◌, ◌∷◌, [], List, Option, OnOk, OnErr, filter};
-ghost use Rattle.std.specs.Option.{option_map};
+ghost use Rattle.std.specs.Prelude.{◌≡◌, ◌≤◌, ◌+◌, ◌++◌, ◌∷◌, [], List, OnOk, OnErr, filter};
 ghost use Rattle.plain_node.specs.declared.action.Action.{Action};
 ghost use Rattle.plain_node.specs.Memory.{is_no_send};
 ghost use Rattle.node_book.specs.Told.{Told, passing};
@@ -28,7 +27,7 @@ pub fn work<R: Wait + Clock, F: Fetcher, G: Gate, C: Clerk>(
     clerk: &mut C,
 ) -> Result<(), WorkFault>
     ensures all { OnOk result ((answered : List Action) × AnswersJobs (C.told clerk.old) (C.told clerk.new) answered) }
-    ensures some { OnErr result ((answered : List Action) × (between : Option Told) × AnswersJobs (C.told clerk.old) between answered ×
+    ensures some { OnErr result ((answered : List Action) × (between : Told) × AnswersJobs (C.told clerk.old) between answered ×
         Stops between (C.told clerk.new)) }
 {
     let mut out = Out::new(alloc)?;
@@ -105,9 +104,9 @@ fn shared(alloc: Global, object: Object) -> Outcome {
 
 /// Passes on the actions that are not sends, in order. Errors: allocation failure; a prefix of them was passed on.
 fn pass_on<C: Clerk>(alloc: Global, clerk: &mut C, actions: &[Action]) -> Result<(), NoMemory>
-    ensures all { OnOk result (C.told clerk.new ≡ option_map (passing (filter is_no_send actions.now)) (C.told clerk.old)) }
+    ensures all { OnOk result (C.told clerk.new ≡ passing (filter is_no_send actions.now) (C.told clerk.old)) }
     ensures some { OnErr result ((done : List Action) × (left : List Action) × (filter is_no_send actions.now ≡ done ++ left) ×
-        (C.told clerk.new ≡ option_map (passing done) (C.told clerk.old))) }
+        (C.told clerk.new ≡ passing done (C.told clerk.old))) }
     ensures same { C.taken clerk.new ≡ C.taken clerk.old }
 {
     for action in actions {
@@ -118,7 +117,7 @@ fn pass_on<C: Clerk>(alloc: Global, clerk: &mut C, actions: &[Action]) -> Result
 
 /// Passes an action on unless it is a send.
 fn pass_one<C: Clerk>(alloc: Global, clerk: &mut C, action: &Action) -> Result<(), NoMemory>
-    ensures done { OnOk result (C.told clerk.new ≡ option_map (passing (filter is_no_send (action.now ∷ []))) (C.told clerk.old)) }
+    ensures done { OnOk result (C.told clerk.new ≡ passing (filter is_no_send (action.now ∷ [])) (C.told clerk.old)) }
     ensures refused { OnErr result (C.told clerk.new ≡ C.told clerk.old) }
     ensures same { C.taken clerk.new ≡ C.taken clerk.old }
 {

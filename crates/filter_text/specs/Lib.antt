@@ -1,1 +1,3 @@
+pub mod Ethernet
 pub mod FilterText
+pub mod Shown

@@ -1,4 +1,6 @@
 //! Why a text is not a valid filter program.
+ghost use Rattle.std.specs.Prelude.{◌≡◌};
+ghost use Rattle.filter_text.specs.Shown.{is_want_of_memory};
 
 use bpf_asm::AsmFault;
 use bpf_check::{CheckFault, ListingFault};
@@ -18,7 +20,9 @@ pub enum ProgramFault {
 
 impl ProgramFault {
     /// Whether memory ran out, so that the text itself may be valid.
-    pub fn is_want_of_memory(&self) -> bool {
+    pub fn is_want_of_memory(&self) -> bool
+        ensures { result ≡ is_want_of_memory self.now }
+    {
         match self {
             ProgramFault::Listing(fault) => matches!(fault, ListingFault::NoMemory),
             ProgramFault::Assembler(fault) => matches!(fault, AsmFault::NoMemory),
@@ -28,15 +32,26 @@ impl ProgramFault {
 }
 
 impl fmt::Display for ProgramFault {
+    ghost use Rattle.std.specs.Prelude.{Some};
+    ghost use Rattle.filter_text.specs.Shown.{fault_text};
+
+    ghost output = { λ f. Some (fault_text f) };
+
     fn fmt<W: fmt::Write>(&self, f: &mut fmt::Formatter<W>) -> fmt::Result {
         match self {
             ProgramFault::Listing(fault) => {
                 write!(f, "listing fault {}", fault.number())?;
-                write_line(f, fault.line())
+                match fault.line() {
+                    Some(line) => write!(f, " line {line}"),
+                    None => Ok(()),
+                }
             }
             ProgramFault::Assembler(fault) => {
                 write!(f, "assembler fault {}", fault.number())?;
-                write_line(f, fault.line())
+                match fault.line() {
+                    Some(line) => write!(f, " line {line}"),
+                    None => Ok(()),
+                }
             }
             ProgramFault::Check(fault) => {
                 write!(f, "check fault {}", fault.number())?;
@@ -46,12 +61,5 @@ impl fmt::Display for ProgramFault {
                 }
             }
         }
-    }
-}
-
-fn write_line<W: fmt::Write>(f: &mut fmt::Formatter<W>, line: Option<usize>) -> fmt::Result {
-    match line {
-        Some(line) => write!(f, " line {line}"),
-        None => Ok(()),
     }
 }

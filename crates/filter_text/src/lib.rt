@@ -2,15 +2,18 @@
 //! text begins with a digit. It also writes accepted programs as text.
 //!
 //! Contracts see a text as the list of its octets and a program as the list of its instructions; `specs/FilterText.antt`
-//! combines the definitions of bpf_check and bpf_asm.
+//! combines the definitions of bpf_check and bpf_asm, `specs/Shown.antt` says what is printed, and `specs/Ethernet.antt` which programs
+//! are for Ethernet frames.
 //!
 //! Tested by: the script cases in cases/check, the tests over loopback, must-fail edits (more-edits/).
 #![tactic(auto)]
 
+mod ethernet;
 mod fault;
 mod reading;
 mod showing;
 
+pub use ethernet::is_for_ethernet;
 pub use fault::ProgramFault;
 pub use reading::read_program;
 pub use showing::{accepted_text, script_text};

@@ -1,10 +1,10 @@
 -- The first list element of a text, and those after it.
-use Rattle.std.proofs.Common.{◌≡◌, ℕ, suc, ◌+◌, ◌<◌, ◌≤◌, List, [], ◌∷◌, ◌++◌, length, map, find, flat_map, take, drop, bytes_eq, Bool, true, false, cond, Some, None, option_map, refl, sym, ap, ◌∙◌, arith, add-one}
+use Rattle.std.proofs.Common.{◌≡◌, ℕ, suc, ◌+◌, ◌<◌, ◌≤◌, List, [], ◌∷◌, ◌++◌, length, find, take, drop, bytes_eq, Bool, true, false, cond, Option, Some, None, option_map, refl, ap, arith, add-one}
 use Rattle.std.specs.Option.{option_or}
 use Rattle.http_rules.specs.declared.directives.Place.{Place}
 use Rattle.http_rules.specs.declared.directives.Place.TheVariants.{Plain}
-use Rattle.http_rules.specs.Directives.{place_after, is_separator, onto_first, elements_from, directive_of, directives_in, first_argument}
-use Rattle.http_rules.specs.Elements.{element_len, argument_among}
+use Rattle.http_rules.specs.Directives.{place_after, is_separator, onto_first, elements_from, directive_of, first_argument}
+use Rattle.http_rules.specs.Elements.{element_len, elements_left, directives_left}
 
 -- a text with a comma after its first element: that element, then those after the comma
 abbrev Before : Place → List ℕ → Type 0
@@ -36,14 +36,12 @@ elements_whole place (c ∷ cs) = by (is_separator place c) (elements_whole (pla
     by true ih k = absurd (omega arith)
     by false ih k = ap (onto_first c) (ih (omega arith))
 
-pub directives_before : (text : List ℕ) (n : ℕ) → n ≡ element_len Plain text → n < length text
-    → directives_in text ≡ directive_of (take n text) ∷ directives_in (drop (n + 1) text)
-directives_before text n e h =
-    rw (add-one n) (rw e (ap (map directive_of) (elements_before Plain text (rw e at h))))
+pub first_element : (text : List ℕ) (n : ℕ) → n ≡ element_len Plain text → n < length text
+    → elements_from Plain text ≡ take n text ∷ elements_from Plain (drop (n + 1) text)
+first_element text n e h = rw (add-one n) (rw e (elements_before Plain text (rw e at h)))
 
-pub directives_whole : (text : List ℕ) (n : ℕ) → n ≡ element_len Plain text → length text ≤ n
-    → directives_in text ≡ directive_of text ∷ []
-directives_whole text n e h = ap (map directive_of) (elements_whole Plain text (rw e at h))
+pub only_element : (text : List ℕ) (n : ℕ) → n ≡ element_len Plain text → length text ≤ n → elements_from Plain text ≡ text ∷ []
+only_element text n e h = elements_whole Plain text (rw e at h)
 
 -- the first directive has the name, or the search continues
 pub first_argument-cons : (name : List ℕ) (d : List ℕ × List ℕ) (ds : List (List ℕ × List ℕ))
@@ -55,20 +53,7 @@ first_argument-cons name d ds = by (bytes_eq d.0 name)
     by true = refl
     by false = refl
 
-first_argument-append : (name : List ℕ) (xs ys : List (List ℕ × List ℕ))
-    → first_argument name (xs ++ ys) ≡ option_or (first_argument name xs) (first_argument name ys)
-first_argument-append name [] ys = refl
-first_argument-append name (d ∷ ds) ys = by (bytes_eq d.0 name) (first_argument-append name ds ys)
-  where
-    by : (b : Bool) → first_argument name (ds ++ ys) ≡ option_or (first_argument name ds) (first_argument name ys)
-        → option_map (λ (x : List ℕ × List ℕ). x.1) (cond b (Some d) (find (λ (x : List ℕ × List ℕ). bytes_eq x.0 name) (ds ++ ys)))
-        ≡ option_or (option_map (λ (x : List ℕ × List ℕ). x.1) (cond b (Some d) (find (λ (x : List ℕ × List ℕ). bytes_eq x.0 name) ds))) (first_argument name ys)
-    by true ih = refl
-    by false ih = ih
-
--- searching the values in order finds the first of all directives
-pub argument_among-whole : (name : List ℕ) (values : List (List ℕ)) → argument_among name values ≡ first_argument name (flat_map directives_in values)
-argument_among-whole name [] = refl
-argument_among-whole name (v ∷ vs) =
-    ap (option_or (first_argument name (directives_in v))) (argument_among-whole name vs)
-    ∙ sym (first_argument-append name (directives_in v) (flat_map directives_in vs))
+-- the directives of a text are that of its first element, and those after it
+pub next_directive : (text element : List ℕ) (others : Option (List ℕ)) (rest : List (List ℕ × List ℕ)) → elements_from Plain text ≡ element ∷ elements_left others
+    → (directives_left (Some text) ++ rest) ≡ directive_of element ∷ (directives_left others ++ rest)
+next_directive text element others rest e = rw e refl

@@ -1,7 +1,7 @@
 -- Which fields are hop-by-hop and not forwarded: Connection, the fields that it names, and the other known hop-by-hop fields
 -- (RFC 9110, section 7.6.1), among them those that authenticate to one proxy (RFC 9110, section 11.7).
 -- 44 is a comma.
-use Rattle.std.specs.Prelude.{ℕ, List, [], ◌∷◌, codes, bytes_eq, filter, not, ◌==◌, ◌||◌, Bool}
+use Rattle.std.specs.Prelude.{ℕ, List, [], ◌∷◌, codes, bytes_eq, filter, flat_map, map, length, not, ◌==◌, ◌||◌, Bool}
 use Rattle.std.specs.List.{list_any, slice_split}
 use Rattle.http_header.specs.Token.{lowercase}
 use Rattle.http_rules.specs.Fields.{Field, values_of}
@@ -14,19 +14,21 @@ always_removed =
     ∷ codes "proxy-authorization" ∷ codes "proxy-connection" ∷ codes "te" ∷ codes "trailer" ∷ codes "transfer-encoding"
     ∷ codes "upgrade" ∷ []
 
--- whether a list element of a Connection value is this name, ignoring case and surrounding white space
-abbrev pub is_part : List ℕ → List ℕ → Bool
-is_part name part = bytes_eq (lowercase (trimmed part)) name
+-- a list element in lower case, without surrounding white space
+abbrev pub option_of : List ℕ → List ℕ
+option_of part = lowercase (trimmed part)
 
--- whether a Connection value names this field
-abbrev pub names : List ℕ → List ℕ → Bool
-names name value = list_any (is_part name) (slice_split (λ c. c == 44) value)
+-- the options of one Connection value: its list elements, of which empty ones do not count (RFC 9110, section 5.6.1.2)
+abbrev pub options_in : List ℕ → List (List ℕ)
+options_in value = filter (λ option. not (length option == 0)) (map option_of (slice_split (λ c. c == 44) value))
+
+-- the options of all Connection fields of a head
+abbrev pub options : List Field → List (List ℕ)
+options fields = flat_map options_in (values_of (codes "connection") fields)
 
 -- whether fields with this name are not forwarded
 abbrev pub is_hop_by_hop : List Field → List ℕ → Bool
-is_hop_by_hop fields name =
-    list_any (bytes_eq name) always_removed
-    || list_any (names name) (values_of (codes "connection") fields)
+is_hop_by_hop fields name = list_any (bytes_eq name) always_removed || list_any (bytes_eq name) (options fields)
 
 -- the fields that are forwarded
 abbrev pub end_to_end : List Field → List Field

@@ -1,8 +1,13 @@
 pub mod Administrator
+pub mod Authorization
 pub mod Directives
 pub mod Elements
 pub mod Fields
 pub mod Forwarding
+pub mod Framing
+pub mod Loops
+pub mod Options
+pub mod Origins
 pub mod Requests
 pub mod Responses
 pub mod Targets

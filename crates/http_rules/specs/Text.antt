@@ -1,7 +1,7 @@
 -- Text helpers and delta-seconds (RFC 9111, section 1.2.2).
 -- 34 is a double quote, 48 the digit 0.
-use Rattle.std.specs.Prelude.{ℕ, ◌+◌, ◌-◌, ◌*◌, List, [], ◌∷◌, length, take, drop, min, slice_index, slice_range, nat_le, ◌==◌, not, Bool, ◌&&◌, Option, Some, None, if◌then◌else◌}
-use Rattle.std.specs.List.{prefix_len, suffix_len, list_all}
+use Rattle.std.specs.Prelude.{ℕ, ◌-◌, List, length, take, drop, min, slice_index, slice_range, nat_le, ◌==◌, ◌&&◌, Option, Some, None, if◌then◌else◌}
+use Rattle.std.specs.List.{prefix_len, suffix_len}
 use Rattle.std.specs.Char.{is_ascii_whitespace}
 use Rattle.wire_octets.specs.Decimal.{is_numeral, value_after}
 

@@ -1,13 +1,14 @@
 //! The directives of Cache-Control fields (RFC 9111, section 5.2).
-ghost use Rattle.std.specs.Prelude.{◌≡◌, ◌≤◌, ◌∷◌, [], length, codes, IfSome};
-ghost use Rattle.std.specs.Option.{option_copied};
-ghost use Rattle.std.specs.List.{position_or_len, list_any};
+ghost use Rattle.std.specs.Prelude.{◌≡◌, ◌==◌, ◌≤◌, ◌∷◌, ◌++◌, [], ◌||◌, List, ℕ, false, length, bytes_eq, option_map, IfSome};
+ghost use Rattle.std.specs.Option.{option_copied, option_or};
+ghost use Rattle.std.specs.List.{position_or_len};
 ghost use Rattle.http_header.specs.Token.{lowercase};
-ghost use Rattle.http_rules.specs.Fields.{fields_of, values_of};
-ghost use Rattle.http_rules.specs.Directives.{place_after, is_separator, ends_name, directive_of, directives_in, first_argument, argument, asks, argument_seconds, place_behind, is_quoted, is_unclosed, has_unclosed};
-ghost use Rattle.http_rules.specs.Elements.{element_len, directives_left, octets_left, argument_among};
+ghost use Rattle.http_rules.specs.Fields.{fields_of};
+ghost use Rattle.http_rules.specs.Directives.{place_after, is_separator, ends_name, directive_of, directives_in, elements_from, first_argument, argument_seconds, is_quoted, is_unclosed};
+ghost use Rattle.http_rules.specs.Elements.{element_len, elements_left, octets_left, Completes, Finds};
+ghost use Rattle.http_rules.specs.Loops.{is_blank};
 
-use crate::fields;
+use crate::fields::values_of;
 use crate::seconds::{seconds, unquoted};
 use crate::text::{is_name, trimmed};
 use http_header::HeaderMap;
@@ -25,7 +26,7 @@ pub(crate) enum Place {
 
 impl Place {
     /// The state after this octet.
-    fn after(self, octet: u8) -> Place
+    pub(crate) fn after(self, octet: u8) -> Place
         ensures { result ≡ place_after self octet }
     {
         match self {
@@ -51,6 +52,16 @@ impl Place {
     {
         match self {
             Place::Plain => octet == b',',
+            Place::Quoted | Place::Escaped => false,
+        }
+    }
+
+    /// Whether this octet, read in this state, is a space or a tab outside double quotes.
+    pub(crate) fn is_blank(self, octet: u8) -> bool
+        ensures { result ≡ is_blank self octet }
+    {
+        match self {
+            Place::Plain => octet == b' ' || octet == b'\t',
             Place::Quoted | Place::Escaped => false,
         }
     }
@@ -92,9 +103,9 @@ fn element_len(text: &[u8]) -> usize
     text.len()
 }
 
-// Splits off the first list element; the rest, after the comma, is `None` if there is no comma.
-fn split_element(text: &[u8]) -> (&[u8], Option<&[u8]>)
-    ensures value { directives_in text.now ≡ directive_of result.0.now ∷ directives_left (option_copied result.1) }
+/// Splits off the first list element; the rest, after the comma, is `None` if there is no comma.
+pub(crate) fn split_element(text: &[u8]) -> (&[u8], Option<&[u8]>)
+    ensures value { elements_from Place.Plain text.now ≡ result.0.now ∷ elements_left (option_copied result.1) }
     ensures less { octets_left (option_copied result.1) ≤ length text.now }
 {
     let end = element_len(text);
@@ -126,64 +137,144 @@ fn name_len(text: &[u8]) -> usize
     text.len()
 }
 
-// The argument of an element, if it is the directive with this name.
-fn argument_of<'a>(element: &'a [u8], name: &str) -> Option<&'a [u8]>
-    requires { lowercase name.now ≡ name.now }
-    ensures { option_copied result ≡ first_argument name.now (directive_of element.now ∷ []) }
+/// The directives of the Cache-Control fields of a head that the rules ask for.
+#[derive(Clone, Copy, Debug)]
+pub(crate) struct Directives {
+    /// Whether there is `only-if-cached`.
+    pub(crate) only_if_cached: bool,
+    /// Whether there is `no-cache`.
+    pub(crate) no_cache: bool,
+    /// Whether there is `no-store`.
+    pub(crate) no_store: bool,
+    /// Whether there is `private`.
+    pub(crate) private: bool,
+    /// The seconds of the first `s-maxage`, `Some(None)` if its argument is no number.
+    pub(crate) s_maxage: Option<Option<u32>>,
+    /// The seconds of the first `max-age`, `Some(None)` if its argument is no number.
+    pub(crate) max_age: Option<Option<u32>>,
+    /// Whether some value has an unclosed double quote, so that directives after the quote cannot be recognized.
+    pub(crate) unclosed: bool,
+}
+
+impl Directives {
+    /// The directives of all Cache-Control fields of a head, each of which is read once.
+    pub(crate) fn of(head: &HeaderMap) -> Directives
+        ensures { Finds result (fields_of head.now) }
+    {
+        let mut found = Directives::none();
+        for value in values_of(head, "cache-control") {
+            found = found.and_value(value.as_bytes());
+        }
+        found
+    }
+
+    // No directives.
+    fn none() -> Directives
+        ensures open { result.unclosed ≡ false }
+        ensures found { (whole : List (List ℕ × List ℕ)) → Completes result whole whole }
+    {
+        Directives {
+            only_if_cached: false,
+            no_cache: false,
+            no_store: false,
+            private: false,
+            s_maxage: None,
+            max_age: None,
+            unclosed: false,
+        }
+    }
+
+    // These directives and, after them, those of one more value.
+    fn and_value(self, value: &[u8]) -> Directives
+        ensures open { result.unclosed ≡ (self.unclosed || is_unclosed value.now) }
+        ensures found { (rest whole : List (List ℕ × List ℕ)) → Completes self (directives_in value.now ++ rest) whole → Completes result rest whole }
+    {
+        let read = self.and_directives(value);
+        Directives {
+            unclosed: self.unclosed || is_unclosed(value),
+            ..read
+        }
+    }
+
+    // These directives and, after them, those of one more value, whose quotes are not looked at.
+    fn and_directives(self, value: &[u8]) -> Directives
+        ensures { (rest whole : List (List ℕ × List ℕ)) → Completes self (directives_in value.now ++ rest) whole → Completes result rest whole }
+    {
+        let mut found = self;
+        let mut rest = Some(value);
+        while let Some(text) = rest {
+            let (element, others) = split_element(text);
+            found = found.and_element(element);
+            rest = others;
+        }
+        found
+    }
+
+    // These directives and, after them, that of one more list element.
+    fn and_element(self, element: &[u8]) -> Directives
+        ensures { (rest whole : List (List ℕ × List ℕ)) → Completes self (directive_of element.now ∷ rest) whole → Completes result rest whole }
+    {
+        let (name, argument) = split_directive(element);
+        if !is_asked_for(name.len()) {
+            return self;
+        }
+        let only_if_cached = or_named(self.only_if_cached, name, b"only-if-cached");
+        let no_cache = or_named(self.no_cache, name, b"no-cache");
+        let no_store = or_named(self.no_store, name, b"no-store");
+        let private = or_named(self.private, name, b"private");
+        let s_maxage = or_seconds(self.s_maxage, name, argument, b"s-maxage");
+        let max_age = or_seconds(self.max_age, name, argument, b"max-age");
+        Directives {
+            only_if_cached,
+            no_cache,
+            no_store,
+            private,
+            s_maxage,
+            max_age,
+            unclosed: self.unclosed,
+        }
+    }
+}
+
+// Whether some directive that the rules ask for has a name of this length.
+fn is_asked_for(length: usize) -> bool
+    ensures { result ≡ ((length == 7) || ((length == 8) || (length == 14))) }
+{
+    length == 7 || (length == 8 || length == 14)
+}
+
+// The name of the directive in a list element, and its argument.
+fn split_directive(element: &[u8]) -> (&[u8], &[u8])
+    ensures { directive_of element.now ≡ (lowercase result.0.now, result.1.now) }
 {
     let text = trimmed(element);
     let end = name_len(text);
-    if is_name(&text[..end], name.as_bytes()) {
-        Some(&text[end..])
+    (&text[..end], &text[end..])
+}
+
+// Whether a directive was found before, or this name is its name `word`. `word` is in lower case.
+fn or_named(found: bool, name: &[u8], word: &[u8]) -> bool
+    requires { lowercase word.now ≡ word.now }
+    ensures { result ≡ (found || bytes_eq (lowercase name.now) word.now) }
+{
+    found || is_name(name, word)
+}
+
+// The seconds that were found before, or else those of this argument if its directive's name is `word`. `word` is in lower case.
+fn or_seconds(
+    found: Option<Option<u32>>,
+    name: &[u8],
+    argument: &[u8],
+    word: &[u8],
+) -> Option<Option<u32>>
+    requires { lowercase word.now ≡ word.now }
+    ensures { result ≡ option_or found (option_map argument_seconds (first_argument word.now ((lowercase name.now, argument.now) ∷ []))) }
+{
+    if found.is_none() && is_name(name, word) {
+        Some(argument_seconds(argument))
     } else {
-        None
+        found
     }
-}
-
-// The argument of the first directive with this name in one field value.
-fn argument_in<'a>(value: &'a [u8], name: &str) -> Option<&'a [u8]>
-    requires { lowercase name.now ≡ name.now }
-    ensures { option_copied result ≡ first_argument name.now (directives_in value.now) }
-{
-    let mut rest = Some(value);
-    while let Some(text) = rest {
-        let (element, others) = split_element(text);
-        if let Some(found) = argument_of(element, name) {
-            return Some(found);
-        }
-        rest = others;
-    }
-    None
-}
-
-// The argument of the first directive with this name in all field values, in order.
-fn search_values<'a>(head: &'a HeaderMap, name: &str) -> Option<&'a [u8]>
-    requires { lowercase name.now ≡ name.now }
-    ensures { option_copied result ≡ argument_among name.now (values_of (codes "cache-control") (fields_of head.now)) }
-{
-    for value in fields::values_of(head, "cache-control") {
-        if let Some(found) = argument_in(value.as_bytes(), name) {
-            return Some(found);
-        }
-    }
-    None
-}
-
-/// The argument of the first Cache-Control directive with this name: everything after the name, with the equals sign. `None` if
-/// there is no such directive. `name` is in lower case.
-pub(crate) fn argument<'a>(head: &'a HeaderMap, name: &str) -> Option<&'a [u8]>
-    requires { lowercase name.now ≡ name.now }
-    ensures { option_copied result ≡ argument name.now (fields_of head.now) }
-{
-    search_values(head, name)
-}
-
-/// Whether there is a Cache-Control directive with this name. `name` is in lower case.
-pub(crate) fn asks(head: &HeaderMap, name: &str) -> bool
-    requires { lowercase name.now ≡ name.now }
-    ensures { result ≡ asks name.now (fields_of head.now) }
-{
-    argument(head, name).is_some()
 }
 
 /// Parses the argument of a directive as seconds: an equals sign and a decimal number, which may be in double quotes.
@@ -195,16 +286,4 @@ pub(crate) fn argument_seconds(argument: &[u8]) -> Option<u32>
         [b'=', text @ ..] => seconds(unquoted(text)),
         _ => None,
     }
-}
-
-/// Whether some Cache-Control value has an unclosed double quote, so that directives after the quote cannot be recognized.
-pub(crate) fn has_unclosed(head: &HeaderMap) -> bool
-    ensures { result ≡ has_unclosed (fields_of head.now) }
-{
-    for value in fields::values_of(head, "cache-control") {
-        if is_unclosed(value.as_bytes()) {
-            return true;
-        }
-    }
-    false
 }

@@ -8,9 +8,14 @@
 
 mod administrator;
 mod age;
+mod authorization;
 mod directives;
 mod fields;
 mod forwarding;
+mod framing;
+mod loops;
+mod options;
+mod origins;
 mod request;
 mod response;
 mod seconds;
@@ -19,7 +24,11 @@ mod text;
 
 pub use administrator::is_administrator;
 pub use age::age_of;
-pub use forwarding::{end_to_end, is_hop_by_hop};
+pub use authorization::is_authorized;
+pub use forwarding::{PassFault, end_to_end};
+pub use framing::tells_end;
+pub use loops::{has_come_back, loop_mark};
+pub use origins::{OriginRules, usual_denials};
 pub use request::classify;
 pub use response::may_store;
 pub use target::{TargetFault, key_of, key_of_url};

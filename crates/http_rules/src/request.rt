@@ -1,9 +1,10 @@
 //! Classification of requests.
-ghost use Rattle.std.specs.Prelude.{◌≡◌};
+ghost use Rattle.std.specs.Prelude.{◌≡◌, ◌||◌};
 ghost use Rattle.http_rules.specs.Fields.{fields_of};
-ghost use Rattle.http_rules.specs.Requests.{mode_of, is_private, may_ask_no_cache};
+ghost use Rattle.http_rules.specs.Elements.{Finds};
+ghost use Rattle.http_rules.specs.Requests.{mode_of, is_private};
 
-use crate::directives::{asks, has_unclosed};
+use crate::directives::Directives;
 use crate::fields::has_field;
 use http_header::HeaderMap;
 use node_core::Mode;
@@ -21,34 +22,36 @@ pub fn classify(method: &str, head: &HeaderMap) -> Result<Mode, u16>
     if method != "GET" {
         return Err(501);
     }
-    if asks(head, "only-if-cached") {
-        return if may_ask_no_cache(head) {
+    let directives = Directives::of(head);
+    if directives.only_if_cached {
+        return if may_ask_no_cache(&directives) {
             Err(504)
         } else {
             Ok(Mode::Cached)
         };
     }
-    Ok(if is_private(head) {
+    Ok(if is_private(head, &directives) {
         Mode::Private
     } else {
         Mode::Shared
     })
 }
 
-// Whether a request has `no-cache`, or may have it behind an unclosed quote.
-fn may_ask_no_cache(head: &HeaderMap) -> bool
-    ensures { result ≡ may_ask_no_cache (fields_of head.now) }
+// Whether a request with these directives has `no-cache`, or may have it behind an unclosed quote.
+fn may_ask_no_cache(directives: &Directives) -> bool
+    ensures { result ≡ (directives.now.no_cache || directives.now.unclosed) }
 {
-    asks(head, "no-cache") || has_unclosed(head)
+    directives.no_cache || directives.unclosed
 }
 
-// Whether a request must be neither answered from the shared store nor stored there.
-fn is_private(head: &HeaderMap) -> bool
+// Whether a request with these directives must be neither answered from the shared store nor stored there.
+fn is_private(head: &HeaderMap, directives: &Directives) -> bool
+    requires { Finds directives.now (fields_of head.now) }
     ensures { result ≡ is_private (fields_of head.now) }
 {
     has_field(head, "authorization")
         || has_field(head, "cookie")
         || has_field(head, "range")
-        || asks(head, "no-store")
-        || may_ask_no_cache(head)
+        || directives.no_store
+        || may_ask_no_cache(directives)
 }

@@ -1,10 +1,11 @@
 //! Whether and for how long a response may be stored.
-ghost use Rattle.std.specs.Prelude.{◌≡◌, ◌≤◌, IfSome};
-ghost use Rattle.http_rules.specs.Fields.{fields_of};
+ghost use Rattle.std.specs.Prelude.{◌≡◌, List};
+ghost use Rattle.http_rules.specs.Fields.{Field, fields_of};
+ghost use Rattle.http_rules.specs.Elements.{Finds};
 ghost use Rattle.http_rules.specs.Responses.{life_of, lifetime, is_forbidden};
 
 use crate::age_of;
-use crate::directives::{argument, argument_seconds, asks, has_unclosed};
+use crate::directives::Directives;
 use crate::fields::has_field;
 use http_header::HeaderMap;
 use node_core::Mode;
@@ -14,10 +15,14 @@ use node_core::Mode;
 pub fn may_store(mode: Mode, status: u16, head: &HeaderMap) -> Option<u32>
     ensures { result ≡ life_of mode status (fields_of head.now) }
 {
-    if mode != Mode::Shared || status != 200 || is_forbidden(head) {
+    if mode != Mode::Shared || status != 200 {
         return None;
     }
-    let seconds = lifetime(head)?;
+    let directives = Directives::of(head);
+    if is_forbidden(head, &directives) {
+        return None;
+    }
+    let seconds = lifetime(&directives)?;
     let age = age_of(head);
     if age < seconds {
         Some(seconds - age)
@@ -26,24 +31,26 @@ pub fn may_store(mode: Mode, status: u16, head: &HeaderMap) -> Option<u32>
     }
 }
 
-// The freshness lifetime of a response in seconds: `s-maxage`, or else `max-age`.
-fn lifetime(head: &HeaderMap) -> Option<u32>
-    ensures { result ≡ lifetime (fields_of head.now) }
+// The freshness lifetime of a response with these directives in seconds: `s-maxage`, or else `max-age`.
+fn lifetime(directives: &Directives) -> Option<u32>
+    ensures { (fields : List Field) → Finds directives.now fields → result ≡ lifetime fields }
 {
-    match argument(head, "s-maxage") {
-        Some(shared) => argument_seconds(shared),
-        None => argument_seconds(argument(head, "max-age")?),
+    match directives.s_maxage {
+        Some(shared) => shared,
+        None => directives.max_age?,
     }
 }
 
-// Whether a shared cache must not store the response, or a directive that forbids it might be hidden by an unclosed quote.
-fn is_forbidden(head: &HeaderMap) -> bool
+// Whether a shared cache must not store a response with these directives, or one that forbids it might be hidden by an unclosed
+// quote.
+fn is_forbidden(head: &HeaderMap, directives: &Directives) -> bool
+    requires { Finds directives.now (fields_of head.now) }
     ensures { result ≡ is_forbidden (fields_of head.now) }
 {
-    asks(head, "no-store")
-        || asks(head, "no-cache")
-        || asks(head, "private")
+    directives.no_store
+        || directives.no_cache
+        || directives.private
         || has_field(head, "vary")
         || has_field(head, "set-cookie")
-        || has_unclosed(head)
+        || directives.unclosed
 }

@@ -11,6 +11,7 @@ ghost use Rattle.icp_packet.specs.View.{shown, shown_body};
 use crate::fault::IcpFault;
 use crate::message::{IcpBody, IcpView, Opcode};
 use byteorder::{BigEndian, ByteOrder};
+use memchr::memchr;
 use wire_octets::split_u16;
 
 /// Header length in octets.
@@ -27,10 +28,7 @@ pub(crate) const VERSION: u8 = 2;
 fn split_url(text: &[u8]) -> Result<(&[u8], &[u8]), IcpFault>
     ensures { MatchResult result (λ x. HasNoZero x.0.now × (text.now ≡ x.0.now ++ 0 ∷ x.1.now)) (λ fault. (fault ≡ IcpFault.Url) × HasNoZero text.now) }
 {
-    let end = text
-        .iter()
-        .position(|octet| *octet == 0)
-        .ok_or(IcpFault::Url)?;
+    let end = memchr(0, text).ok_or(IcpFault::Url)?;
     Ok((&text[..end], &text[end + 1..]))
 }
 

@@ -1,5 +1,5 @@
 -- Turns that follow one another.
-use Rattle.std.proofs.Common.{◌≡◌, ◌<◌, ◌≤◌, ◌⊎◌, inl, inr, ℕ, ◌+◌, ◌*◌, Bool, true, false, not, length, take, drop, map, filter, get_or, option_map, List, [], ◌∷◌, ◌++◌, Option, Some, None, refl, ap, sym, ◌∙◌, subst, append_assoc, append-nil, arith}
+use Rattle.std.proofs.Common.{◌≡◌, ◌<◌, ◌≤◌, ◌⊎◌, inl, inr, ℕ, ◌+◌, ◌*◌, Bool, true, false, not, length, take, drop, map, filter, get_or, List, [], ◌∷◌, ◌++◌, Option, Some, None, refl, ap, sym, ◌∙◌, subst, append_assoc, append-nil, arith}
 use Rattle.std.proofs.lemmas.Bool.Decides.{nat_tests}
 use Rattle.std.proofs.lemmas.List.{map-append, length-append, length-map, take_more, take-append-drop}
 use Rattle.std.proofs.lemmas.List.Elements.{filter-append}
@@ -12,9 +12,11 @@ use Rattle.node_core.specs.State.{State, HasTaken}
 use Rattle.plain_node.specs.Memory.{is_no_send}
 use Rattle.mio_queries.specs.declared.pumped.Pumped.{Pumped}
 use Rattle.mio_queries.specs.declared.traffic.Sending.{Sending}
-use Rattle.node_book.specs.Told.{Told, passing}
+use Rattle.plain_node.specs.Tally.{tally_of}
+use Rattle.node_book.specs.Seats.{Held, claim}
+use Rattle.node_book.specs.Told.{Owned, Told, Takes, Receives, Submits, passing}
 use Rattle.mio_queries.specs.Traffic.{Receipt, came, idled, Traffic, grown}
-use Rattle.mio_queries.specs.Pumping.{event_of, is_datagram, sendings, others, joined, Try, attempted, gone, failures, Serves, HasServed, Runs, Counts, nothing, Carries, Pumps, CountsAll, Makes, LosesWire, AllButLast, Breaks}
+use Rattle.mio_queries.specs.Pumping.{event_of, is_datagram, sendings, others, joined, Try, attempted, gone, failures, NodeServes, AreCredited, SeatServes, HasServed, Runs, Counts, nothing, Carries, Pumps, CountsAll, Makes, LosesWire, AllButLast, Breaks}
 use Rattle.plain_node.specs.Bounds.{most_actions}
 
 -- definitions over a concatenation are those over its parts
@@ -93,12 +95,14 @@ counts-append a b c xs ys s t p q =
 
 -- actions
 
-passing-twice : (a b c : Option Told) (xs ys : List Action) → b ≡ option_map (passing (others xs)) a → c ≡ option_map (passing (others ys)) b → c ≡ option_map (passing (others (xs ++ ys))) a
-passing-twice None b c xs ys p q = q ∙ ap (option_map (passing (others ys))) p
-passing-twice (Some told) b c xs ys p q =
-    q ∙ ap (option_map (passing (others ys))) p ∙ ap (λ (l : List Action). Some (record told { passed = l })) (append_assoc told.passed (others xs) (others ys) ∙ ap (λ (l : List Action). told.passed ++ l) (sym (others-append xs ys)))
+pub passing_none : (told : Told) → told ≡ passing [] told
+passing_none told = ap (λ (l : Option (List Action)). record told { passed = l }) (grown-nil told.passed)
 
-pub carries-append : (a b c : Traffic) (d e f : Option Told) (g h i : Pumped) (xs ys : List Action) → Carries a b d e g h xs → Carries b c e f h i ys → Carries a c d f g i (xs ++ ys)
+passing-twice : (a b c : Told) (xs ys : List Action) → b ≡ passing (others xs) a → c ≡ passing (others ys) b → c ≡ passing (others (xs ++ ys)) a
+passing-twice a b c xs ys p q =
+    q ∙ ap (passing (others ys)) p ∙ ap (λ (l : Option (List Action)). record a { passed = l }) (grown-append a.passed (others xs) (others ys) ∙ ap (λ (l : List Action). grown a.passed l) (sym (others-append xs ys)))
+
+pub carries-append : (a b c : Traffic) (d e f : Told) (g h i : Pumped) (xs ys : List Action) → Carries a b d e g h xs → Carries b c e f h i ys → Carries a c d f g i (xs ++ ys)
 carries-append a b c d e f g h i xs ys p q = record {
   tries = p.tries ++ q.tries;
   sends = sends-twice p.tries q.tries xs ys p.sends q.sends;
@@ -110,12 +114,12 @@ carries-append a b c d e f g h i xs ys p q = record {
 }
 
 -- a prefix with one more
-pub carries-more : (a b c : Traffic) (d e f : Option Told) (g h i : Pumped) (actions : List Action) (action : Action) (n : ℕ) → n < length actions → action ≡ get_or actions n action → Carries a b d e g h (take n actions) → Carries b c e f h i (action ∷ []) → Carries a c d f g i (take (n + 1) actions)
+pub carries-more : (a b c : Traffic) (d e f : Told) (g h i : Pumped) (actions : List Action) (action : Action) (n : ℕ) → n < length actions → action ≡ get_or actions n action → Carries a b d e g h (take n actions) → Carries b c e f h i (action ∷ []) → Carries a c d f g i (take (n + 1) actions)
 carries-more a b c d e f g h i actions action n lt is p q =
     let front : take (n + 1) actions ≡ take n actions ++ action ∷ [] = take_more actions n action lt ∙ ap (λ (x : Action). take n actions ++ x ∷ []) (sym is) in
     rw front (carries-append a b c d e f g h i (take n actions) (action ∷ []) p q)
 
-pub carries-same : (a b c : Traffic) (d e f : Option Told) (g h i : Pumped) (xs : List Action) → Carries a b d e g h xs → Carries b c e f h i [] → Carries a c d f g i xs
+pub carries-same : (a b c : Traffic) (d e f : Told) (g h i : Pumped) (xs : List Action) → Carries a b d e g h xs → Carries b c e f h i [] → Carries a c d f g i xs
 carries-same a b c d e f g h i xs p q =
     let P : List Action → Type 0 = λ l. Carries a c d f g i l in
     subst P (append-nil xs) (carries-append a b c d e f g h i xs [] p q)
@@ -125,33 +129,76 @@ carries-same a b c d e f g h i xs p q =
 taken-none : (state : State) → HasTaken state state [] []
 taken-none state = record { plain = refl; filters = refl; stats = refl; sent = refl }
 
-pub served-none : (told : Option Told) → HasServed told told [] [] []
-served-none None = tt
-served-none (Some told) = record { taken = taken-none told.state; passed = sym (append-nil told.passed); next = omega arith }
+node-none : (node : Option Owned) → NodeServes node node [] []
+node-none None = tt
+node-none (Some owned) = record { taken = taken-none owned.state; next = omega arith }
 
-served-passed : (a b c : Option Told) (events : List Happening) (outs : List (List Action)) (xs ys : List Action) → HasServed a b events outs xs → c ≡ option_map (passing ys) b → HasServed a c events outs (xs ++ ys)
-served-passed None None c events outs xs ys s p = let P : Option Told → Type 0 = λ t. HasServed None t events outs (xs ++ ys) in subst P (sym p) tt
-served-passed None (Some b) c events outs xs ys s p = absurd s
-served-passed (Some a) None c events outs xs ys s p = absurd s
-served-passed (Some a) (Some b) c events outs xs ys s p =
-    let P : Option Told → Type 0 = λ t. HasServed (Some a) t events outs (xs ++ ys) in
-    subst P (sym p) (record { taken = s.taken; passed = ap (λ (l : List Action). l ++ ys) s.passed ∙ append_assoc a.passed xs ys; next = s.next })
+seat-none : (seat : Option Held) → SeatServes seat seat [] []
+seat-none None = tt
+seat-none (Some held) = refl
 
-served-append : Appends → (a b c : Option Told) (events more : List Happening) (outs lists : List (List Action)) (xs ys : List Action) → HasServed a b events outs xs → HasServed b c more lists ys → HasServed a c (events ++ more) (outs ++ lists) (xs ++ ys)
-served-append law None None None events more outs lists xs ys s t = tt
-served-append law None None (Some c) events more outs lists xs ys s t = t
-served-append law None (Some b) c events more outs lists xs ys s t = absurd s
-served-append law (Some a) None c events more outs lists xs ys s t = absurd s
-served-append law (Some a) (Some b) None events more outs lists xs ys s t = t
-served-append law (Some a) (Some b) (Some c) events more outs lists xs ys s t = record {
+pub served-none : (told : Told) → HasServed told told [] [] []
+served-none told = record { node = node-none told.node; seat = seat-none told.seat; passed = grown-nil told.passed }
+
+node-one : (a b : Option Owned) (number : ℕ) (event : Happening) (actions : List Action) → Takes a b number event actions → NodeServes a b (event ∷ []) (actions ∷ [])
+node-one None None number event actions t = tt
+node-one None (Some b) number event actions t = absurd t
+node-one (Some a) None number event actions t = absurd t
+node-one (Some a) (Some b) number event actions t = record { taken = t.taken; next = t.next }
+
+seat-one : (a b : Option Held) (number : ℕ) (event : Happening) (actions : List Action) → Receives a b (claim number event (tally_of actions)) → SeatServes a b (event ∷ []) (actions ∷ [])
+seat-one None None number event actions r = tt
+seat-one None (Some b) number event actions r = absurd r
+seat-one (Some a) None number event actions r = absurd r
+seat-one (Some a) (Some b) number event actions r = (number, b, r, refl)
+
+pub served_one : (a b : Told) (number : ℕ) (event : Happening) (actions : List Action) → Submits a b number event actions → HasServed a b (event ∷ []) (actions ∷ []) []
+served_one a b number event actions s = record {
+  node = node-one a.node b.node number event actions s.node;
+  seat = seat-one a.seat b.seat number event actions s.seat;
+  passed = s.passed ∙ grown-nil a.passed;
+}
+
+served-passed : (a b c : Told) (events : List Happening) (outs : List (List Action)) (xs ys : List Action) → HasServed a b events outs xs → c ≡ passing ys b → HasServed a c events outs (xs ++ ys)
+served-passed a b c events outs xs ys s p =
+    let P : Told → Type 0 = λ t. HasServed a t events outs (xs ++ ys) in
+    subst P (sym p) (record { node = s.node; seat = s.seat; passed = grown-twice a.passed b.passed (grown b.passed ys) xs ys s.passed refl })
+
+node-append : Appends → (a b c : Option Owned) (events more : List Happening) (outs lists : List (List Action)) → NodeServes a b events outs → NodeServes b c more lists → NodeServes a c (events ++ more) (outs ++ lists)
+node-append law None None None events more outs lists s t = tt
+node-append law None None (Some c) events more outs lists s t = t
+node-append law None (Some b) c events more outs lists s t = absurd s
+node-append law (Some a) None c events more outs lists s t = absurd s
+node-append law (Some a) (Some b) None events more outs lists s t = t
+node-append law (Some a) (Some b) (Some c) events more outs lists s t = record {
   taken = law a.state b.state c.state events more outs lists s.taken t.taken;
-  passed = t.passed ∙ ap (λ (l : List Action). l ++ ys) s.passed ∙ append_assoc a.passed xs ys;
   next = omega (arith, s.next, t.next, length-append events more);
+}
+
+credited-append : (a b c : Held) (events more : List Happening) (outs lists : List (List Action)) → AreCredited a b events outs → AreCredited b c more lists → AreCredited a c (events ++ more) (outs ++ lists)
+credited-append a b c [] more [] lists s t = subst (λ (x : Held). AreCredited x c more lists) s t
+credited-append a b c [] more (actions ∷ outs) lists s t = absurd s
+credited-append a b c (event ∷ events) more [] lists s t = absurd s
+credited-append a b c (event ∷ events) more (actions ∷ outs) lists s t = (s.0, s.1, s.2, credited-append s.1 b c events more outs lists s.3 t)
+
+seat-append : (a b c : Option Held) (events more : List Happening) (outs lists : List (List Action)) → SeatServes a b events outs → SeatServes b c more lists → SeatServes a c (events ++ more) (outs ++ lists)
+seat-append None None None events more outs lists s t = tt
+seat-append None None (Some c) events more outs lists s t = t
+seat-append None (Some b) c events more outs lists s t = absurd s
+seat-append (Some a) None c events more outs lists s t = absurd s
+seat-append (Some a) (Some b) None events more outs lists s t = t
+seat-append (Some a) (Some b) (Some c) events more outs lists s t = credited-append a b c events more outs lists s t
+
+served-append : Appends → (a b c : Told) (events more : List Happening) (outs lists : List (List Action)) (xs ys : List Action) → HasServed a b events outs xs → HasServed b c more lists ys → HasServed a c (events ++ more) (outs ++ lists) (xs ++ ys)
+served-append law a b c events more outs lists xs ys s t = record {
+  node = node-append law a.node b.node c.node events more outs lists s.node t.node;
+  seat = seat-append a.seat b.seat c.seat events more outs lists s.seat t.seat;
+  passed = grown-twice a.passed b.passed c.passed xs ys s.passed t.passed;
 }
 
 -- runs
 
-pub runs-append : Appends → (a b c : Traffic) (d e f : Option Told) (r s t : List Receipt) (outs lists : List (List Action)) (xs ys : List Action) (p q : List Try) (n : ℕ) → Runs a b d e r r outs xs p 0 → Runs b c e f s t lists ys q n → Runs a c d f (r ++ s) (r ++ t) (outs ++ lists) (xs ++ ys) (p ++ q) n
+pub runs-append : Appends → (a b c : Traffic) (d e f : Told) (r s t : List Receipt) (outs lists : List (List Action)) (xs ys : List Action) (p q : List Try) (n : ℕ) → Runs a b d e r r outs xs p 0 → Runs b c e f s t lists ys q n → Runs a c d f (r ++ s) (r ++ t) (outs ++ lists) (xs ++ ys) (p ++ q) n
 runs-append law a b c d e f r s t outs lists xs ys p q n first then =
     let none : failures p + 0 ≡ failures p = omega arith in
     record {
@@ -167,7 +214,7 @@ runs-append law a b c d e f r s t outs lists xs ys p q n first then =
     }
 
 -- a run with nothing but a fault of the wire, or none
-runs-none : (old new : Traffic) (told : Option Told) (n : ℕ) → new.received ≡ old.received → new.sent ≡ old.sent → new.faults ≡ plus old.faults n → Runs old new told told [] [] [] [] [] n
+runs-none : (old new : Traffic) (told : Told) (n : ℕ) → new.received ≡ old.received → new.sent ≡ old.sent → new.faults ≡ plus old.faults n → Runs old new told told [] [] [] [] [] n
 runs-none old new told n p q r =
     let none : n ≡ 0 + n = omega arith in
     record {
@@ -193,7 +240,7 @@ tries-few tries actions p few =
     let sent : length (attempted tries) ≡ length (sendings actions) = ap length p in
     omega (arith, same, sent, sendings-few actions, few)
 
-turn-made-of : (old mid new : Traffic) (a b c : Option Told) (from via to : Pumped) (receipt : Receipt) (actions : List Action)
+turn-made-of : (old mid new : Traffic) (a b c : Told) (from via to : Pumped) (receipt : Receipt) (actions : List Action)
     → mid.received ≡ grown old.received (receipt ∷ []) → mid.sent ≡ old.sent → mid.faults ≡ old.faults → Counts from via (receipt ∷ []) []
     → HasServed a b (event_of receipt ∷ []) (actions ∷ []) [] → length actions ≤ most_actions → Carries mid new b c via to actions → Pumps old new a c from to 1
 turn-made-of old mid new a b c from via to receipt actions p q r k s few t =
@@ -214,14 +261,14 @@ turn-made-of old mid new a b c from via to receipt actions p q r k s few t =
       few = tries-few t.tries actions t.sends few;
     }
 
-pub turn-made : (old mid new : Traffic) (a b c : Option Told) (from via to : Pumped) (receipt : Receipt) (actions shown : List Action)
+pub turn-made : (old mid new : Traffic) (a b c : Told) (from via to : Pumped) (receipt : Receipt) (actions shown : List Action)
     → mid.received ≡ grown old.received (receipt ∷ []) → mid.sent ≡ old.sent → mid.faults ≡ old.faults → Counts from via (receipt ∷ []) []
     → HasServed a b (event_of receipt ∷ []) (actions ∷ []) [] → length actions ≤ most_actions → shown ≡ actions → Carries mid new b c via to shown → Pumps old new a c from to 1
 turn-made old mid new a b c from via to receipt actions shown p q r k s few view t =
     let P : List Action → Type 0 = λ l. Carries mid new b c via to l in
     turn-made-of old mid new a b c from via to receipt actions p q r k s few (subst P view t)
 
-turn-broken-of : (old mid new : Traffic) (a b c : Option Told) (from to : Pumped) (receipt : Receipt) (actions : List Action) (n : ℕ)
+turn-broken-of : (old mid new : Traffic) (a b c : Told) (from to : Pumped) (receipt : Receipt) (actions : List Action) (n : ℕ)
     → mid.received ≡ grown old.received (receipt ∷ []) → mid.sent ≡ old.sent → mid.faults ≡ old.faults
     → HasServed a b (event_of receipt ∷ []) (actions ∷ []) [] → Carries mid new b c from to (take n actions) → Breaks old new a c 1
 turn-broken-of old mid new a b c from to receipt actions n p q r s t =
@@ -245,14 +292,14 @@ turn-broken-of old mid new a b c from to receipt actions n p q r s t =
       within = omega arith;
     }
 
-pub turn-broken : (old mid new : Traffic) (a b c : Option Told) (from to : Pumped) (receipt : Receipt) (actions shown : List Action)
+pub turn-broken : (old mid new : Traffic) (a b c : Told) (from to : Pumped) (receipt : Receipt) (actions shown : List Action)
     → mid.received ≡ grown old.received (receipt ∷ []) → mid.sent ≡ old.sent → mid.faults ≡ old.faults
     → HasServed a b (event_of receipt ∷ []) (actions ∷ []) [] → shown ≡ actions → (n : ℕ) × Carries mid new b c from to (take n shown) → Breaks old new a c 1
 turn-broken old mid new a b c from to receipt actions shown p q r s view t =
     let P : List Action → Type 0 = λ l. Carries mid new b c from to (take t.0 l) in
     turn-broken-of old mid new a b c from to receipt actions t.0 p q r s (subst P view t.1)
 
-pub turn-refused : (old new : Traffic) (a b : Option Told) (receipt : Receipt) → new.received ≡ grown old.received (receipt ∷ []) → new.sent ≡ old.sent → new.faults ≡ old.faults → b ≡ a → Breaks old new a b 1
+pub turn-refused : (old new : Traffic) (a b : Told) (receipt : Receipt) → new.received ≡ grown old.received (receipt ∷ []) → new.sent ≡ old.sent → new.faults ≡ old.faults → b ≡ a → Breaks old new a b 1
 turn-refused old new a b receipt p q r s = record {
   receipts = receipt ∷ [];
   taken = [];
@@ -262,7 +309,7 @@ turn-refused old new a b receipt p q r s = record {
   tries = [];
   runs = record {
     received = p;
-    served = let P : Option Told → Type 0 = λ t. HasServed a t [] [] [] in subst P (sym s) (served-none a);
+    served = let P : Told → Type 0 = λ t. HasServed a t [] [] [] in subst P (sym s) (served-none a);
     sends = refl;
     sent = q ∙ grown-nil old.sent;
     counted = r;
@@ -272,7 +319,7 @@ turn-refused old new a b receipt p q r s = record {
   within = omega arith;
 }
 
-pub turn-unreceived : (old new : Traffic) (told : Option Told) → new.received ≡ old.received → new.sent ≡ old.sent → new.faults ≡ old.faults → Breaks old new told told 1
+pub turn-unreceived : (old new : Traffic) (told : Told) → new.received ≡ old.received → new.sent ≡ old.sent → new.faults ≡ old.faults → Breaks old new told told 1
 turn-unreceived old new told p q r = record {
   receipts = [];
   taken = [];
@@ -286,7 +333,7 @@ turn-unreceived old new told p q r = record {
   within = omega arith;
 }
 
-pub turn-lost : (old new : Traffic) (told : Option Told) → new.received ≡ old.received → new.sent ≡ old.sent → new.faults ≡ plus old.faults 1 → LosesWire old new told told 1
+pub turn-lost : (old new : Traffic) (told : Told) → new.received ≡ old.received → new.sent ≡ old.sent → new.faults ≡ plus old.faults 1 → LosesWire old new told told 1
 turn-lost old new told p q r = record {
   receipts = [];
   outs = [];
@@ -297,7 +344,7 @@ turn-lost old new told p q r = record {
 
 -- turns
 
-pub pumps-none : (traffic : Traffic) (told : Option Told) (pumped : Pumped) → Pumps traffic traffic told told pumped pumped 0
+pub pumps-none : (traffic : Traffic) (told : Told) (pumped : Pumped) → Pumps traffic traffic told told pumped pumped 0
 pumps-none traffic told pumped = record {
   receipts = [];
   outs = [];
@@ -308,7 +355,7 @@ pumps-none traffic told pumped = record {
   few = omega arith;
 }
 
-pub broken-none : (traffic : Traffic) (told : Option Told) (turns : ℕ) → Breaks traffic traffic told told turns
+pub broken-none : (traffic : Traffic) (told : Told) (turns : ℕ) → Breaks traffic traffic told told turns
 broken-none traffic told turns = record {
   receipts = [];
   taken = [];
@@ -322,7 +369,7 @@ broken-none traffic told turns = record {
   within = omega arith;
 }
 
-pub pumps-more : Appends → (a b c : Traffic) (d e f : Option Told) (g h i : Pumped) (n : ℕ) → Pumps a b d e g h n → Pumps b c e f h i 1 → Pumps a c d f g i (n + 1)
+pub pumps-more : Appends → (a b c : Traffic) (d e f : Told) (g h i : Pumped) (n : ℕ) → Pumps a b d e g h n → Pumps b c e f h i 1 → Pumps a c d f g i (n + 1)
 pumps-more law a b c d e f g h i n p q = record {
   receipts = p.receipts ++ q.receipts;
   outs = p.outs ++ q.outs;
@@ -336,7 +383,7 @@ pumps-more law a b c d e f g h i n p q = record {
   few = omega (arith, length-append p.tries q.tries, p.few, q.few);
 }
 
-pub pumps-lost : Appends → (a b c : Traffic) (d e f : Option Told) (g h : Pumped) (n turns : ℕ) → n < turns → Pumps a b d e g h n → LosesWire b c e f 1 → LosesWire a c d f turns
+pub pumps-lost : Appends → (a b c : Traffic) (d e f : Told) (g h : Pumped) (n turns : ℕ) → n < turns → Pumps a b d e g h n → LosesWire b c e f 1 → LosesWire a c d f turns
 pumps-lost law a b c d e f g h n turns lt p q = record {
   receipts = p.receipts ++ q.receipts;
   outs = p.outs ++ q.outs;
@@ -352,7 +399,7 @@ but-last-after : (r s t : List Receipt) → AllButLast s t → AllButLast (r ++ 
 but-last-after r s t (inl same) = inl (ap (λ (l : List Receipt). r ++ l) same)
 but-last-after r s t (inr (last, is)) = inr (last, ap (λ (l : List Receipt). r ++ l) is ∙ sym (append_assoc r t (last ∷ [])))
 
-pub pumps-broken : Appends → (a b c : Traffic) (d e f : Option Told) (g h : Pumped) (n turns : ℕ) → n < turns → Pumps a b d e g h n → Breaks b c e f 1 → Breaks a c d f turns
+pub pumps-broken : Appends → (a b c : Traffic) (d e f : Told) (g h : Pumped) (n turns : ℕ) → n < turns → Pumps a b d e g h n → Breaks b c e f 1 → Breaks a c d f turns
 pumps-broken law a b c d e f g h n turns lt p q = record {
   receipts = p.receipts ++ q.receipts;
   taken = p.receipts ++ q.taken;
@@ -376,7 +423,7 @@ filter-both (idled now ∷ receipts) = omega (arith, filter-both receipts)
 plus-small : (n : ℕ) → n < 4294967296 → plus 0 n ≡ n
 plus-small n lt = grind (arith, nat_tests)
 
-pub turns-counted : (old new : Traffic) (before after : Option Told) (pumped : Pumped) (made turns : ℕ) → made ≡ turns → turns < 4294967296 → Pumps old new before after nothing pumped made → pumped.received + pumped.idle ≡ turns
+pub turns-counted : (old new : Traffic) (before after : Told) (pumped : Pumped) (made turns : ℕ) → made ≡ turns → turns < 4294967296 → Pumps old new before after nothing pumped made → pumped.received + pumped.idle ≡ turns
 turns-counted old new before after pumped made turns all lt p =
     let both = filter-both p.receipts in
     let datagrams = p.counts.datagrams ∙ plus-small (length (filter is_datagram p.receipts)) (omega (arith, both, p.made, lt, all)) in
@@ -393,7 +440,7 @@ tries-both tries =
 plus-from-none : (n : ℕ) → n < 18446744073709551615 → plus 0 n ≡ n
 plus-from-none n lt = grind (arith, nat_tests)
 
-counted-exactly : (old new : Traffic) (before after : Option Told) (pumped : Pumped) (turns : ℕ) → turns < 4294967296 → (p : Pumps old new before after nothing pumped turns) → CountsAll pumped p.receipts p.tries
+counted-exactly : (old new : Traffic) (before after : Told) (pumped : Pumped) (turns : ℕ) → turns < 4294967296 → (p : Pumps old new before after nothing pumped turns) → CountsAll pumped p.receipts p.tries
 counted-exactly old new before after pumped turns lt p =
     let both = filter-both p.receipts in
     let tries = tries-both p.tries in
@@ -404,7 +451,7 @@ counted-exactly old new before after pumped turns lt p =
       fails = p.counts.fails ∙ plus-from-none (failures p.tries) (omega (arith, tries, p.few, lt));
     }
 
-pub all-counted : (old new : Traffic) (before after : Option Told) (pumped : Pumped) (made turns : ℕ) → made ≡ turns → turns < 4294967296 → Pumps old new before after nothing pumped made → Makes old new before after pumped turns
+pub all-counted : (old new : Traffic) (before after : Told) (pumped : Pumped) (made turns : ℕ) → made ≡ turns → turns < 4294967296 → Pumps old new before after nothing pumped made → Makes old new before after pumped turns
 all-counted old new before after pumped made turns all lt p =
     let P : ℕ → Type 0 = λ n. Pumps old new before after nothing pumped n in
     let q = subst P all p in

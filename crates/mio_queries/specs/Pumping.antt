@@ -1,6 +1,5 @@
 -- Pumping: submitting what a wire receives to a clerk, and carrying out the actions of its node.
 use Rattle.std.specs.Prelude.{◌≡◌, ◌≤◌, ◌⊎◌, ℕ, ◌+◌, ◌*◌, Bool, true, false, not, length, map, filter, take, List, [], ◌∷◌, ◌++◌, Option, Some, None}
-use Rattle.std.specs.Option.{option_map}
 use Rattle.plain_node.specs.declared.action.Action.{Action}
 use Rattle.plain_node.specs.declared.action.Action.TheVariants.{Send, Fetch, Serve}
 use Rattle.node_core.specs.Counters.{plus}
@@ -9,7 +8,9 @@ use Rattle.node_core.specs.State.{HasTaken}
 use Rattle.plain_node.specs.Memory.{is_no_send}
 use Rattle.mio_queries.specs.declared.pumped.Pumped.{Pumped}
 use Rattle.mio_queries.specs.declared.traffic.Sending.{Sending}
-use Rattle.node_book.specs.Told.{Told, passing}
+use Rattle.plain_node.specs.Tally.{tally_of}
+use Rattle.node_book.specs.Seats.{Held, claim}
+use Rattle.node_book.specs.Told.{Owned, Told, Credits, passing}
 use Rattle.mio_queries.specs.Traffic.{Receipt, came, idled, Traffic, grown}
 use Rattle.plain_node.specs.Bounds.{most_actions}
 
@@ -55,23 +56,43 @@ gone tries = attempted (filter (λ (t : Try). t.went) tries)
 abbrev pub failures : List Try → ℕ
 failures tries = length (filter (λ (t : Try). not t.went) tries)
 
--- a clerk took the events one after another, with one list of actions for each, and was passed these actions
-pub record Serves (old new : Told) (events : List Happening) (outs : List (List Action)) (actions : List Action) : Type 0 where
+-- a node took the events one after another, with one list of actions for each
+pub record Serves (old new : Owned) (events : List Happening) (outs : List (List Action)) : Type 0 where
   pub taken : HasTaken old.state new.state events outs
-  pub passed : new.passed ≡ old.passed ++ actions
   pub next : new.next ≡ old.next + length events
 
--- the same, as far as the node is known: not at all if other threads submit to it
-abbrev pub HasServed : Option Told → Option Told → List Happening → List (List Action) → List Action → Type 0
-HasServed (Some old) (Some new) events outs actions = Serves old new events outs actions
-HasServed (Some old) None events outs actions = ⊥
-HasServed None (Some new) events outs actions = ⊥
-HasServed None None events outs actions = Unit {0}
+-- the same, if the node is told: not if other threads submit to it
+abbrev pub NodeServes : Option Owned → Option Owned → List Happening → List (List Action) → Type 0
+NodeServes (Some old) (Some new) events outs = Serves old new events outs
+NodeServes (Some old) None events outs = ⊥
+NodeServes None (Some new) events outs = ⊥
+NodeServes None None events outs = Unit {0}
+
+-- the events were taken for a seat one after another, with one list of actions for each, and each left its receipt
+abbrev pub AreCredited : Held → Held → List Happening → List (List Action) → Type 0
+AreCredited old new [] [] = new ≡ old
+AreCredited old new [] (actions ∷ outs) = ⊥
+AreCredited old new (event ∷ events) [] = ⊥
+AreCredited old new (event ∷ events) (actions ∷ outs) =
+    (number : ℕ) × (between : Held) × Credits old between (claim number event (tally_of actions)) × AreCredited between new events outs
+
+-- the same, if the seat is told
+abbrev pub SeatServes : Option Held → Option Held → List Happening → List (List Action) → Type 0
+SeatServes (Some old) (Some new) events outs = AreCredited old new events outs
+SeatServes (Some old) None events outs = ⊥
+SeatServes None (Some new) events outs = ⊥
+SeatServes None None events outs = Unit {0}
+
+-- a clerk took the events one after another, with one list of actions for each, and was passed these actions, as far as it tells
+pub record HasServed (old new : Told) (events : List Happening) (outs : List (List Action)) (actions : List Action) : Type 0 where
+  pub node : NodeServes old.node new.node events outs
+  pub seat : SeatServes old.seat new.seat events outs
+  pub passed : new.passed ≡ grown old.passed actions
 
 -- The wire returned the receipts, and the clerk took the events of those in `taken`, with the lists of actions in `outs`. The
 -- actions `done` were carried out, in order: each Send among them was tried once, the wire sent those that it took, and its
 -- number of failures grew by those that failed, and by `faults` besides; each other action was passed on.
-pub record Runs (old new : Traffic) (before after : Option Told) (receipts taken : List Receipt) (outs : List (List Action)) (done : List Action) (tries : List Try) (faults : ℕ) : Type 0 where
+pub record Runs (old new : Traffic) (before after : Told) (receipts taken : List Receipt) (outs : List (List Action)) (done : List Action) (tries : List Try) (faults : ℕ) : Type 0 where
   pub received : new.received ≡ grown old.received receipts
   pub served : HasServed before after (map event_of taken) outs (others done)
   pub sends : attempted tries ≡ sendings done
@@ -91,17 +112,17 @@ nothing = record { received = 0; idle = 0; sent = 0; failed = 0 }
 
 -- these actions were carried out, in order: each Send among them was tried once, the wire sent those that it took, and its number
 -- of failures grew by those that failed; each other action was passed on
-pub record Carries (old new : Traffic) (before after : Option Told) (from to : Pumped) (actions : List Action) : Type 0 where
+pub record Carries (old new : Traffic) (before after : Told) (from to : Pumped) (actions : List Action) : Type 0 where
   pub tries : List Try
   pub sends : attempted tries ≡ sendings actions
   pub received : new.received ≡ old.received
   pub sent : new.sent ≡ grown old.sent (gone tries)
   pub counted : new.faults ≡ plus old.faults (failures tries)
-  pub passed : after ≡ option_map (passing (others actions)) before
+  pub passed : after ≡ passing (others actions) before
   pub counts : Counts from to [] tries
 
 -- this many turns were made: all events were taken and all their actions carried out, with at most 1,344 sends tried per turn
-pub record Pumps (old new : Traffic) (before after : Option Told) (from to : Pumped) (turns : ℕ) : Type 0 where
+pub record Pumps (old new : Traffic) (before after : Told) (from to : Pumped) (turns : ℕ) : Type 0 where
   pub receipts : List Receipt
   pub outs : List (List Action)
   pub tries : List Try
@@ -118,11 +139,11 @@ pub record CountsAll (pumped : Pumped) (receipts : List Receipt) (tries : List T
   pub fails : pumped.failed ≡ failures tries
 
 -- this many turns were made, and everything done in them was counted
-abbrev pub Makes : (old new : Traffic) (before after : Option Told) (pumped : Pumped) (turns : ℕ) → Type 0
+abbrev pub Makes : (old new : Traffic) (before after : Told) (pumped : Pumped) (turns : ℕ) → Type 0
 Makes old new before after pumped turns = (p : Pumps old new before after nothing pumped turns) × CountsAll pumped p.receipts p.tries
 
 -- the wire failed to receive, after fewer turns: all events before were taken and all their actions carried out
-pub record LosesWire (old new : Traffic) (before after : Option Told) (turns : ℕ) : Type 0 where
+pub record LosesWire (old new : Traffic) (before after : Told) (turns : ℕ) : Type 0 where
   pub receipts : List Receipt
   pub outs : List (List Action)
   pub tries : List Try
@@ -134,7 +155,7 @@ abbrev pub AllButLast : List Receipt → List Receipt → Type 0
 AllButLast receipts taken = (receipts ≡ taken) ⊎ ((last : Receipt) × (receipts ≡ taken ++ last ∷ []))
 
 -- pumping ended early: a prefix of the actions of the events taken was carried out
-pub record Breaks (old new : Traffic) (before after : Option Told) (turns : ℕ) : Type 0 where
+pub record Breaks (old new : Traffic) (before after : Told) (turns : ℕ) : Type 0 where
   pub receipts : List Receipt
   pub taken : List Receipt
   pub outs : List (List Action)

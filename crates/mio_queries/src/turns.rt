@@ -157,6 +157,7 @@ fn submit_datagram<C: Clerk>(
 }
 
 /// Submits a judged datagram.
+#[tactic(auto, using(crate::proofs::PumpLemmas::served_one))]
 fn submit_judged<C: Clerk>(
     alloc: Global,
     clerk: &mut C,
@@ -173,6 +174,7 @@ fn submit_judged<C: Clerk>(
 }
 
 /// Submits a timer event.
+#[tactic(auto, using(crate::proofs::PumpLemmas::served_one))]
 fn submit_tick<C: Clerk>(
     alloc: Global,
     clerk: &mut C,

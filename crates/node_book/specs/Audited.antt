@@ -1,5 +1,5 @@
 -- Comparing some receipts of one seat with the book while the desk is open.
-use Rattle.std.specs.Prelude.{◌≡◌, ℕ, ◌<◌, ◌≤◌, nat_lt, true, List, take, drop, Option, Some, None, slice_get}
+use Rattle.std.specs.Prelude.{◌≡◌, ◌⊎◌, ℕ, ◌<◌, ◌≤◌, nat_lt, true, List, take, drop, Option, Some, None, slice_get}
 use Rattle.std.specs.List.{list_all}
 use Rattle.node_book.specs.Book.{Book}
 use Rattle.node_book.specs.Seats.{Claim, Held}
@@ -27,6 +27,10 @@ IsAstray b receipts n = (j : ℕ) × (j < 16) × IsAstrayAt b receipts j n
 abbrev pub after_audit : Held → Option ℕ → Held
 after_audit seat None = record seat { receipts = drop 16 seat.receipts }
 after_audit seat (Some n) = seat
+
+-- the seat is as before, or an audit that found nothing has let go of its oldest 16 receipts
+abbrev pub IsAudited : Held → Held → Type 0
+IsAudited old new = (new ≡ old) ⊎ (new ≡ after_audit old None)
 
 -- an audit by the book b: its result is the lowest number of a compared receipt that doesn't agree
 pub record Audits (old new : Held) (b : Book) (found : Option ℕ) : Type 0 where

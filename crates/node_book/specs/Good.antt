@@ -1,7 +1,9 @@
 -- When a receipt is good, and the lowest number of one that is not.
 use Rattle.std.specs.Prelude.{◌≡◌, ℕ, ◌-◌, ◌<◌, ◌≤◌, ◌==◌, nat_le, nat_lt, true, List, length, take, Option, Some, None, min, slice_get, count_by, sum_by}
 use Rattle.std.specs.List.{list_all}
-use Rattle.node_book.specs.Book.{Book, count_of}
+use Rattle.plain_node.specs.declared.action.Action.{Action}
+use Rattle.plain_node.specs.Tally.{tally_of}
+use Rattle.node_book.specs.Book.{Book, count_of, events_of, outs_of}
 use Rattle.node_book.specs.Seats.{Claim, Held}
 
 -- the number of kept receipts with number n
@@ -52,6 +54,23 @@ AreAllGood b seats = (i : ℕ) (seat : Held) → slice_get seats i ≡ Some seat
 -- no seat has dropped a receipt: each keeps one for every event taken for it
 abbrev pub AreAllKept : List Held → Type 0
 AreAllKept seats = (i : ℕ) (seat : Held) → slice_get seats i ≡ Some seat → length seat.receipts ≡ seat.share
+
+-- later receipts of a seat have higher numbers
+abbrev pub AreRising : List Claim → Type 0
+AreRising receipts =
+    (i j : ℕ) (earlier later : Claim) → i < j → slice_get receipts i ≡ Some earlier → slice_get receipts j ≡ Some later → earlier.number < later.number
+
+-- when one thread replays a book that was never turned, its event at the receipt's number is the receipt's event, and the receipt's
+-- tally is that of the actions of that event
+pub record IsOfRun (b : Book) (receipt : Claim) : Type 0 where
+  pub actions : List Action
+  pub event : slice_get (events_of b.entries) receipt.number ≡ Some receipt.event
+  pub answer : slice_get (outs_of b) receipt.number ≡ Some actions
+  pub tally : receipt.tally ≡ tally_of actions
+
+-- the same for every kept receipt
+abbrev pub AreAllOfRun : Book → List Held → Type 0
+AreAllOfRun b seats = (i : ℕ) (seat : Held) → slice_get seats i ≡ Some seat → (j : ℕ) (receipt : Claim) → slice_get seat.receipts j ≡ Some receipt → IsOfRun b receipt
 
 -- the least number of which P holds, or none if it holds of no number
 abbrev pub IsLeastOf : (ℕ → Type 0) → Option ℕ → Type 0

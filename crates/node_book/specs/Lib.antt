@@ -10,4 +10,5 @@ pub mod Seats
 pub mod Settled
 pub mod Shown
 pub mod Sitting
+pub mod Swaps
 pub mod Told

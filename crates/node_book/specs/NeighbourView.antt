@@ -1,5 +1,5 @@
 -- The state of each neighbour, as it is shown.
-use Rattle.std.specs.Prelude.{ℕ, is_some}
+use Rattle.std.specs.Prelude.{◌≡◌, ℕ, List, is_some, option_map, slice_get}
 use Rattle.filter_slots.specs.declared.slot.Slot.TheVariants as slots
 use Rattle.filter_slots.specs.Filters.{slot}
 use Rattle.neighbours.specs.declared.neighbour.Neighbour.{Neighbour}
@@ -19,3 +19,8 @@ view_of state n neighbour =
       misses = mark.misses;
       has_filter = is_some (slot state.filters (slots.Neighbour n));
     }
+
+-- one view for each neighbour of the table, in configuration order: at each index stands the view of the neighbour with that index,
+-- and nothing where there is no such neighbour
+abbrev pub AreViews : State → List NeighbourView → Type 0
+AreViews state views = (n : ℕ) → slice_get views n ≡ option_map (view_of state n) (slice_get state.plain.rows.neighbours n)

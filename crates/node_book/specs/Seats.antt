@@ -42,6 +42,10 @@ lightened seat = record seat { receipts = light seat.room seat.receipts }
 abbrev pub credited : Held → Claim → Held
 credited seat receipt = record seat { share = seat.share + 1; receipts = latest (seat.receipts ++ receipt ∷ []) }
 
+-- the seat after one more event was taken for it, with the receipts for which it has room
+abbrev pub receipted : Held → Claim → Held
+receipted seat receipt = lightened (credited seat receipt)
+
 -- n new seats, numbered from 0, each with share 0, no receipts, and room for this many octets of contents
 abbrev pub opened_with_room : ℕ → ℕ → List Held
 opened_with_room room zero = []

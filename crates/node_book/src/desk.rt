@@ -1,12 +1,15 @@
 //! A node and its book behind a mutex, for many threads.
-ghost use Rattle.std.specs.Prelude.{◌≡◌, ◌<◌, ◌≤◌, ◌+◌, ◌++◌, [], ◌∷◌, IfOk, OnOk, OnErr, IsErrOf, ◌↔◌, sum_by};
+ghost use Rattle.std.specs.Prelude.{◌≡◌, ◌<◌, ◌≤◌, [], IfOk, OnOk, OnErr, IsErrOf, ◌↔◌, sum_by};
 ghost use Rattle.std.specs.Arc.{arc_value};
 ghost use Rattle.node_core.specs.Happening.{arrives, happening};
+ghost use Rattle.neighbours.specs.Faults.{IsTable};
 ghost use Rattle.plain_node.specs.Tally.{tally_of};
 ghost use Rattle.node_book.specs.Book.{IsLegal, count_of};
-ghost use Rattle.node_book.specs.Audited.{Audits};
-ghost use Rattle.node_book.specs.Seats.{latest, light, claim, opened_seats, opened_with_room};
+ghost use Rattle.node_book.specs.Audited.{Audits, IsAudited};
+ghost use Rattle.node_book.specs.NeighbourView.{AreViews};
+ghost use Rattle.node_book.specs.Seats.{claim, receipted, opened_seats, opened_with_room};
 ghost use Rattle.node_book.specs.Settled.{Settles};
+ghost use Rattle.node_book.specs.Swaps.{is_swap};
 
 use crate::NoMemory;
 use crate::booked::Booked;
@@ -117,10 +120,8 @@ impl<L: Ledger> Desk<L> {
         out: &mut Out,
     ) -> Result<u64, SubmitFault>
         requires { out.old ≡ [] }
-        ensures share { OnOk result (seat.new.share ≡ seat.old.share + 1) }
+        ensures seat { IfOk result (λ n. seat.new ≡ receipted seat.old (claim n (happening (arc_value event)) (tally_of out.new))) }
         ensures number { IfOk result (λ n. seat.old.share ≤ n) }
-        ensures receipt { IfOk result (λ n. seat.new.receipts ≡ light seat.old.room (latest (seat.old.receipts ++ claim n (happening (arc_value event)) (tally_of out.new) ∷ []))) }
-        ensures place { (seat.new.place ≡ seat.old.place) × (seat.new.room ≡ seat.old.room) }
         ensures refused { OnErr result ((seat.new ≡ seat.old) × (out.new ≡ [])) }
     {
         let mut spent = Spent::new();
@@ -150,10 +151,8 @@ impl<L: Ledger> Desk<L> {
         out: &mut Out,
     ) -> Result<u64, SubmitFault>
         requires { out.old ≡ [] }
-        ensures share { OnOk result (seat.new.share ≡ seat.old.share + 1) }
+        ensures seat { IfOk result (λ n. seat.new ≡ receipted seat.old (claim n (arrives judged.now.datagram now) (tally_of out.new))) }
         ensures number { IfOk result (λ n. seat.old.share ≤ n) }
-        ensures receipt { IfOk result (λ n. seat.new.receipts ≡ light seat.old.room (latest (seat.old.receipts ++ claim n (arrives judged.now.datagram now) (tally_of out.new) ∷ []))) }
-        ensures place { (seat.new.place ≡ seat.old.place) × (seat.new.room ≡ seat.old.room) }
         ensures refused { OnErr result ((seat.new ≡ seat.old) × (out.new ≡ [])) }
     {
         let mut spent = Spent::new();
@@ -171,6 +170,7 @@ impl<L: Ledger> Desk<L> {
     /// volume, the seat lets go of them; otherwise returns the lowest number of one that doesn't agree. Waits for the mutex.
     pub fn audit<R: Wait>(&self, rt: &R, seat: &mut Seat<L>) -> Option<u64>
         ensures book { (b : _) × IsLegal b × Audits seat.old seat.new b result }
+        ensures seat { IsAudited seat.old seat.new }
         ensures share { (seat.new.share ≡ seat.old.share) × (seat.new.place ≡ seat.old.place) }
     {
         let found = {
@@ -196,17 +196,23 @@ impl<L: Ledger> Desk<L> {
     }
 
     /// The node's datagram counters. Waits for the mutex.
-    pub fn stats<R: Wait>(&self, rt: &R) -> Stats {
-        self.ledgered.lock(rt).booked().node().stats()
+    pub fn stats<R: Wait>(&self, rt: &R) -> Stats
+        ensures { (b : _) × IsLegal b × (result ≡ b.present.stats) }
+    {
+        let ledgered = self.ledgered.lock(rt);
+        ledgered.agrees();
+        ledgered.booked().node().stats()
     }
 
-    /// The state of each neighbour, in configuration order. Waits for the mutex. Errors: allocation failure.
-    pub fn neighbours<R: Wait>(
-        &self,
-        rt: &R,
-        alloc: Global,
-    ) -> Result<Vec<NeighbourView>, NoMemory> {
-        views_of(alloc, self.ledgered.lock(rt).booked().node())
+    /// The state of each neighbour, in configuration order, all as of one moment. Waits for the mutex. Errors: allocation failure.
+    pub fn neighbours<R: Wait>(&self, rt: &R, alloc: Global) -> Result<Vec<NeighbourView>, NoMemory>
+        ensures { IfOk result (λ views. (b : _) × IsLegal b × IsTable b.present.plain.rows × AreViews b.present views.items) }
+    {
+        let ledgered = self.ledgered.lock(rt);
+        ledgered.agrees();
+        let node = ledgered.booked().node();
+        node.facts();
+        views_of(alloc, node)
     }
 
     /// The key of a pending fetch, shared, or `None` if no fetch of this number is pending. Waits for the mutex. Errors: a
@@ -238,7 +244,9 @@ impl<L: Ledger> Desk<L> {
 }
 
 /// Whether an event swaps a filter.
-fn is_swap(event: &Event) -> bool {
+fn is_swap(event: &Event) -> bool
+    ensures { result ≡ is_swap (happening event.now) }
+{
     match event {
         Event::Swap { .. } => true,
         _ => false,

@@ -4,7 +4,7 @@ ghost use Rattle.std.specs.Prelude.{◌≡◌, []};
 use crate::NoMemory;
 use crate::clerk::{Clerk, copy_action};
 use crate::ledgered::SubmitFault;
-use filter_slots::{Datagram, Judged, Moment, Slots};
+use filter_slots::{Datagram, Judged, Moment};
 use node_core::{Action, Event, Node, Out};
 use object_store::CacheKey;
 use std::alloc::Global;
@@ -20,9 +20,9 @@ pub struct Lone {
 }
 
 impl Model for Lone {
-    ghost use Rattle.node_book.specs.Told.{Told};
+    ghost use Rattle.node_book.specs.Sitting.{Alone};
 
-    ghost Value = { Told };
+    ghost Value = { Alone };
 
     ghost view = { λ l. record { state = l.node; passed = l.passed.items; next = l.next } };
 }
@@ -56,10 +56,13 @@ impl Lone {
 
 impl Clerk for Lone {
     ghost use Rattle.std.specs.Prelude.{Some};
+    ghost use Rattle.node_book.specs.Sitting.{told_alone};
 
-    ghost told = { λ l. Some l };
+    ghost told = { told_alone };
 
     ghost taken = { λ l. l.next };
+
+    ghost programs = { λ l. Some l.state.filters };
 
     fn submit(
         &mut self,
@@ -90,10 +93,6 @@ impl Clerk for Lone {
         self.node.step_judged(alloc, judged, now, out)?;
         self.next = number + 1;
         Ok(number)
-    }
-
-    fn programs(&mut self) -> Result<Slots, NoMemory> {
-        self.node.programs().copy()
     }
 
     fn judge(&mut self, datagram: Arc<Datagram>) -> Result<Judged, NoMemory> {

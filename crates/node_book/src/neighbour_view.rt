@@ -1,11 +1,11 @@
 //! The state of each neighbour, for monitoring.
-ghost use Rattle.std.specs.Prelude.{◌≡◌, ◌<◌, is_some, length};
+ghost use Rattle.std.specs.Prelude.{◌≡◌, ◌<◌, is_some, length, slice_get, IfOk, Some};
 ghost use Rattle.filter_slots.specs.Filters.{slot};
-ghost use Rattle.node_book.specs.NeighbourView.{view_of};
+ghost use Rattle.node_book.specs.NeighbourView.{view_of, AreViews};
 
 use crate::NoMemory;
 use filter_slots::{End, Slot, Socket};
-use neighbours::Neighbour;
+use neighbours::{Neighbour, Table};
 use node_core::Node;
 use std::alloc::Global;
 
@@ -36,6 +36,18 @@ fn has_filter(node: &Node, n: usize) -> bool
     }
 }
 
+// The neighbour at index `n`.
+#[tactic(auto, using(crate::proofs::Views::there))]
+fn neighbour_at(table: &Table, n: usize) -> &Neighbour
+    requires { n < length table.now.neighbours }
+    ensures { slice_get table.now.neighbours n ≡ Some result.now }
+{
+    match table.get(n) {
+        Some(neighbour) => neighbour,
+        None => unreachable!(),
+    }
+}
+
 // The state of the neighbour at index `n`.
 fn view_of(node: &Node, n: usize, neighbour: &Neighbour) -> NeighbourView
     requires { n < length node.now.plain.rows.neighbours }
@@ -53,13 +65,13 @@ fn view_of(node: &Node, n: usize, neighbour: &Neighbour) -> NeighbourView
 }
 
 /// The state of each neighbour of a node, in configuration order. Errors: allocation failure.
-pub(crate) fn views_of(alloc: Global, node: &Node) -> Result<Vec<NeighbourView>, NoMemory> {
+pub(crate) fn views_of(alloc: Global, node: &Node) -> Result<Vec<NeighbourView>, NoMemory>
+    ensures { IfOk result (λ views. AreViews node.now views.items) }
+{
     let table = node.neighbours();
     let mut views = Vec::new(alloc);
     for n in 0..table.len() {
-        if let Some(neighbour) = table.get(n) {
-            views.push(view_of(node, n, neighbour))?;
-        }
+        views.push(view_of(node, n, neighbour_at(table, n)))?;
     }
     Ok(views)
 }

@@ -1,15 +1,18 @@
 //! A cache of a desk's programs, for judging datagrams without the desk's mutex.
-ghost use Rattle.std.specs.Prelude.{◌≡◌, IfOk, IsSome};
+ghost use Rattle.std.specs.Prelude.{◌≡◌, IfOk, IsSome, None, Some};
 ghost use Rattle.std.specs.Arc.{arc_value};
+ghost use Rattle.filter_slots.specs.Filters.{Filters};
+ghost use Rattle.filter_slots.specs.Judged.{judged_under};
 
 use crate::NoMemory;
 use crate::desk::Desk;
 use filter_slots::{Datagram, Judged, Slots};
+use std::marker::Model;
 use std::sync::ledger::Ledger;
 use std::sync::{Arc, Wait};
 
 /// A cached copy of a desk's programs, refreshed only after a filter was swapped. It may lag behind a swap that is just being
-/// taken.
+/// taken. Contracts see the copy, if there is one.
 #[derive(Drop)]
 pub struct Programs {
     // `None` before the first read.
@@ -18,22 +21,23 @@ pub struct Programs {
     swaps: u64,
 }
 
+impl Model for Programs {
+    ghost use Rattle.std.specs.Prelude.{Option};
+    ghost use Rattle.filter_slots.specs.Filters.{Filters};
+
+    ghost Value = { Option Filters };
+
+    ghost view = { λ p. p.slots };
+}
+
 impl Programs {
     /// An empty cache.
-    pub fn new() -> Programs {
+    pub fn new() -> Programs
+        ensures { result ≡ None }
+    {
         Programs {
             slots: None,
             swaps: 0,
-        }
-    }
-
-    /// The programs, shared. Waits for the desk's mutex at the first call and after a filter was swapped. Errors: a reference
-    /// count at its maximum.
-    pub fn read<L: Ledger, R: Wait>(&mut self, rt: &R, desk: &Desk<L>) -> Result<Slots, NoMemory> {
-        self.look(rt, desk)?;
-        match &self.slots {
-            Some(slots) => slots.copy(),
-            None => unreachable!(),
         }
     }
 
@@ -45,7 +49,8 @@ impl Programs {
         desk: &Desk<L>,
         datagram: Arc<Datagram>,
     ) -> Result<Judged, NoMemory>
-        ensures { IfOk result (λ judged. judged.datagram ≡ arc_value datagram) }
+        ensures datagram { IfOk result (λ judged. judged.datagram ≡ arc_value datagram) }
+        ensures programs { IfOk result (λ judged. (p : Filters) × (self.new ≡ Some p) × (judged ≡ judged_under p (arc_value datagram))) }
     {
         self.look(rt, desk)?;
         match &self.slots {
@@ -56,7 +61,7 @@ impl Programs {
 
     // Refreshes the copy if there is none, or if a filter was swapped since.
     fn look<L: Ledger, R: Wait>(&mut self, rt: &R, desk: &Desk<L>) -> Result<(), NoMemory>
-        ensures { IfOk result (λ _. IsSome self.new.slots) }
+        ensures { IfOk result (λ _. IsSome self.new) }
     {
         let swaps = desk.swaps();
         if self.slots.is_none() || self.swaps != swaps {

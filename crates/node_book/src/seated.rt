@@ -1,5 +1,5 @@
 //! A clerk at a seat of a desk.
-ghost use Rattle.std.specs.Prelude.{◌≡◌, []};
+ghost use Rattle.std.specs.Prelude.{◌≡◌, [], None};
 
 use crate::NoMemory;
 use crate::clerk::{Clerk, copy_action};
@@ -7,7 +7,7 @@ use crate::desk::Desk;
 use crate::ledgered::SubmitFault;
 use crate::programs::Programs;
 use crate::seat::Seat;
-use filter_slots::{Datagram, Judged, Moment, Slots};
+use filter_slots::{Datagram, Judged, Moment};
 use node_core::{Action, Event, Out};
 use object_store::CacheKey;
 use std::alloc::Global;
@@ -15,8 +15,8 @@ use std::marker::Model;
 use std::sync::ledger::Ledger;
 use std::sync::{Arc, Wait};
 
-/// A clerk at a seat of a desk. All its calls except `pass` may wait for the desk's mutex. Contracts see the seat and the actions
-/// passed on.
+/// A clerk at a seat of a desk. All its calls except `pass` may wait for the desk's mutex. Contracts see the seat, the actions
+/// passed on, and the programs that it has read.
 #[derive(Drop)]
 pub struct Seated<'a, L: Ledger, R: Wait> {
     rt: &'a R,
@@ -31,13 +31,13 @@ impl<'a, L: Ledger, R: Wait> Model for Seated<'a, L, R> {
 
     ghost Value = { Sitting };
 
-    ghost view = { λ s. record { seat = s.seat; passed = s.passed.items } };
+    ghost view = { λ s. record { seat = s.seat; passed = s.passed.items; programs = s.programs } };
 }
 
 impl<'a, L: Ledger, R: Wait> Seated<'a, L, R> {
     /// A clerk at a seat.
     pub fn new(alloc: Global, rt: &'a R, desk: &'a Desk<L>, seat: Seat<L>) -> Seated<'a, L, R>
-        ensures { result ≡ record { seat = seat; passed = [] } }
+        ensures { result ≡ record { seat = seat; passed = []; programs = None } }
     {
         Seated {
             rt,
@@ -65,11 +65,13 @@ impl<'a, L: Ledger, R: Wait> Seated<'a, L, R> {
 }
 
 impl<'a, L: Ledger, R: Wait> Clerk for Seated<'a, L, R> {
-    ghost use Rattle.std.specs.Prelude.{None};
+    ghost use Rattle.node_book.specs.Sitting.{told_seated};
 
-    ghost told = { λ s. None };
+    ghost told = { told_seated };
 
     ghost taken = { λ s. s.seat.share };
+
+    ghost programs = { λ s. s.programs };
 
     fn submit(
         &mut self,
@@ -89,10 +91,6 @@ impl<'a, L: Ledger, R: Wait> Clerk for Seated<'a, L, R> {
     ) -> Result<u64, SubmitFault> {
         self.desk
             .submit_judged(self.rt, alloc, &mut self.seat, judged, now, out)
-    }
-
-    fn programs(&mut self) -> Result<Slots, NoMemory> {
-        self.programs.read(self.rt, self.desk)
     }
 
     fn judge(&mut self, datagram: Arc<Datagram>) -> Result<Judged, NoMemory> {

@@ -1,15 +1,20 @@
--- The filters after events are those of the last swaps.
-use Rattle.std.proofs.Common.{◌≡◌, ◌≢◌, ◌⊎◌, inl, inr, ℕ, zero, suc, ◌<◌, ◌≤◌, ◌==◌, nat_lt, true, false, List, [], ◌∷◌, ◌++◌, length, Option, Some, None, refl, ap, sym, ◌∙◌, arith}
+-- The filters after events are those of the last swaps, in slots of the same sockets and ends.
+use Rattle.std.proofs.Common.{◌≡◌, ◌≢◌, ◌⊎◌, inl, inr, ℕ, zero, suc, ◌<◌, ◌≤◌, ◌==◌, nat_lt, true, false, List, [], ◌∷◌, ◌++◌, length, map, Option, Some, None, refl, ap, sym, ◌∙◌, arith}
 use Rattle.std.specs.Prelude.{unwrap_or, IfSome, if◌then◌else◌}
 use Rattle.std.proofs.lemmas.Bool.Decides.{nat_tests}
+use Rattle.bpf_run.specs.declared.ends.End.{End}
+use Rattle.bpf_run.specs.declared.ends.Socket.{Socket}
 use Rattle.bpf_run.specs.declared.ends.Socket.TheVariants.{Icp, Htcp}
 use Rattle.filter_slots.specs.declared.slot.Slot.{Slot}
 use Rattle.filter_slots.specs.declared.slot.Slot.TheVariants as slots
-use Rattle.filter_slots.specs.Filters.{Filters, NeighbourSlot, has_slot, slot, with_slot, program_at, with_program, AreAccepted}
+use Rattle.filter_slots.specs.Filters.{Filters, NeighbourSlot, empty_slot, has_slot, slot, with_slot, program_at, with_program, AreAccepted}
 use Rattle.bpf_check.specs.declared.insn.Insn.{Insn}
 use Rattle.bpf_check.specs.Accepted.{IsAccepted}
+use Rattle.plain_node.specs.declared.action.Action.{Action}
+use Rattle.plain_node.specs.Settings.{Setup}
 use Rattle.node_core.specs.Happening.{Happening, arrives, asks, ticks, ends, leaves, swaps}
 use Rattle.node_core.specs.Kept.{swapped, filters_after}
+use Rattle.node_core.specs.State.{State, HasTaken, opening, sender_of, slot_sender, slot_senders}
 use Rattle.node_core.specs.Swaps.{same_slot, swap_of, last_swap, later_of, PutsInAccepted}
 
 unwrap_or-later_of : {A : Type 0} (first later : Option A) (d : A) → unwrap_or (later_of first later) d ≡ unwrap_or later (unwrap_or first d)
@@ -148,3 +153,35 @@ with_nowhere (slots.Socket socket) filters program none = let no : ⊥ = cc in a
 with_nowhere (slots.Neighbour n) filters program none =
     ap (λ neighbours. record { icp = filters.icp; htcp = filters.htcp; neighbours = neighbours })
     (beyond-with filters.neighbours n program (grind (arith, nat_tests)))
+
+-- no event changes the sockets and ends of the neighbours' slots
+senders-program : (neighbours : List NeighbourSlot) (n : ℕ) (program : Option (List Insn)) → map slot_sender (with_program neighbours n program) ≡ map slot_sender neighbours
+senders-program [] n program = refl
+senders-program (first ∷ others) zero program = refl
+senders-program (first ∷ others) (suc n) program = ap (λ (rest : List (Socket × End)). (first.socket, first.end) ∷ rest) (senders-program others n program)
+
+senders-with : (place : Slot) (filters : Filters) (program : Option (List Insn)) → slot_senders (with_slot filters place program) ≡ slot_senders filters
+senders-with (slots.Socket Icp) filters program = refl
+senders-with (slots.Socket Htcp) filters program = refl
+senders-with (slots.Neighbour n) filters program = senders-program filters.neighbours n program
+
+senders-swapped : (filters : Filters) (e : Happening) → slot_senders (swapped filters e) ≡ slot_senders filters
+senders-swapped filters (swaps place program) = senders-with place filters program
+senders-swapped filters (arrives datagram now) = refl
+senders-swapped filters (asks client key mode now) = refl
+senders-swapped filters (ticks now) = refl
+senders-swapped filters (ends number attempt outcome now) = refl
+senders-swapped filters (leaves client) = refl
+
+pub senders-filters_after : (filters : Filters) (events : List Happening) → slot_senders (filters_after filters events) ≡ slot_senders filters
+senders-filters_after filters [] = refl
+senders-filters_after filters (e ∷ es) = senders-filters_after (swapped filters e) es ∙ senders-swapped filters e
+
+senders-empty : (senders : List (Socket × End)) → map slot_sender (map empty_slot senders) ≡ senders
+senders-empty [] = refl
+senders-empty (x ∷ senders) = ap (λ (rest : List (Socket × End)). x ∷ rest) (senders-empty senders)
+
+pub senders-configured : (setup : Setup) (state : State) (events : List Happening) (outs : List (List Action)) → HasTaken (opening setup) state events outs
+    → slot_senders state.filters ≡ map sender_of setup.neighbours
+senders-configured setup state events outs taken =
+    ap slot_senders taken.filters ∙ senders-filters_after (opening setup).filters events ∙ senders-empty (map sender_of setup.neighbours)

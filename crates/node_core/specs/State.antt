@@ -2,7 +2,7 @@
 use Rattle.std.specs.Prelude.{◌≡◌, ◌⊎◌, Bool, true, false, List, [], ◌∷◌, map, Option, Some, None}
 use Rattle.bpf_run.specs.declared.ends.End.{End}
 use Rattle.bpf_run.specs.declared.ends.Socket.{Socket}
-use Rattle.filter_slots.specs.Filters.{Filters, no_filters, has_slot}
+use Rattle.filter_slots.specs.Filters.{Filters, NeighbourSlot, no_filters, has_slot}
 use Rattle.neighbours.specs.declared.neighbour.Neighbour.{Neighbour}
 use Rattle.pending_fetch.specs.Fetches.{fetch_of}
 use Rattle.plain_node.specs.declared.action.Action.{Action}
@@ -30,6 +30,14 @@ no_counts = record { judged = 0; rejected = 0; cut = 0; malformed = 0 }
 -- the socket at which a neighbour's datagrams arrive, and the address and port that they come from
 abbrev pub sender_of : Neighbour → Socket × End
 sender_of neighbour = (neighbour.protocol, neighbour.end)
+
+-- the socket and end of a neighbour's slot
+abbrev pub slot_sender : NeighbourSlot → Socket × End
+slot_sender slot = (slot.socket, slot.end)
+
+-- those of all neighbours' slots, in order
+abbrev pub slot_senders : Filters → List (Socket × End)
+slot_senders filters = map slot_sender filters.neighbours
 
 -- the initial state: each neighbour has a slot, and no slot has a program
 abbrev pub opening : Setup → State

@@ -1,5 +1,5 @@
 //! Laws of the definitions in specs/, as empty functions that other crates can call.
-ghost use Rattle.std.specs.Prelude.{◌≡◌, ℕ, true, List, ◌∷◌, [], ◌++◌, length, unwrap_or};
+ghost use Rattle.std.specs.Prelude.{◌≡◌, ℕ, true, List, ◌∷◌, [], ◌++◌, length, map, unwrap_or};
 ghost use Rattle.filter_slots.specs.Datagram.{DatagramFields};
 ghost use Rattle.filter_slots.specs.declared.slot.Slot.{Slot};
 ghost use Rattle.filter_slots.specs.Filters.{Filters, has_slot, slot, AreAccepted};
@@ -7,11 +7,12 @@ ghost use Rattle.filter_slots.specs.Verdict.{verdict_in_force};
 ghost use Rattle.plain_node.specs.declared.action.Action.{Action};
 ghost use Rattle.node_core.specs.Happening.{Happening, arrives};
 ghost use Rattle.plain_node.specs.PlainNode.{PlainNode};
+ghost use Rattle.plain_node.specs.Settings.{Setup};
 ghost use Rattle.node_core.specs.Kept.{kept, kept_event, kept_places, filters_after};
 ghost use Rattle.node_core.specs.Swaps.{last_swap, PutsInAccepted};
 ghost use Rattle.node_core.specs.Run.{run_node, answers};
 ghost use Rattle.node_core.specs.Counters.{counted};
-ghost use Rattle.node_core.specs.State.{State, HasTaken, state_after, actions_at};
+ghost use Rattle.node_core.specs.State.{State, HasTaken, opening, sender_of, slot_senders, state_after, actions_at};
 
 /// Runs compose. No event changes nothing; a run followed by one event, or by a run over a list of events, is a run over the
 /// concatenated events, and its actions are concatenated too. Every event has exactly one list of actions.
@@ -76,6 +77,14 @@ pub fn filters_law()
         slot (filters_after filters events) place ≡ unwrap_or (last_swap place events) (slot filters place) }
     ensures slots { (place : Slot) (filters : Filters) (events : List Happening) →
         has_slot (filters_after filters events) place ≡ has_slot filters place }
+{}
+
+/// The slots of a node's neighbours are those of the configured neighbours, whatever events it has taken: one for each, in
+/// configuration order, for the datagrams that arrive at its protocol's socket from its address and port.
+pub fn slots_law()
+    ensures unmoved { (filters : Filters) (events : List Happening) → slot_senders (filters_after filters events) ≡ slot_senders filters }
+    ensures configured { (setup : Setup) (state : State) (events : List Happening) (outs : List (List Action)) →
+        HasTaken (opening setup) state events outs → slot_senders state.filters ≡ map sender_of setup.neighbours }
 {}
 
 /// If the checker accepts every installed program, it accepts every program in force, so the verdicts in force are the results of

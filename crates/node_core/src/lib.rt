@@ -15,7 +15,9 @@ mod stats;
 
 pub use comparing::{same_event, same_outcome, same_tally};
 pub use event::Event;
-pub use laws::{accepted_law, append_law, filters_law, kept_law, rejected_law, step_law};
+pub use laws::{
+    accepted_law, append_law, filters_law, kept_law, rejected_law, slots_law, step_law,
+};
 pub use node::Node;
 pub use plain_node::{
     Action, Answer, Config, Mode, Network, NoMemory, NodeFault, Out, Outcome, Payload, Tally,

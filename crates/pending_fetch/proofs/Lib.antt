@@ -13,3 +13,5 @@ pub mod Sorted
 pub mod Calling
 pub mod Queues
 pub mod Rising
+pub mod Cells
+pub mod Tests

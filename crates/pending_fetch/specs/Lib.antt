@@ -8,3 +8,4 @@ pub mod Indexes
 pub mod Places
 pub mod FetchIndex
 pub mod Queue
+pub mod Cells

@@ -1,4 +1,4 @@
-//! A boxed pending fetch with memory reserved for all waiters, so that a list of fetches is a list of pointers and cheap to move.
+//! A boxed pending fetch with memory reserved for all waiters, so that the slab of fetches is one of pointers and cheap to grow.
 
 ghost use Rattle.std.specs.Prelude.{◌≡◌, ◌<◌, ◌≤◌, ◌==◌, ◌++◌, ◌∷◌, [], length, filter, not, nat_lt, nat_eq, true, IfOk, vec_capacity, is_none, if◌then◌else◌};
 ghost use Rattle.peer_select.specs.Poll.{decided, matches};

@@ -10,7 +10,7 @@ ghost use Rattle.pending_fetch.specs.Numbers.{IsNext, next_of};
 ghost use Rattle.pending_fetch.specs.Fetches.{PendingFetch, fetch_of, has_number, waiters_of, all_waiters, waits, first_due, all_due, without, left, changed, with_waiter, with_reply, with_end, with_next};
 ghost use Rattle.pending_fetch.specs.Calls.{fits, all_fit};
 ghost use Rattle.pending_fetch.specs.Legal.{IsLegal};
-ghost use Rattle.pending_fetch.specs.Places.{IsPlace, IsFirstDue};
+ghost use Rattle.pending_fetch.specs.Places.{IsFirstDue};
 ghost use Rattle.pending_fetch.specs.Bounds.{most_fetches};
 
 use peer_select::unchanged_law;
@@ -18,12 +18,6 @@ use peer_select::unchanged_law;
 /// The next number is the first after the last one given that no fetch has.
 pub fn next_law()
     ensures { (taken : List ℕ) (last : ℕ) → length taken ≤ most_fetches → IsNext taken last (next_of taken last) }
-{}
-
-/// A fetch that is found by its number is the only entry of a legal list with it, and closing or changing it affects no other
-/// entry.
-pub fn place_law()
-    ensures { (list : List PendingFetch) (number : ℕ) (f : PendingFetch) → IsLegal list → fetch_of number list ≡ Some f → IsPlace number list f }
 {}
 
 /// Closing or expiring the first due fetch leaves exactly the other due fetches; if there is no first, none is due.

@@ -15,13 +15,14 @@ use crate::bounds::MAX_PENDING_FETCHES;
 use crate::clients::WaitingClients;
 use crate::fault::{JoinFault, OpenFault};
 use crate::fetch::{Fetch, Located};
+use crate::fetch_slab::FetchSlab;
 use crate::kept::KeptFetch;
 use crate::keys::Keys;
 use crate::order::Order;
 use crate::queue::{close_entry, copy_of_queue, due_in, enqueue, entry_for, settle};
 use crate::slots::{
-    add, advance_in, are_many, copies_of, expire_in, fetch_index, join_in, keys_of, leave_in,
-    prepare, reply_in, take_out, waiters_in,
+    advance_in, are_many, expire_in, fetch_index, join_in, keys_of, leave_in, reply_in, take_out,
+    waiters_in,
 };
 use crate::undecided::Undecided;
 use neighbours::{Moment, Table};
@@ -36,7 +37,7 @@ use std::marker::Model;
 pub struct Pending {
     last: u32,
     order: Order,
-    slots: Vec<KeptFetch>,
+    slots: FetchSlab,
     keys: Keys,
     clients: WaitingClients,
     undecided: Vec<Undecided>,
@@ -50,11 +51,11 @@ impl Model for Pending {
 
     ghost Value = { Fetches };
 
-    ghost view = { λ p. record { last = p.last; list = p.slots.items } };
+    ghost view = { λ p. record { last = p.last; list = p.slots } };
 
-    ghost invariant = { λ p. IsIndexed p.slots.items p.keys p.clients
-        × IsQueue (vec_capacity p.undecided) p.undecided.items p.slots.items
-        × (p.order ≡ numbers p.slots.items) };
+    ghost invariant = { λ p. IsIndexed p.slots p.keys p.clients
+        × IsQueue (vec_capacity p.undecided) p.undecided.items p.slots
+        × (p.order ≡ numbers p.slots) };
 }
 
 impl Pending {
@@ -68,7 +69,7 @@ impl Pending {
         Ok(Pending {
             last: 0,
             order,
-            slots: Vec::new(alloc),
+            slots: FetchSlab::new(alloc),
             keys: Keys::new(alloc),
             clients,
             undecided,
@@ -82,7 +83,7 @@ impl Pending {
     {
         let clients = self.clients.copy(alloc)?;
         let keys = keys_of(&self.slots, alloc)?;
-        let slots = copies_of(&self.slots, alloc)?;
+        let slots = self.slots.copy(alloc)?;
         let undecided = copy_of_queue(&self.undecided, alloc)?;
         let order = self.order.copy(alloc)?;
         Ok(Pending {
@@ -179,10 +180,9 @@ impl Pending {
         let Ok(fetch) = KeptFetch::new(alloc, number, key, client, shared, round) else {
             return Err(OpenFault::NoMemory);
         };
-        if prepare(&mut self.slots, &mut self.keys, &fetch).is_err() {
+        if self.slots.open(&mut self.keys, fetch).is_err() {
             return Err(OpenFault::NoMemory);
         }
-        add(&mut self.slots, fetch);
         self.clients.join(client, number);
         enqueue(&mut self.undecided, entry);
         self.order.push(number);
@@ -275,7 +275,7 @@ impl Pending {
         ensures { Some (shown result) ≡ option_map told (fetch_of number self.now.list) }
     {
         let _ = number;
-        self.slots[place].lent()
+        self.slots.get(place).lent()
     }
 
     // The index of the fetch with this number, or `None` if there is none.

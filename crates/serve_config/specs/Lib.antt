@@ -1,3 +1,5 @@
 pub mod Addresses
 pub mod Group
+pub mod Origins
 pub mod Own
+pub mod Tokens

@@ -12,6 +12,7 @@ mod own;
 mod place;
 mod settings;
 mod shape;
+mod token;
 mod value;
 
 pub use fault::Fault;

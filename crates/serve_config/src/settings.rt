@@ -1,23 +1,28 @@
 //! The settings of `serve`.
 ghost use Rattle.std.specs.Prelude.{◌≡◌, ◌≤◌, All, IfOk, IfSome, true, false};
 ghost use Rattle.std.specs.List.{list_any};
+ghost use Rattle.std.specs.String.{string_bytes};
 ghost use Rattle.serve_config.specs.Addresses.{is_host};
 ghost use Rattle.serve_config.specs.Group.{IsReachable, IsSecret};
+ghost use Rattle.serve_config.specs.Origins.{AreNetworks, ArePorts};
 ghost use Rattle.serve_config.specs.Own.{is_self};
+ghost use Rattle.serve_config.specs.Tokens.{IsToken};
 
 use crate::fault::Fault;
 use crate::group::{keys, neighbours};
 use crate::own::check_apart;
 use crate::place::Place;
 use crate::shape::{check, items};
-use crate::value::{address, network, number, port, truth, visible};
+use crate::token::is_token68;
+use crate::value::{address, network, number, number_of, port, text, truth, visible};
 use neighbours::End;
 use node_core::{Config, Network};
 use serde_json::Value;
 use std::alloc::{AllocError, Global};
+use std::fmt;
 
-/// The settings of `serve`.
-#[derive(Debug, Drop)]
+/// The settings of `serve`. `Debug` omits the token.
+#[derive(Drop)]
 pub struct Settings {
     /// The IPv4 address of the query sockets and of the client socket.
     pub address: [u8; 4],
@@ -35,6 +40,17 @@ pub struct Settings {
     pub receipt_octets: Option<u32>,
     /// Octets of contents at which a volume of the event log ends, at least 1, if the configuration says it.
     pub book_octets: Option<u32>,
+    /// Octets of bodies under way at most, 1 to 1,073,741,824, if the configuration says it.
+    pub fetch_octets: Option<u32>,
+    /// Connections from one address at most, 1 to 4,096, if the configuration says it.
+    pub address_connections: Option<u32>,
+    /// The networks that are never fetched from as origins, if the configuration says it.
+    pub deny_origins: Option<Vec<Network>>,
+    /// The only ports that origins are fetched from, at least one and none of them 0, if the configuration says it.
+    pub origin_ports: Option<Vec<u16>>,
+    /// What a change over the administration has to be authorized by, if the configuration says it: a token68 (RFC 9110, section
+    /// 11.2) of at most 255 octets.
+    pub admin_token: Option<String>,
     /// The number of answers to clients after which the program ends; 0 means never.
     pub stop_after: u64,
     /// The configuration of the node, including the endpoints of the query sockets.
@@ -49,7 +65,12 @@ impl Settings {
     pub fn read(alloc: Global, text: &[u8]) -> Result<Settings, Fault>
         ensures body_limit { IfOk result (λ s. (1 ≤ s.body_limit) × (s.body_limit ≤ 1073741824)) }
         ensures volume { IfOk result (λ s. (1 ≤ s.volume) × (s.volume ≤ 1048576)) }
-        ensures book_octets { IfOk result (λ s. IfSome s.book_octets (λ n. 1 ≤ n)) }
+        ensures book_octets { IfOk result (λ s. IfSome s.book_octets (λ n. (1 ≤ n) × (n ≤ 1073741824))) }
+        ensures fetch_octets { IfOk result (λ s. IfSome s.fetch_octets (λ n. (1 ≤ n) × (n ≤ 1073741824))) }
+        ensures address_connections { IfOk result (λ s. IfSome s.address_connections (λ n. (1 ≤ n) × (n ≤ 4096))) }
+        ensures deny_origins { IfOk result (λ s. IfSome s.deny_origins (λ networks. AreNetworks networks.items)) }
+        ensures origin_ports { IfOk result (λ s. IfSome s.origin_ports (λ ports. ArePorts ports.items)) }
+        ensures admin_token { IfOk result (λ s. IfSome s.admin_token (λ token. IsToken (string_bytes token))) }
         ensures entries { IfOk result (λ s. (1 ≤ s.node.entries) × (s.node.entries ≤ 1000000)) }
         ensures octets { IfOk result (λ s. (1 ≤ s.node.octets) × (s.node.octets ≤ 1073741824)) }
         ensures host { IfOk result (λ s. is_host s.address ≡ true) }
@@ -65,11 +86,37 @@ impl Settings {
     }
 }
 
+impl fmt::Debug for Settings {
+    fn fmt<W: fmt::Write>(&self, f: &mut fmt::Formatter<W>) -> fmt::Result {
+        f.debug_struct("Settings")
+            .field("address", &self.address)
+            .field("http_port", &self.http_port)
+            .field("admin_port", &self.admin_port)
+            .field("name", &self.name)
+            .field("body_limit", &self.body_limit)
+            .field("volume", &self.volume)
+            .field("receipt_octets", &self.receipt_octets)
+            .field("book_octets", &self.book_octets)
+            .field("fetch_octets", &self.fetch_octets)
+            .field("address_connections", &self.address_connections)
+            .field("deny_origins", &self.deny_origins)
+            .field("origin_ports", &self.origin_ports)
+            .field("stop_after", &self.stop_after)
+            .field("node", &self.node)
+            .finish_non_exhaustive()
+    }
+}
+
 // Parses the values of an object with all keys, each of the right kind.
 fn parse_values(alloc: Global, value: &Value) -> Result<Settings, Fault>
     ensures body_limit { IfOk result (λ s. (1 ≤ s.body_limit) × (s.body_limit ≤ 1073741824)) }
     ensures volume { IfOk result (λ s. (1 ≤ s.volume) × (s.volume ≤ 1048576)) }
-    ensures book_octets { IfOk result (λ s. IfSome s.book_octets (λ n. 1 ≤ n)) }
+    ensures book_octets { IfOk result (λ s. IfSome s.book_octets (λ n. (1 ≤ n) × (n ≤ 1073741824))) }
+    ensures fetch_octets { IfOk result (λ s. IfSome s.fetch_octets (λ n. (1 ≤ n) × (n ≤ 1073741824))) }
+    ensures address_connections { IfOk result (λ s. IfSome s.address_connections (λ n. (1 ≤ n) × (n ≤ 4096))) }
+    ensures deny_origins { IfOk result (λ s. IfSome s.deny_origins (λ networks. AreNetworks networks.items)) }
+    ensures origin_ports { IfOk result (λ s. IfSome s.origin_ports (λ ports. ArePorts ports.items)) }
+    ensures admin_token { IfOk result (λ s. IfSome s.admin_token (λ token. IsToken (string_bytes token))) }
     ensures entries { IfOk result (λ s. (1 ≤ s.node.entries) × (s.node.entries ≤ 1000000)) }
     ensures octets { IfOk result (λ s. (1 ≤ s.node.octets) × (s.node.octets ≤ 1073741824)) }
     ensures host { IfOk result (λ s. is_host s.address ≡ true) }
@@ -85,21 +132,91 @@ fn parse_values(alloc: Global, value: &Value) -> Result<Settings, Fault>
         name: String::from_str(alloc, visible(alloc, value, top.key("name"))?)?,
         body_limit: number(alloc, value, top.key("body_limit"), 1, 1_073_741_824)? as u32,
         volume: number(alloc, value, top.key("volume"), 1, 1_048_576)? as u32,
-        receipt_octets: optional(alloc, value, "receipt_octets", 0)?,
-        book_octets: optional(alloc, value, "book_octets", 1)?,
+        receipt_octets: optional(alloc, value, "receipt_octets", 0, 1_073_741_824)?,
+        book_octets: optional(alloc, value, "book_octets", 1, 1_073_741_824)?,
+        fetch_octets: optional(alloc, value, "fetch_octets", 1, 1_073_741_824)?,
+        address_connections: optional(alloc, value, "address_connections", 1, 4096)?,
+        deny_origins: deny_origins(alloc, value)?,
+        origin_ports: origin_ports(alloc, value)?,
+        admin_token: admin_token(alloc, value)?,
         stop_after: number(alloc, value, top.key("stop_after"), 0, u64::MAX)?,
     })
 }
 
-// Parses the number of a key that may be left out, from `least` to 1,073,741,824.
-fn optional(alloc: Global, value: &Value, key: &str, least: u64) -> Result<Option<u32>, Fault>
-    ensures { IfOk result (λ given. IfSome given (λ n. least ≤ n)) }
+// Parses the number of a key that may be left out, from `least` to `most`.
+fn optional(
+    alloc: Global,
+    value: &Value,
+    key: &str,
+    least: u32,
+    most: u32,
+) -> Result<Option<u32>, Fault>
+    ensures { IfOk result (λ given. IfSome given (λ n. (least ≤ n) × (n ≤ most))) }
 {
     if value.get(key).is_none() {
         return Ok(None);
     }
     let place = Place::whole().key(key);
-    Ok(Some(number(alloc, value, place, least, 1_073_741_824)? as u32))
+    Ok(Some(number(alloc, value, place, u64::from(least), u64::from(most))? as u32))
+}
+
+// Parses the networks that are never fetched from as origins, if they are given.
+fn deny_origins(alloc: Global, value: &Value) -> Result<Option<Vec<Network>>, Fault>
+    ensures { IfOk result (λ given. IfSome given (λ networks. AreNetworks networks.items)) }
+{
+    if value.get("deny_origins").is_none() {
+        return Ok(None);
+    }
+    Ok(Some(networks(alloc, value, "deny_origins")?))
+}
+
+// Parses the only ports that origins are fetched from, if they are given.
+fn origin_ports(alloc: Global, value: &Value) -> Result<Option<Vec<u16>>, Fault>
+    ensures { IfOk result (λ given. IfSome given (λ ports. ArePorts ports.items)) }
+{
+    if value.get("origin_ports").is_none() {
+        return Ok(None);
+    }
+    let ports = ports(alloc, value)?;
+    if ports.is_empty() {
+        return Err(Fault::value(alloc, Place::whole().key("origin_ports"), "empty"));
+    }
+    Ok(Some(ports))
+}
+
+// Parses the ports of `origin_ports`.
+fn ports(alloc: Global, value: &Value) -> Result<Vec<u16>, Fault>
+    ensures { IfOk result (λ ports. All (λ port. 1 ≤ port) ports.items) }
+{
+    let items = items(value, "origin_ports");
+    let mut ports = Vec::new(alloc);
+    for i in 0..items.len() {
+        let place = Place::item("origin_ports", i);
+        let port = number_of(alloc, &items[i], place, 1, 65_535)? as u16;
+        ports.push(port).map_err(AllocError::from)?;
+    }
+    Ok(ports)
+}
+
+// Parses the administrator's token, if it is given. A fault does not show it.
+fn admin_token(alloc: Global, value: &Value) -> Result<Option<String>, Fault>
+    ensures { IfOk result (λ given. IfSome given (λ token. IsToken (string_bytes token))) }
+{
+    if value.get("admin_token").is_none() {
+        return Ok(None);
+    }
+    let place = Place::whole().key("admin_token");
+    let text = text(alloc, value, place)?;
+    if text.is_empty() {
+        return Err(Fault::value(alloc, place, "empty"));
+    }
+    if text.len() > 255 {
+        return Err(Fault::value(alloc, place, "over 255 octets"));
+    }
+    if !is_token68(text.as_bytes()) {
+        return Err(Fault::value(alloc, place, "not a token68 (RFC 9110, section 11.2)"));
+    }
+    Ok(Some(String::from_str(alloc, text)?))
 }
 
 // Parses JSON.
@@ -125,7 +242,7 @@ fn node(alloc: Global, value: &Value) -> Result<Config, Fault>
     let addr = address(alloc, value, top.key("address"))?;
     let icp = port(alloc, value, top.key("icp_port"))?;
     let htcp = port(alloc, value, top.key("htcp_port"))?;
-    let allowed = allowed(alloc, value)?;
+    let allowed = networks(alloc, value, "allowed")?;
     let miss_nofetch = truth(alloc, value, top.key("miss_nofetch"))?;
     let origin = truth(alloc, value, top.key("origin"))?;
     let entries = number(alloc, value, top.key("entries"), 1, 1_000_000)? as u32;
@@ -145,12 +262,15 @@ fn node(alloc: Global, value: &Value) -> Result<Config, Fault>
     })
 }
 
-// Parses the networks whose queries and clients are answered.
-fn allowed(alloc: Global, value: &Value) -> Result<Vec<Network>, Fault> {
-    let mut allowed = Vec::new(alloc);
-    for (i, item) in items(value, "allowed").iter().enumerate() {
-        let network = network(alloc, item, Place::item("allowed", i))?;
-        allowed.push(network).map_err(AllocError::from)?;
+// Parses the networks of the list at this key.
+fn networks(alloc: Global, value: &Value, key: &str) -> Result<Vec<Network>, Fault>
+    ensures { IfOk result (λ networks. AreNetworks networks.items) }
+{
+    let items = items(value, key);
+    let mut networks = Vec::new(alloc);
+    for i in 0..items.len() {
+        let network = network(alloc, &items[i], Place::item(key, i))?;
+        networks.push(network).map_err(AllocError::from)?;
     }
-    Ok(allowed)
+    Ok(networks)
 }

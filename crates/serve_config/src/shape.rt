@@ -37,9 +37,14 @@ const TOP: [Known; 16] = [
 ];
 
 /// The keys that a configuration may leave out.
-const OPTIONAL: [Known; 2] = [
+const OPTIONAL: [Known; 7] = [
     ("receipt_octets", Kind::Number),
     ("book_octets", Kind::Number),
+    ("fetch_octets", Kind::Number),
+    ("address_connections", Kind::Number),
+    ("deny_origins", Kind::List),
+    ("origin_ports", Kind::List),
+    ("admin_token", Kind::Text),
 ];
 
 /// The keys of a signing key.
@@ -86,9 +91,9 @@ fn is_whole(value: &Value) -> bool {
 /// Checks the keys and kinds of a whole configuration. Errors: the first fault, of the top-level keys before those of the lists.
 pub(crate) fn check(alloc: Global, value: &Value) -> Result<(), Fault> {
     check_object(alloc, value, Place::whole(), &TOP, &OPTIONAL)?;
-    for (i, network) in items(value, "allowed").iter().enumerate() {
-        check_kind(alloc, Some(network), Place::item("allowed", i), Kind::Text)?;
-    }
+    check_items(alloc, value, "allowed", Kind::Text)?;
+    check_items(alloc, value, "deny_origins", Kind::Text)?;
+    check_items(alloc, value, "origin_ports", Kind::Number)?;
     for (i, key) in items(value, "keys").iter().enumerate() {
         check_object(alloc, key, Place::item("keys", i), &KEY, &[])?;
     }
@@ -104,7 +109,15 @@ pub(crate) fn check(alloc: Global, value: &Value) -> Result<(), Fault> {
     Ok(())
 }
 
-/// The items of a list of an object.
+// Checks that each item of the list at this key is of this kind.
+fn check_items(alloc: Global, value: &Value, key: &str, kind: Kind) -> Result<(), Fault> {
+    for (i, item) in items(value, key).iter().enumerate() {
+        check_kind(alloc, Some(item), Place::item(key, i), kind)?;
+    }
+    Ok(())
+}
+
+/// The items of a list of an object; none if the list is missing.
 pub(crate) fn items<'a>(object: &'a Value, key: &str) -> &'a [Value] {
     match object.get(key).and_then(Value::as_array) {
         Some(items) => items.as_slice(),

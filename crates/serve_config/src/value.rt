@@ -1,5 +1,5 @@
 //! Parsing single values of a configuration.
-ghost use Rattle.std.specs.Prelude.{◌≡◌, ◌≤◌, IfOk, true};
+ghost use Rattle.std.specs.Prelude.{◌≡◌, ◌≤◌, IfOk, IfSome, true};
 ghost use Rattle.serve_config.specs.Addresses.{is_host};
 
 use crate::fault::Fault;
@@ -39,9 +39,22 @@ pub(crate) fn number(
 ) -> Result<u64, Fault>
     ensures { IfOk result (λ n. (least ≤ n) × (n ≤ most)) }
 {
-    let Some(value) = object.get(place.name()) else {
-        return Err(Fault::shape(alloc, place, "missing"));
-    };
+    match object.get(place.name()) {
+        Some(value) => number_of(alloc, value, place, least, most),
+        None => Err(Fault::shape(alloc, place, "missing")),
+    }
+}
+
+/// A value as an integer from `least` to `most`. Errors: out of range.
+pub(crate) fn number_of(
+    alloc: Global,
+    value: &Value,
+    place: Place<'_>,
+    least: u64,
+    most: u64,
+) -> Result<u64, Fault>
+    ensures { IfOk result (λ n. (least ≤ n) × (n ≤ most)) }
+{
     match value.as_u64() {
         Some(n) if least <= n && n <= most => Ok(n),
         _ => Err(out_of_range(alloc, value, place, least, most)),
@@ -108,7 +121,9 @@ fn is_host(address: [u8; 4]) -> bool
 }
 
 /// Parses a network such as `10.0.0.0/8`.
-pub(crate) fn network(alloc: Global, value: &Value, place: Place<'_>) -> Result<Network, Fault> {
+pub(crate) fn network(alloc: Global, value: &Value, place: Place<'_>) -> Result<Network, Fault>
+    ensures { IfOk result (λ network. network.prefix ≤ 32) }
+{
     let Some(text) = value.as_str() else {
         return Err(Fault::shape(alloc, place, "not a text"));
     };
@@ -119,7 +134,9 @@ pub(crate) fn network(alloc: Global, value: &Value, place: Place<'_>) -> Result<
 }
 
 // Parses the text of a network; `None` if it is malformed.
-fn network_of(text: &str) -> Option<Network> {
+fn network_of(text: &str) -> Option<Network>
+    ensures { IfSome result (λ network. network.prefix ≤ 32) }
+{
     let (address, bits) = text.split_once('/')?;
     let addr = address.parse::<Ipv4Addr>().ok()?.octets();
     if !bits.bytes().all(|c| c.is_ascii_digit()) {

@@ -1,7 +1,7 @@
 //! Tests of the book: desks with threads at their seats, replays of whole books, long runs of a node, a client's fetch told by
-//! several kinds of clerk, and tallies of actions. They exercise node_core (`Node`, `run_events`), plain_node (`Tally`) and
-//! node_book (`Booked`, `Desk`, `Seat`, `Lone`, `Seated`) by their public calls. There are no contracts here but those that the
-//! calls require.
+//! several kinds of clerk, tallies of actions, and who lets go of a volume. They exercise node_core (`Node`, `run_events`),
+//! plain_node (`Tally`) and node_book (`Booked`, `Ledgered`, `Desk`, `Seat`, `Lone`, `Seated`) by their public calls. There are no
+//! contracts here but those that the calls require.
 //! Tested by: itself; `rt check --test` runs these tests.
 #![tactic(auto)]
 
@@ -21,3 +21,5 @@ mod replays;
 mod stories;
 #[cfg(test)]
 mod tallies;
+#[cfg(test)]
+mod volumes;

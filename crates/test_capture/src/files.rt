@@ -1,6 +1,6 @@
 //! Classic pcap files, whole and broken.
 
-use capture::{CaptureFault, Link, Order, take_head, take_record};
+use capture::{CaptureFault, Link, Order, PacketHead, take_head, take_record, take_start};
 use std::alloc::Global;
 use std::test::Fail;
 
@@ -86,6 +86,43 @@ fn broken_files(rt: HostRuntime) -> Result<(), Fail> {
     for row in &table {
         assert!(rt; read_hex(rt.alloc(), row.0)? == Err(row.1));
     }
+    Ok(())
+}
+
+/// The packet of either file above, with its link type and its moment's nanoseconds.
+const PACKETS: [(&str, Link, u32); 2] = [(BIG, Link::Ethernet, 11_000), (LITTLE, Link::Raw, 11)];
+
+#[test]
+fn packets(rt: HostRuntime) -> Result<(), Fail> {
+    for row in &PACKETS {
+        let octets = hex::decode(rt.alloc(), row.0)?;
+        let mut left = octets.as_slice();
+        let mut capture = take_start(rt.alloc(), &mut left).ok().ok_or("a start")?;
+        assert!(rt; capture.place() == 24);
+        let mut frame = Vec::new(rt.alloc());
+        let wanted = PacketHead {
+            link: Some(row.1),
+            seconds: 10,
+            nanoseconds: row.2,
+            original: 60,
+        };
+        assert!(rt; capture.take_packet(&mut left, &mut frame) == Ok(Some(wanted)));
+        assert!(rt; frame.as_slice() == b"abc".as_slice());
+        assert!(rt; capture.place() == 43);
+        assert!(rt; capture.take_packet(&mut left, &mut frame) == Ok(None));
+    }
+    Ok(())
+}
+
+// The place of a fault is where the broken record begins.
+#[test]
+fn places_of_faults(rt: HostRuntime) -> Result<(), Fail> {
+    let octets = hex::decode(rt.alloc(), BIG)?;
+    let mut left = octets.split_last().ok_or("an octet")?.1;
+    let mut capture = take_start(rt.alloc(), &mut left).ok().ok_or("a start")?;
+    let mut frame = Vec::new(rt.alloc());
+    assert!(rt; capture.take_packet(&mut left, &mut frame) == Err(CaptureFault::Ends));
+    assert!(rt; capture.place() == 24);
     Ok(())
 }
 

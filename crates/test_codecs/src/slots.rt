@@ -406,6 +406,45 @@ fn either_program_is_compared(rt: HostRuntime) -> Result<(), Fail> {
     Ok(())
 }
 
+// The verdict is the packet's length, the 28 octets of its header among them: `ld len`, `ret a`.
+const LENGTH: Listing = &[(0x80, 0, 0, 0), (0x16, 0, 0, 0)];
+
+// Lengths of payloads, from the shortest to the longest.
+const SIZES: [usize; 12] = [
+    0, 1, 512, 999, 1_000, 1_472, 4_096, 16_384, 32_768, 60_000, 60_001, 65_507,
+];
+
+// The verdicts on a payload of this many octets: as it is judged in advance, and as it is then found.
+fn verdicts_of(rt: &HostRuntime, slots: &Slots, size: usize) -> Result<[Verdict; 2], Fail> {
+    let payload = vec![in rt.alloc(); 7u8; size]?;
+    let arrived = datagram(rt, Socket::Icp, FROM, payload.as_slice())?;
+    let judged = slots.judge(Arc::new(rt.alloc(), arrived)?)?;
+    Ok([judged.verdict(), slots.force_judged(&judged)])
+}
+
+// Whether both filters let through a payload of each length.
+fn are_judged(rt: &HostRuntime, slots: &Slots) -> Result<bool, Fail> {
+    for size in &SIZES {
+        let wanted = Verdict {
+            value: 28 + *size as u32,
+            steps: 4,
+        };
+        if verdicts_of(rt, slots, *size)? != [wanted, wanted] {
+            return Ok(false);
+        }
+    }
+    Ok(true)
+}
+
+#[test]
+fn payloads_of_all_lengths_are_judged(rt: HostRuntime) -> Result<(), Fail> {
+    let slots = slots_of(&rt, LENGTH, LENGTH)?;
+    let are_judged = are_judged(&rt, &slots);
+    drop(slots);
+    assert!(rt; are_judged?);
+    Ok(())
+}
+
 // Whether a slot that doesn't exist accepts no program, returns none and holds none.
 fn is_nowhere(rt: &HostRuntime, slots: &mut Slots, slot: Slot) -> Result<bool, Fail> {
     let is_put = slots.install(slot, limit(rt, 0)?).err() == Some(NoSlot);

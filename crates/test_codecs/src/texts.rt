@@ -69,7 +69,53 @@ const TEXTS: &[(&str, u8, usize)] = &[
     ("L: ret a\nja L", 6, 2),
     ("ret a\nL: ja L", 6, 2),
     ("L: jeq #1, L, M", 6, 1),
+    ("ret # 10.0.0.1;.1\nL:ret #0.0.0.0\t; 1.2\r\n", 0, 0),
+    ("ld M[0.0.1.0]\nret a", 0, 0),
+    ("jeq #256.0.0.1, L, L\nL: ret a", 2, 1),
+    ("ret #1.2.3.256", 2, 1),
+    ("ret #1.2.3.99999999999999999999", 2, 1),
+    ("ret #10.1", 2, 1),
+    ("ret #1.2.3", 2, 1),
+    ("ret #1.2.3.4.5", 2, 1),
+    ("ret #01.2.3.4", 2, 1),
+    ("ret #1.2.3.04", 2, 1),
+    ("ret #00.0.0.0", 2, 1),
+    ("ret #1..2.3", 2, 1),
+    ("ret #1.2.3.", 2, 1),
+    ("ret #1.2.3.4.", 2, 1),
+    ("ret #.1.2.3.4", 2, 1),
+    ("ret #.", 2, 1),
+    ("ret #1.2. 3.4", 2, 1),
+    ("ret #1 .2.3.4", 2, 1),
+    ("ret #1.2.3.4x", 2, 1),
+    ("ret #1.2.3.4_", 2, 1),
+    ("ret #1.2.3.0x4", 2, 1),
+    ("ret #0x1.2.3.4", 2, 1),
+    ("ret #-1.2.3.4", 2, 1),
+    ("ret #1.2.3.4 5", 2, 1),
+    ("ret 10.0.0.1", 2, 1),
+    ("add 10.0.0.1", 2, 1),
+    ("tax 10.0.0.1", 2, 1),
+    ("tax #10.0.0.1", 2, 1),
+    ("ja 10.0.0.1", 2, 1),
+    ("jeq #1, 10.0.0.1, L\nL: ret a", 2, 1),
+    ("ldxb 4.*([1]&0xf)", 2, 1),
+    ("ld.1 #1", 2, 1),
+    ("ret. a", 2, 1),
+    (". ret a", 1, 1),
+    ("10.0.0.1", 1, 1),
+    ("10.0.0.1: ret a", 1, 1),
+    ("L.1: ret a", 1, 1),
+    ("L: ret #10.0.0.1\nL: mov", 4, 2),
+    ("ret #10.0.0.1\nret #4294967296", 3, 2),
+    ("jeq #10.0.0.1, M, N\nM: ret a", 5, 1),
 ];
+
+/// A text with an IPv4 address at each kind of operand that has a number, and its listing.
+const ADDRESSES: (&str, &str) = (
+    "ld #192.0.2.7\nldx #10.0.0.1\nld [0.0.0.12]\nldh [0.0.0.20]\nldb [0.0.0.28]\nld [x+0.0.1.0]\nldh [ x + 0.1.0.0 ]\nldb [x+1.0.0.0]\nld M[0.0.0.3]\nldx M[0.0.0.15]\nldxb 4*([0.0.0.28]&0xf)\nst M[0.0.0.0]\nstx M[0.0.0.9]\nadd #1.2.3.4\nsub #4.3.2.1\nmul #0.0.0.255\ndiv #0.0.255.0\nor #0.255.0.0\nand #255.255.255.0\nlsh #0.0.0.8\nrsh #0.0.0.16\nmod #100.100.100.100\nxor #127.0.0.1\njeq #10.0.0.1,L,L\nL: jge #172.16.0.0, M, M\nM: jgt #223.255.255.255, N, N\nN: jset #240.0.0.0, O, O\nO: ret #255.255.255.255\n",
+    "28\n0 0 0 3221225991\n1 0 0 167772161\n32 0 0 12\n40 0 0 20\n48 0 0 28\n64 0 0 256\n72 0 0 65536\n80 0 0 16777216\n96 0 0 3\n97 0 0 15\n177 0 0 28\n2 0 0 0\n3 0 0 9\n4 0 0 16909060\n20 0 0 67305985\n36 0 0 255\n52 0 0 65280\n68 0 0 16711680\n84 0 0 4294967040\n100 0 0 8\n116 0 0 16\n148 0 0 1684300900\n164 0 0 2130706433\n21 0 0 167772161\n53 0 0 2886729728\n37 0 0 3758096383\n69 0 0 4026531840\n6 0 0 4294967295\n",
+);
 
 /// Texts as the disassembler writes them, each with the listing of its program.
 const PROGRAMS: &[(&str, &str)] = &[
@@ -146,6 +192,18 @@ fn faults_come_in_order(rt: HostRuntime) -> Result<(), Fail> {
     for (text, number, line) in TEXTS {
         assert_eq!(rt; text_fault(rt.alloc(), text), (*number, *line));
     }
+    Ok(())
+}
+
+#[test]
+fn addresses_are_read(rt: HostRuntime) -> Result<(), Fail> {
+    let read = assemble(rt.alloc(), ADDRESSES.0.as_bytes())
+        .ok()
+        .ok_or("the text")?;
+    let expected = read_listing(rt.alloc(), ADDRESSES.1.as_bytes())
+        .ok()
+        .ok_or("the listing")?;
+    assert!(rt; read.as_slice() == expected.as_slice());
     Ok(())
 }
 

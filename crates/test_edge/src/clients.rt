@@ -1,7 +1,7 @@
 //! An HTTP client on plain sockets.
 use std::alloc::Global;
 use std::io;
-use std::io::{Read, Write};
+use std::io::{ErrorKind, Read, Write};
 use std::net::{Net, OpenStream, SocketAddr, TcpStream};
 use std::time::Duration;
 
@@ -44,6 +44,34 @@ pub(crate) fn is_ended_after<R: Net>(
         }
     }
     Ok(false)
+}
+
+/// What a server does on a connection.
+#[derive(Clone, Copy, Debug, PartialEq, Eq)]
+pub(crate) enum Seen {
+    /// It sends something.
+    Answered,
+    /// It closes the connection.
+    Closed,
+    /// Neither.
+    Silent,
+}
+
+/// Sends octets, and returns what the server does within `limit` then.
+pub(crate) fn seen_after<S>(socket: &mut S, octets: &[u8], limit: Duration) -> Seen
+where
+    S: OpenStream + Read + Write,
+{
+    if socket.set_read_timeout(Some(limit)).is_err() || socket.write_all(octets).is_err() {
+        return Seen::Closed;
+    }
+    let mut piece = [0; 4096];
+    match socket.read(&mut piece) {
+        Ok(0) => Seen::Closed,
+        Ok(_) => Seen::Answered,
+        Err(fault) if fault.kind() == ErrorKind::WouldBlock => Seen::Silent,
+        Err(_) => Seen::Closed,
+    }
 }
 
 /// Whether `all` contains `octets`.

@@ -1,11 +1,11 @@
-//! Tests of fetches and of name lookups.
-use crate::limits::fetch_limits;
+//! Tests of fetches.
+use crate::limits::{AllBut, fetch_limits, fetch_rules};
 use crate::origin;
 use fetch_chain::Submit;
 use futures::channel::mpsc::{UnboundedSender, unbounded};
 use futures::channel::oneshot;
-use hyper_cache::fetching::{Fetched, Job, Order, Server, run_fetches};
-use hyper_cache::names::{hand_over, look_up};
+use http_fetches::run_fetches;
+use http_traffic::{FetchEnd, Fetched, Job, Order, Server};
 use std::alloc::Global;
 use std::net::{SocketAddr, TcpListener};
 use std::test::Fail;
@@ -14,8 +14,8 @@ use std::{io, thread};
 
 // Keeps the results.
 #[derive(Drop)]
-struct Kept {
-    all: Vec<Fetched>,
+pub(crate) struct Kept {
+    pub(crate) all: Vec<Fetched>,
 }
 
 impl Submit<Fetched> for Kept {
@@ -25,7 +25,7 @@ impl Submit<Fetched> for Kept {
 }
 
 // An order, and the sender that cancels its fetch when dropped.
-fn order_of<R: Clock>(
+pub(crate) fn order_of<R: Clock>(
     rt: &R,
     alloc: Global,
     fetch: u32,
@@ -41,6 +41,7 @@ fn order_of<R: Clock>(
         host: String::from_str(alloc, "origin")?,
         target: String::from_str(alloc, target)?,
         fields: Vec::new(alloc),
+        is_origin: true,
         deadline,
         wanted,
     };
@@ -58,7 +59,7 @@ fn server_of(alloc: Global, server: Option<SocketAddr>) -> Result<Server, Fail> 
 }
 
 // Sends a job. Dropping the sender that is returned cancels its fetch.
-fn ask<R: Clock>(
+pub(crate) fn ask<R: Clock>(
     rt: &R,
     alloc: Global,
     jobs: &UnboundedSender<Job>,
@@ -120,10 +121,10 @@ fn ask_all(
 }
 
 // The status and body of a fetch, or `None` if it failed.
-fn page_of(done: &Fetched) -> Option<(u16, &[u8])> {
-    match &done.page {
-        Some(page) => Some((page.status, page.body.as_slice())),
-        None => None,
+pub(crate) fn page_of(done: &Fetched) -> Option<(u16, &[u8])> {
+    match &done.end {
+        FetchEnd::Whole(page) => Some((page.status, page.body.as_slice())),
+        FetchEnd::Refused | FetchEnd::Failed => None,
     }
 }
 
@@ -150,9 +151,10 @@ fn each_by_itself(rt: HostRuntime) -> Result<(), Fail> {
         all: Vec::new(alloc),
     };
     let limits = fetch_limits(10, Duration::from_millis(500));
+    let rules = fetch_rules(alloc, 1000)?;
     let fetches = thread::spawn(&rt, move || -> io::Result<Option<Kept>> {
         let mut seat = seat;
-        run_fetches(rt, work, &mut seat, limits)?;
+        run_fetches(rt, work, &mut seat, rules, limits)?;
         Ok(Some(seat))
     })?;
     let keeps = ask_all(&rt, alloc, jobs, server)?;
@@ -170,58 +172,40 @@ fn each_by_itself(rt: HostRuntime) -> Result<(), Fail> {
     Ok(())
 }
 
-// The address of a server, if it is known by now.
-fn address_of(server: Server) -> Option<SocketAddr> {
-    match server {
-        Server::At(address) => Some(address),
-        Server::Sought(sought) => told_of(sought),
-    }
-}
-
-fn told_of(sought: oneshot::Receiver<SocketAddr>) -> Option<SocketAddr> {
-    let mut sought = sought;
-    sought.try_recv().unwrap_or(None)
-}
-
-/// A host name goes through a lookup, an IPv4 address in digits straight to its fetch thread.
+/// An origin server that is not admitted is not connected to; a neighbour is, whatever its port.
 #[test]
-fn names_are_looked_up(rt: HostRuntime) -> Result<(), Fail> {
+fn a_server_that_is_not_admitted(rt: HostRuntime) -> Result<(), Fail> {
     let alloc = rt.alloc();
-    let (wishes, sought) = crossbeam_channel::unbounded(alloc)?;
-    let (jobs, mut work) = unbounded(alloc)?;
-    let (more, mut other) = unbounded(alloc)?;
-    let mut lanes = Vec::new(alloc);
-    lanes.push(jobs)?;
-    lanes.push(more)?;
-    let mut keeps = Vec::new(alloc);
-    let names = [
-        ("127.0.0.1", 80),
-        ("localhost", 81),
-        ("no.such.name.invalid", 82),
-    ];
-    let mut fetch = 0u32;
-    for (name, port) in names {
-        let (order, keep) = order_of(&rt, alloc, fetch, "/")?;
-        keeps.push(keep)?;
-        let name = String::from_str(alloc, name)?;
-        assert!(rt; hand_over(&rt, alloc, &wishes, lanes.as_slice(), name, port, order).is_ok());
-        fetch = fetch.saturating_add(2);
+    let listener = TcpListener::bind(&rt, "127.0.0.1:0")?;
+    let server = listener.local_addr()?;
+    let port = server.port();
+    let (jobs, work) = unbounded(alloc)?;
+    let refused = ask(&rt, alloc, &jobs, Some(server), 0, "/good")?;
+    let (order, taken) = order_of(&rt, alloc, 1, "/good")?;
+    let mut order = order;
+    order.is_origin = false;
+    let server = Server::At(server);
+    assert!(rt; jobs.unbounded_send(Job { server, order }).is_ok());
+    drop(jobs);
+    let origin = thread::spawn(&rt, move || origin::serve(rt, alloc, listener, 1))?;
+    let mut rules = fetch_rules(alloc, 1000)?;
+    rules.admit = AllBut { port };
+    let mut seat = Kept {
+        all: Vec::new(alloc),
+    };
+    run_fetches(
+        rt,
+        work,
+        &mut seat,
+        rules,
+        fetch_limits(10, Duration::from_millis(500)),
+    )?;
+    drop((refused, taken));
+    assert_eq!(rt; seat.all.len(), 2);
+    for done in &seat.all {
+        assert_eq!(rt; matches!(done.end, FetchEnd::Refused), done.fetch == 0);
+        assert_eq!(rt; page_of(done).is_some(), done.fetch == 1);
     }
-    drop(wishes);
-    look_up(&rt, &sought);
-    drop(lanes);
-    for wanted in ["127.0.0.1:80", "127.0.0.1:81", ""] {
-        let Ok(Some(job)) = work.try_next() else {
-            panic!(rt; "no job");
-        };
-        let Job { server, order } = job;
-        drop(order);
-        let got = match address_of(server) {
-            Some(server) => server.to_string(alloc)?,
-            None => String::new(alloc),
-        };
-        assert_eq!(rt; got.as_str(), wanted);
-    }
-    assert!(rt; matches!(other.try_next(), Ok(None)));
+    let _ = origin.join(&rt);
     Ok(())
 }

@@ -1,9 +1,11 @@
-//! Tests of the network edge over loopback: `client_streams`, `object_body`, `fetch_chain` and `hyper_cache`, against clients and
-//! origin servers on plain sockets. Nothing here has a contract that another crate uses.
+//! Tests of the network edge over loopback: `client_streams`, `object_body`, `fetch_chain`, `http_clients`, `http_fetches` and
+//! `name_lookup`, against clients and origin servers on plain sockets. Nothing here has a contract that another crate uses.
 //!
-//! Tested by: src/fetches.rt, src/path.rt, src/servers.rt.
+//! Tested by: src/budget.rt, src/fetches.rt, src/names.rt, src/path.rt, src/seats.rt, src/servers.rt.
 #![tactic(auto)]
 
+#[cfg(test)]
+mod budget;
 #[cfg(test)]
 mod clients;
 #[cfg(test)]
@@ -11,8 +13,12 @@ mod fetches;
 #[cfg(test)]
 mod limits;
 #[cfg(test)]
+mod names;
+#[cfg(test)]
 mod origin;
 #[cfg(test)]
 mod path;
+#[cfg(test)]
+mod seats;
 #[cfg(test)]
 mod servers;

@@ -1,9 +1,13 @@
 //! Limits of the servers and fetches under test.
 ghost use Rattle.std.specs.Prelude.{◌<◌};
 
-use client_streams::StreamTimeouts;
-use hyper_cache::ServeLimits;
-use hyper_cache::fetching::FetchLimits;
+use client_streams::{ClientLimits, StreamTimeouts};
+use http_clients::ServeLimits;
+use http_fetches::{Budget, FetchLimits, FetchRules};
+use http_traffic::Admit;
+use std::alloc::{AllocError, Global};
+use std::net::SocketAddr;
+use std::sync::Arc;
 use std::time::Duration;
 
 /// Limits of a server that are short enough for a test to wait until they pass.
@@ -15,20 +19,50 @@ pub(crate) fn serve_limits() -> ServeLimits {
             content: Duration::from_millis(300),
             taking: Duration::from_millis(600),
         },
-        connections: 64,
-        rest: Duration::from_millis(100),
+        connections: client_limits(64, 64),
         grace: Duration::from_millis(200),
         content: 100,
     }
 }
 
-/// Limits of a fetch thread: bodies of at most `octets`, this long to connect, and more fetches at a time than any test makes.
+/// At most so many clients, and so many of one address, with a pause of 100 ms after a failed accept.
+pub(crate) fn client_limits(most: usize, an_address: usize) -> ClientLimits {
+    ClientLimits {
+        most,
+        an_address,
+        rest: Duration::from_millis(100),
+    }
+}
+
+/// Limits of a fetch thread: bodies of at most `octets`, none of them free, this long to connect, and more fetches at a time than any
+/// test makes.
 pub(crate) fn fetch_limits(octets: usize, connecting: Duration) -> FetchLimits
     ensures { 0 < result.at_once }
 {
     FetchLimits {
         octets,
+        free: 0,
         connecting,
         at_once: 64,
     }
+}
+
+/// Admits every origin server but those at one port.
+#[derive(Drop)]
+pub(crate) struct AllBut {
+    pub(crate) port: u16,
+}
+
+impl Admit for AllBut {
+    fn admits(&self, server: SocketAddr) -> bool {
+        server.port() != self.port
+    }
+}
+
+/// A budget of this many octets, and no port that is not admitted.
+pub(crate) fn fetch_rules(alloc: Global, octets: usize) -> Result<FetchRules<AllBut>, AllocError> {
+    Ok(FetchRules {
+        budget: Arc::new(alloc, Budget::new(alloc, octets))?,
+        admit: AllBut { port: 0 },
+    })
 }

@@ -2,16 +2,16 @@
 ghost use Rattle.std.specs.Prelude.{◌<◌};
 
 use crate::clients::{exchange, has};
-use crate::limits::{fetch_limits, serve_limits};
+use crate::limits::{fetch_limits, fetch_rules, serve_limits};
 use crate::origin;
-use crossbeam_channel::{Sender, unbounded};
+use crossbeam_channel::unbounded;
 use fetch_chain::Submit;
 use futures::channel::mpsc::UnboundedSender;
 use futures::channel::{mpsc, oneshot};
-use hyper_cache::Asked;
-use hyper_cache::fetching::{FetchLimits, Fetched, Job, Order, run_fetches};
-use hyper_cache::names::{Wish, hand_over};
-use hyper_cache::serving::{Asking, Forward, Front, Outcome, serve_clients};
+use http_clients::serve_clients;
+use http_fetches::{FetchLimits, run_fetches};
+use http_traffic::{Asked, Asking, FetchEnd, Fetched, Forward, Front, Job, Order, Outcome};
+use name_lookup::{NameDesk, NameLimits, hand_over, open_names};
 use object_store::{Object, SharedObject};
 use std::alloc::Global;
 use std::net::{Ipv4Addr, SocketAddr, SocketAddrV4, TcpListener};
@@ -35,7 +35,7 @@ struct Asks<R> {
     alloc: Global,
     table: Arc<Mutex<Table>>,
     lanes: Vec<UnboundedSender<Job>>,
-    wishes: Sender<Wish, Global>,
+    names: NameDesk,
     port: u16,
     next: u64,
     left: u32,
@@ -50,6 +50,7 @@ impl<R: Wait + Clock + Copy> Asks<R> {
             host: String::from_str(self.alloc, "127.0.0.1").ok()?,
             target: String::from_str(self.alloc, "/minute").ok()?,
             fields: Vec::new(self.alloc),
+            is_origin: true,
             deadline: Instant::now(&self.rt)
                 .ok()?
                 .checked_add(Duration::from_secs(30))?,
@@ -73,7 +74,7 @@ impl<R: Wait + Clock + Copy> Asks<R> {
             hand_over(
                 &self.rt,
                 self.alloc,
-                &self.wishes,
+                &self.names,
                 self.lanes.as_slice(),
                 name,
                 self.port,
@@ -125,9 +126,9 @@ struct Puts<R> {
 impl<R: Wait + Copy> Submit<Fetched> for Puts<R> {
     fn submit(&mut self, done: Fetched) {
         let mut table = self.table.lock(&self.rt);
-        let answer = match done.page {
-            Some(page) => object_of(self.alloc, page.status, page.body),
-            None => None,
+        let answer = match done.end {
+            FetchEnd::Whole(page) => object_of(self.alloc, page.status, page.body),
+            FetchEnd::Refused | FetchEnd::Failed => None,
         };
         if let Some(waiting) = table.waiting.take() {
             let _ = match answer {
@@ -159,7 +160,8 @@ fn a_miss_and_a_hit(rt: HostRuntime) -> Result<(), Fail> {
     let port = listener.local_addr()?.port();
     let (bound, told) = unbounded(alloc)?;
     let (stop, stopped) = oneshot::channel(alloc)?;
-    let (wishes, _sought) = unbounded(alloc)?;
+    let (names, _clerk) = open_names(alloc, NameLimits::usual())?;
+    let rules = fetch_rules(alloc, 1000)?;
     let (jobs, work) = mpsc::unbounded(alloc)?;
     let mut lanes = Vec::new(alloc);
     lanes.push(jobs)?;
@@ -179,7 +181,7 @@ fn a_miss_and_a_hit(rt: HostRuntime) -> Result<(), Fail> {
         alloc,
         table,
         lanes,
-        wishes,
+        names,
         port,
         next: 0,
         left: 2,
@@ -188,7 +190,7 @@ fn a_miss_and_a_hit(rt: HostRuntime) -> Result<(), Fail> {
     let origin = thread::spawn(&rt, move || origin::serve(rt, alloc, listener, 1))?;
     let fetches = thread::spawn(
         &rt,
-        move || run_fetches(rt, work, &mut puts, short_bodies()),
+        move || run_fetches(rt, work, &mut puts, rules, short_bodies()),
     )?;
     let address = SocketAddr::V4(SocketAddrV4::new(Ipv4Addr::new(127, 0, 0, 1), 0));
     let server = thread::spawn(

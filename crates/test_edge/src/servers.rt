@@ -1,13 +1,12 @@
 //! Tests of the servers for clients and for administration.
 use crate::clients::{exchange, has, is_ended_after};
-use crate::limits::serve_limits;
+use crate::limits::{client_limits, serve_limits};
 use client_streams::{Accept, AcceptedClients, Patient, Refusal, SharedStage};
 use crossbeam_channel::unbounded;
 use filter_slots::Slot;
-use futures::channel::oneshot;
-use hyper_cache::Asked;
-use hyper_cache::administration::{Panel, PutFault, serve_admin};
-use hyper_cache::serving::{Asking, Forward, Front, Outcome, serve_clients};
+use futures::channel::{mpsc, oneshot};
+use http_clients::{serve_admin, serve_clients};
+use http_traffic::{Asked, Asking, CaptureFault, Forward, Front, Outcome, Panel, PutFault};
 use object_store::{Object, SharedObject};
 use std::alloc::{AllocError, AllocGlobal, Global};
 use std::net::{Ipv4Addr, Net, SocketAddr, SocketAddrV4};
@@ -23,7 +22,7 @@ use tokio::time::Handle;
 
 // Answers by the request target alone, and counts its answers.
 #[derive(Drop)]
-struct Script {
+pub(crate) struct Script {
     alloc: Global,
     next: u64,
     // Senders of answers that are never sent.
@@ -35,6 +34,18 @@ struct Script {
 }
 
 impl Script {
+    /// A front that nobody watches.
+    pub(crate) fn new(alloc: Global) -> Result<Script, AllocError> {
+        Ok(Script {
+            alloc,
+            next: 0,
+            kept: Vec::new(alloc),
+            gone: Arc::new(alloc, AtomicU64::new(0))?,
+            answered: None,
+            left: 0,
+        })
+    }
+
     fn answer(&self, target: &str) -> Result<Outcome, AllocError> {
         let mut head = Vec::new(self.alloc);
         head.push((b"age".to_vec(self.alloc)?, b"7".to_vec(self.alloc)?))?;
@@ -363,6 +374,10 @@ impl Panel for Board {
         !has(asked.target.as_bytes(), b"elsewhere")
     }
 
+    fn admits_change(&mut self, asked: &Asked) -> bool {
+        !asked.head.contains_key("x-forged")
+    }
+
     fn has(&mut self, slot: Slot) -> bool {
         match slot {
             Slot::Socket(_) => true,
@@ -400,10 +415,32 @@ impl Panel for Board {
     fn neighbours(&mut self) -> Result<Vec<u8>, AllocError> {
         b"[]".to_vec(self.alloc)
     }
+
+    fn capture(&mut self, query: Option<&str>) -> Result<mpsc::Receiver<Vec<u8>>, CaptureFault> {
+        match query {
+            None => match two_pieces(self.alloc) {
+                Ok(pieces) => Ok(pieces),
+                Err(_) => Err(CaptureFault::NoMemory),
+            },
+            Some("busy") => Err(CaptureFault::Busy),
+            Some(_) => match b"no limits\n".to_vec(self.alloc) {
+                Ok(line) => Err(CaptureFault::NoLimits(line)),
+                Err(_) => Err(CaptureFault::NoMemory),
+            },
+        }
+    }
+}
+
+// A file of two pieces that is complete.
+fn two_pieces(alloc: Global) -> Result<mpsc::Receiver<Vec<u8>>, AllocError> {
+    let (mut to, pieces) = mpsc::channel(alloc, 2)?;
+    let _ = to.try_send(b"ab".to_vec(alloc)?);
+    let _ = to.try_send(b"cde".to_vec(alloc)?);
+    Ok(pieces)
 }
 
 // Requests in order, and the parts that each response must contain.
-const ADMINISTRATION: [(&[u8], [&[u8]; 2]); 18] = [
+const ADMINISTRATION: [(&[u8], [&[u8]; 2]); 30] = [
     (
         b"PUT /filter/icp HTTP/1.1\r\nHost: o\r\nContent-Length: 6\r\n\r\nret #0",
         [b"HTTP/1.1 204 No Content", b""],
@@ -425,6 +462,28 @@ const ADMINISTRATION: [(&[u8], [&[u8]; 2]); 18] = [
     ),
     (
         b"GET /filter/icp HTTP/1.1\r\nHost: o\r\n\r\n",
+        [b"HTTP/1.1 200 OK", b"\r\n\r\nret #0"],
+    ),
+    (
+        b"PUT /filter/icp HTTP/1.1\r\nHost: o\r\nX-Forged: 1\r\nContent-Length: 6\r\n\r\nret #1",
+        [
+            b"HTTP/1.1 401 Unauthorized",
+            b"\r\nwww-authenticate: Bearer\r\n",
+        ],
+    ),
+    (
+        b"DELETE /other HTTP/1.1\r\nHost: o\r\nX-Forged: 1\r\n\r\n",
+        [
+            b"HTTP/1.1 401 Unauthorized",
+            b"\r\nwww-authenticate: Bearer\r\n",
+        ],
+    ),
+    (
+        b"PUT http://elsewhere/filter/icp HTTP/1.1\r\nHost: o\r\nX-Forged: 1\r\nContent-Length: 6\r\n\r\nret #1",
+        [b"HTTP/1.1 403 Forbidden", b""],
+    ),
+    (
+        b"GET /filter/icp HTTP/1.1\r\nHost: o\r\nX-Forged: 1\r\n\r\n",
         [b"HTTP/1.1 200 OK", b"\r\n\r\nret #0"],
     ),
     (
@@ -476,8 +535,46 @@ const ADMINISTRATION: [(&[u8], [&[u8]; 2]); 18] = [
         [b"HTTP/1.1 404 Not Found", b""],
     ),
     (
+        b"POST /capture HTTP/1.1\r\nHost: o\r\n\r\n",
+        [
+            b"HTTP/1.1 200 OK",
+            b"\r\n\r\n2\r\nab\r\n3\r\ncde\r\n0\r\n\r\n",
+        ],
+    ),
+    (
+        b"POST /capture HTTP/1.0\r\nHost: o\r\n\r\n",
+        [b"HTTP/1.0 200 OK", b"\r\n\r\nabcde"],
+    ),
+    (
+        b"POST /capture?busy HTTP/1.1\r\nHost: o\r\n\r\n",
+        [b"HTTP/1.1 409 Conflict", b"\r\n\r\n409 Conflict: "],
+    ),
+    (
+        b"POST /capture? HTTP/1.1\r\nHost: o\r\n\r\n",
+        [b"HTTP/1.1 400 Bad Request", b"\r\n\r\nno limits\n"],
+    ),
+    (
+        b"POST /captures HTTP/1.1\r\nHost: o\r\n\r\n",
+        [b"HTTP/1.1 404 Not Found", b"/captures\n"],
+    ),
+    (
+        b"POST /capture HTTP/1.1\r\nHost: o\r\nX-Forged: 1\r\n\r\n",
+        [
+            b"HTTP/1.1 401 Unauthorized",
+            b"\r\nwww-authenticate: Bearer\r\n",
+        ],
+    ),
+    (
         b"PUT /filter/icp HTTP/1.1\r\nHost: o\r\nContent-Length: 101\r\n\r\n",
         [b"HTTP/1.1 413 ", b""],
+    ),
+    (
+        b"PUT /filter/icp HTTP/1.1\r\nHost: o\r\nTransfer-Encoding: chunked\r\n\r\n1\r\n;\r\n64\r\nxxxxxxxxxxxxxxxxxxxxxxxxxxxxxxxxxxxxxxxxxxxxxxxxxxxxxxxxxxxxxxxxxxxxxxxxxxxxxxxxxxxxxxxxxxxxxxxxxxxx\r\n0\r\n\r\n",
+        [b"HTTP/1.1 413 ", b"\r\nconnection: close\r\n"],
+    ),
+    (
+        b"PUT /filter/icp HTTP/1.1\r\nHost: o\r\nTransfer-Encoding: chunked\r\n\r\nzz\r\n",
+        [b"HTTP/1.1 400 ", b"\r\nconnection: close\r\n"],
     ),
 ];
 
@@ -525,8 +622,12 @@ impl<R: Clock + Copy> Accept for Refusing<R> {
         false
     }
 
-    fn accept(&self, socket: TcpStream, address: SocketAddr) -> Option<Refusal<R>> {
-        let stage = SharedStage::new(self.alloc).ok()?;
+    fn accept(
+        &self,
+        socket: TcpStream,
+        address: SocketAddr,
+        stage: SharedStage,
+    ) -> Option<Refusal<R>> {
         let still = serve_limits().still;
         let patient = Patient::new(self.rt, &self.timers, socket, still, stage).ok()?;
         Some(Refusal::new(patient, b"no\n".to_vec(self.alloc).ok()?))
@@ -554,8 +655,8 @@ where
         alloc,
         timers: runtime.handle().time().clone()?,
     };
-    let rest = Duration::from_millis(100);
-    let clients = AcceptedClients::new(rt, alloc, timers, listener, stop, accept, 64, rest)?;
+    let limits = client_limits(64, 64);
+    let clients = AcceptedClients::new(rt, alloc, timers, listener, stop, accept, limits)?;
     runtime.run_all(&rt, clients)
 }
 

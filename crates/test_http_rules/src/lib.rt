@@ -4,6 +4,10 @@
 #![tactic(auto)]
 
 #[cfg(test)]
+mod doors;
+#[cfg(test)]
+mod heads;
+#[cfg(test)]
 mod rules;
 #[cfg(test)]
 mod settings;

@@ -1,21 +1,10 @@
 //! Classification of requests, storing of responses, cache keys, and forwarded fields.
 
-use http_header::{HeaderMap, HeaderName, HeaderValue};
-use http_rules::{TargetFault, classify, end_to_end, key_of, may_store};
+use crate::heads::head_of;
+use http_rules::{PassFault, TargetFault, classify, end_to_end, key_of, may_store};
 use node_core::Mode;
 use std::alloc::Global;
 use std::test::Fail;
-
-// A header map from lines of the form `name: value`.
-fn head_of(alloc: Global, lines: &str) -> Result<HeaderMap, Fail> {
-    let mut head = HeaderMap::new(alloc);
-    for line in lines.lines() {
-        let (name, value) = line.split_once(": ").ok_or("no field")?;
-        let name = HeaderName::from_bytes(alloc, name.as_bytes())?;
-        head.append(name, HeaderValue::from_str(alloc, value)?)?;
-    }
-    Ok(head)
-}
 
 #[test]
 fn modes(rt: HostRuntime) -> Result<(), Fail> {
@@ -164,5 +153,58 @@ fn fields_for_one_proxy(rt: HostRuntime) -> Result<(), Fail> {
     assert_eq!(rt; kept.len(), 2);
     assert_eq!(rt; kept[0].0.as_slice(), b"authorization".as_slice());
     assert_eq!(rt; kept[1].0.as_slice(), b"www-authenticate".as_slice());
+    Ok(())
+}
+
+// The head with these lines and one more Connection field, of `count` options.
+fn with_options(alloc: Global, lines: &str, count: usize) -> Result<String, Fail> {
+    let mut text = String::from_str(alloc, lines)?;
+    text.push_str("\nConnection: ")?;
+    for i in 0..count {
+        text.push_str(format!(in alloc; "x-{i}, ")?.as_str())?;
+    }
+    text.push_str("close")?;
+    Ok(text)
+}
+
+#[test]
+fn at_most_64_options(rt: HostRuntime) -> Result<(), Fail> {
+    let table: [(&str, usize, Option<usize>); 6] = [
+        ("Host: a\nX-0: 1\nX-62: 1\nX-63: 1", 63, Some(2)),
+        ("Host: a", 64, None),
+        ("Host: a\nConnection: ,, ,\t, ,", 63, Some(1)),
+        ("Host: a\nConnection: ,, ,\tx, ,", 63, None),
+        ("Host: a\nConnection: x-1", 62, Some(1)),
+        ("Host: a\nConnection: close, close", 62, None),
+    ];
+    for (lines, count, wanted) in table {
+        let text = with_options(rt.alloc(), lines, count)?;
+        let head = head_of(rt.alloc(), text.as_str())?;
+        let kept = match end_to_end(rt.alloc(), &head) {
+            Ok(kept) => Some(kept.len()),
+            Err(PassFault::TooManyNames) => None,
+            Err(PassFault::NoMemory) => Some(0),
+        };
+        assert_eq!(rt; kept, wanted, "{lines} {count}");
+    }
+    Ok(())
+}
+
+#[test]
+fn named_fields(rt: HostRuntime) -> Result<(), Fail> {
+    let table: [(&str, usize); 7] = [
+        ("Connection: X-ONE\nx-one: 1\nX-One: 2\nX-Two: 1", 1),
+        ("Connection: \t x-one\t ,,x-two\nX-One: 1\nX-Two: 1", 0),
+        ("Connection: x-one x-two\nX-One: 1\nX-Two: 1", 2),
+        ("Connection: x\nConnection: x-two\nX-One: 1\nX-Two: 1", 1),
+        ("Connection: \"x-one\"\nX-One: 1", 1),
+        ("CDN-Loop: a\nCDN-Loop: b\nCDN-Cache-Control: c", 3),
+        ("Connection: close\nX-One: 1", 1),
+    ];
+    for (lines, wanted) in table {
+        let head = head_of(rt.alloc(), lines)?;
+        let kept = end_to_end(rt.alloc(), &head)?;
+        assert_eq!(rt; kept.len(), wanted, "{lines}");
+    }
     Ok(())
 }

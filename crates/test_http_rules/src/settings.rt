@@ -205,6 +205,124 @@ const UNREACHABLE: [(&str, &str, &str); 12] = [
     ),
 ];
 
+// The same, for the keys that bound and guard what clients and strangers can do.
+const GUARDS: [(&str, &str); 25] = [
+    (r#""fetch_octets": 1"#, "read"),
+    (r#""fetch_octets": 1073741824"#, "read"),
+    (
+        r#""fetch_octets": 0"#,
+        "config fault 3\nfetch_octets: 0 is below 1",
+    ),
+    (
+        r#""fetch_octets": 1073741825"#,
+        "config fault 3\nfetch_octets: 1073741825 is above 1073741824",
+    ),
+    (r#""address_connections": 1"#, "read"),
+    (r#""address_connections": 4096"#, "read"),
+    (
+        r#""address_connections": 4097"#,
+        "config fault 3\naddress_connections: 4097 is above 4096",
+    ),
+    (
+        r#""address_connections": 0"#,
+        "config fault 3\naddress_connections: 0 is below 1",
+    ),
+    (r#""deny_origins": []"#, "read"),
+    (r#""deny_origins": ["192.168.0.0/16", "0.0.0.0/0"]"#, "read"),
+    (
+        r#""deny_origins": ["192.168.0.0/16", "0.0.0.0/33"]"#,
+        "config fault 3\ndeny_origins[1]: \"0.0.0.0/33\" is no network",
+    ),
+    (
+        r#""deny_origins": "10.0.0.0/8""#,
+        "config fault 2\ndeny_origins: not a list",
+    ),
+    (
+        r#""deny_origins": [1]"#,
+        "config fault 2\ndeny_origins[0]: not a text",
+    ),
+    (r#""origin_ports": [1, 80, 65535]"#, "read"),
+    (
+        r#""origin_ports": []"#,
+        "config fault 3\norigin_ports: empty",
+    ),
+    (
+        r#""origin_ports": [80, 0]"#,
+        "config fault 3\norigin_ports[1]: 0 is below 1",
+    ),
+    (
+        r#""origin_ports": [65536]"#,
+        "config fault 3\norigin_ports[0]: 65536 is above 65535",
+    ),
+    (
+        r#""origin_ports": ["80"]"#,
+        "config fault 2\norigin_ports[0]: not a whole number",
+    ),
+    (
+        r#""origin_ports": 80"#,
+        "config fault 2\norigin_ports: not a list",
+    ),
+    (r#""admin_token": "mF_9.B5f-4.1JqM""#, "read"),
+    (r#""admin_token": "-._~+/09azAZ==""#, "read"),
+    (r#""admin_token": """#, "config fault 3\nadmin_token: empty"),
+    (
+        r#""admin_token": "a=b""#,
+        "config fault 3\nadmin_token: not a token68 (RFC 9110, section 11.2)",
+    ),
+    (
+        r#""admin_token": "=""#,
+        "config fault 3\nadmin_token: not a token68 (RFC 9110, section 11.2)",
+    ),
+    (
+        r#""admin_token": 7"#,
+        "config fault 2\nadmin_token: not a text",
+    ),
+];
+
+// Parses the good configuration with one more key.
+fn told_with(alloc: Global, key: &str) -> Result<String, Fail> {
+    let new = format!(in alloc; "{key}, \"volume\"")?;
+    told(alloc, r#""volume""#, new.as_str())
+}
+
+#[test]
+fn guards(rt: HostRuntime) -> Result<(), Fail> {
+    for (key, wanted) in GUARDS {
+        let told = told_with(rt.alloc(), key)?;
+        assert_eq!(rt; told.as_str(), wanted, "{key}");
+    }
+    Ok(())
+}
+
+// A token of this many octets.
+fn told_of_token(alloc: Global, octets: usize) -> Result<String, Fail> {
+    let mut key = String::from_str(alloc, r#""admin_token": ""#)?;
+    for _ in 0..octets {
+        key.push_str("a")?;
+    }
+    key.push_str(r#"""#)?;
+    told_with(alloc, key.as_str())
+}
+
+#[test]
+fn long_tokens(rt: HostRuntime) -> Result<(), Fail> {
+    assert_eq!(rt; told_of_token(rt.alloc(), 255)?.as_str(), "read");
+    assert_eq!(rt;
+        told_of_token(rt.alloc(), 256)?.as_str(),
+        "config fault 3\nadmin_token: over 255 octets"
+    );
+    Ok(())
+}
+
+#[test]
+fn what_is_left_out_is_none(rt: HostRuntime) -> Result<(), Fail> {
+    let settings = Settings::read(rt.alloc(), GOOD.as_bytes())?;
+    assert!(rt; settings.fetch_octets.is_none() && settings.address_connections.is_none());
+    assert!(rt; settings.deny_origins.is_none() && settings.origin_ports.is_none());
+    assert!(rt; settings.admin_token.is_none());
+    Ok(())
+}
+
 #[test]
 fn unreachable_neighbours(rt: HostRuntime) -> Result<(), Fail> {
     for (old, new, wanted) in UNREACHABLE {

@@ -158,3 +158,9 @@ pub(crate) fn swap(alloc: Global, slot: Slot, k: Option<u32>) -> Option<Arc<Even
     let program = program_if(alloc, k)?;
     Arc::new(alloc, Event::Swap { slot, program }).ok()
 }
+
+/// A swap: the slot's filter is replaced by this one.
+pub(crate) fn swap_for(alloc: Global, slot: Slot, filter: &Arc<Checked>) -> Option<Arc<Event>> {
+    let program = Some(Arc::try_clone(filter).ok()?);
+    Arc::new(alloc, Event::Swap { slot, program }).ok()
+}

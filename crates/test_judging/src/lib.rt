@@ -17,4 +17,6 @@ mod orders;
 #[cfg(test)]
 mod pumping;
 #[cfg(test)]
+mod sharing;
+#[cfg(test)]
 mod silence;

@@ -18,3 +18,5 @@ mod limited;
 mod passing;
 #[cfg(test)]
 mod scripted;
+#[cfg(test)]
+mod sizes;

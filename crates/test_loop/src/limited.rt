@@ -7,7 +7,7 @@ ghost use Rattle.node_core.specs.Happening.{arrives, happening};
 ghost use Rattle.node_book.specs.Told.{Told, Submits, passing};
 
 use crate::fixtures::{ALONE, FIVE, Step, WAITS, asked, has_replied, lone, pumped, wire_of};
-use filter_slots::{Judged, Moment, Slots};
+use filter_slots::{Datagram, Judged, Moment};
 use mio_queries::{NoMemory, PumpFault};
 use node_book::{Clerk, Lone, SubmitFault};
 use node_core::{Action, Event, Out};
@@ -39,9 +39,12 @@ fn takes_one(left: &mut u32) -> bool {
 impl<C: Clerk> Clerk for Limited<C> {
     ghost use Rattle.std.specs.Prelude.{None};
 
-    ghost told = { λ l. None };
+    // Nothing of a node, as this clerk may refuse whatever the number of the next event is.
+    ghost told = { λ l. record (C.told l.clerk) { node = None } };
 
     ghost taken = { λ l. C.taken l.clerk };
+
+    ghost programs = { λ l. C.programs l.clerk };
 
     fn submit(
         &mut self,
@@ -68,8 +71,8 @@ impl<C: Clerk> Clerk for Limited<C> {
         self.clerk.submit_judged(alloc, judged, now, out)
     }
 
-    fn programs(&mut self) -> Result<Slots, NoMemory> {
-        self.clerk.programs()
+    fn judge(&mut self, datagram: Arc<Datagram>) -> Result<Judged, NoMemory> {
+        self.clerk.judge(datagram)
     }
 
     fn pass(&mut self, alloc: Global, action: &Action) -> Result<(), NoMemory> {

@@ -140,3 +140,42 @@ fn a_run_takes_all_events(rt: HostRuntime) -> Result<(), Fail> {
     assert_eq!(rt; (counters.cut, counters.malformed), (0, 0));
     Ok(())
 }
+
+/// The number of ticks in a long list. The actions of each event have room for 1,344, so a list of a million events would need
+/// some 75 GB.
+const TICKS: u64 = 20_000;
+
+/// Ticks, one for each millisecond, and then a query.
+fn ticks_and_query(rt: &HostRuntime) -> Result<Vec<Event>, Fail> {
+    let mut events = Vec::new(rt.alloc());
+    for now in 0..TICKS {
+        let now = Moment::new(now).ok_or("no moment")?;
+        events.push(Event::Timer { now })?;
+    }
+    events.push(arrival(rt, QUERY, TICKS)?)?;
+    Ok(events)
+}
+
+/// Whether there are actions for each event, and the last one sends the MISS.
+fn is_answered_last(rt: &HostRuntime, outs: &[Out]) -> Result<bool, Fail> {
+    match outs.last() {
+        Some(out) => Ok(outs.len() as u64 == TICKS + 1 && sent(rt, out)?.as_str() == MISS),
+        None => Ok(false),
+    }
+}
+
+/// Whether a run takes the whole list.
+fn takes_all(rt: &HostRuntime, node: &mut Node) -> Result<bool, Fail> {
+    let events = ticks_and_query(rt)?;
+    let outs = outs_of(rt.alloc(), node, &events).ok_or("no memory")?;
+    is_answered_last(rt, &outs)
+}
+
+#[test]
+fn a_run_takes_a_long_list(rt: HostRuntime) -> Result<(), Fail> {
+    let mut node = node_of(&rt)?;
+    let takes_all = takes_all(&rt, &mut node);
+    drop(node);
+    assert!(rt; takes_all?);
+    Ok(())
+}

@@ -1,8 +1,10 @@
 //! Readers and writers that fail or are interrupted at one call.
 
+use crate::memory::{Flushed, Source};
 use crate::runs::{Faults, NEVER, run_script};
-use feed_script::FeedFault;
+use feed_script::{FeedFault, feed};
 use std::alloc::Global;
+use std::cell::Cell;
 use std::io::ErrorKind;
 use std::test::Fail;
 
@@ -70,4 +72,32 @@ fn interruptions(rt: HostRuntime) {
         assert!(rt; goes_on(alloc, 0, k), "write {k}");
         assert!(rt; goes_on(alloc, k, k), "read and write {k}");
     }
+}
+
+/// The outcome of the script and the number of flushes, which fail if `fails`.
+fn flushed(alloc: Global, fails: bool) -> (Result<(), FeedFault>, u64) {
+    let flushes = Cell::new(0);
+    let mut input = Source {
+        rest: SCRIPT,
+        calls: 0,
+        fail_at: 0,
+        fault: ErrorKind::Other,
+    };
+    let mut output = Flushed {
+        flushes: &flushes,
+        fails,
+    };
+    let outcome = feed(alloc, &mut input, &mut output);
+    (outcome, flushes.get())
+}
+
+// A writer may hold octets back until it is flushed.
+#[test]
+fn the_output_is_flushed_at_the_end(rt: HostRuntime) {
+    assert!(rt; flushed(rt.alloc(), false) == (Ok(()), 1));
+}
+
+#[test]
+fn a_failing_flush(rt: HostRuntime) {
+    assert!(rt; flushed(rt.alloc(), true) == (Err(FeedFault::Write), 1));
 }

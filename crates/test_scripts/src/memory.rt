@@ -6,6 +6,7 @@ use std::io;
 use std::io::{ErrorKind, Read, Write};
 
 /// A reader that returns up to five octets per call, and `fault` at call number `fail_at`, counted from 1.
+#[derive(Drop)]
 pub(crate) struct Source<'a> {
     pub(crate) rest: &'a [u8],
     pub(crate) calls: u64,
@@ -124,6 +125,29 @@ impl Write for Counted<'_> {
     }
 
     fn flush(&mut self) -> io::Result<()> {
+        Ok(())
+    }
+}
+
+/// A writer that counts its flushes, and fails at each one if `fails`.
+#[derive(Drop)]
+pub(crate) struct Flushed<'a> {
+    pub(crate) flushes: &'a Cell<u64>,
+    pub(crate) fails: bool,
+}
+
+impl Write for Flushed<'_> {
+    ghost contents = { λ _. None };
+
+    fn write(&mut self, buf: &[u8]) -> io::Result<usize> {
+        Ok(buf.len())
+    }
+
+    fn flush(&mut self) -> io::Result<()> {
+        self.flushes.set(self.flushes.get().wrapping_add(1));
+        if self.fails {
+            return Err(io::Error::from(ErrorKind::Other));
+        }
         Ok(())
     }
 }

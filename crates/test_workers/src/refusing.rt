@@ -6,7 +6,7 @@ ghost use Rattle.pending_fetch.specs.Fetches.{fetch_of};
 ghost use Rattle.node_core.specs.Happening.{arrives, happening};
 ghost use Rattle.node_book.specs.Told.{Told, Submits, passing};
 
-use filter_slots::{Judged, Moment, Slots};
+use filter_slots::{Datagram, Judged, Moment};
 use node_book::{Clerk, SubmitFault};
 use node_core::{Action, Event, NoMemory, Out, Outcome};
 use object_store::CacheKey;
@@ -99,9 +99,14 @@ impl<C: Clerk> Refusing<C> {
 }
 
 impl<C: Clerk> Clerk for Refusing<C> {
-    ghost told = { λ r. C.told r.clerk };
+    ghost use Rattle.std.specs.Prelude.{None};
+
+    // Nothing of a node, as this clerk may refuse whatever the number of the next event is.
+    ghost told = { λ r. record (C.told r.clerk) { node = None } };
 
     ghost taken = { λ r. C.taken r.clerk };
+
+    ghost programs = { λ r. C.programs r.clerk };
 
     fn submit(
         &mut self,
@@ -125,8 +130,8 @@ impl<C: Clerk> Clerk for Refusing<C> {
         self.clerk.submit_judged(alloc, judged, now, out)
     }
 
-    fn programs(&mut self) -> Result<Slots, NoMemory> {
-        self.clerk.programs()
+    fn judge(&mut self, datagram: Arc<Datagram>) -> Result<Judged, NoMemory> {
+        self.clerk.judge(datagram)
     }
 
     fn pass(&mut self, alloc: Global, action: &Action) -> Result<(), NoMemory> {

@@ -4,6 +4,7 @@ ghost use Rattle.pending_fetch.specs.Fetches.{PendingFetch, starts};
 
 use super::Pending;
 use crate::JoinFault;
+use crate::fetch_slab::FetchSlab;
 use crate::kept::KeptFetch;
 use neighbours::{End, Moment, Neighbour, Role, Socket, Table};
 use object_store::CacheKey;
@@ -53,10 +54,15 @@ fn starts_by(pending: &Pending, start: Moment) -> bool
     start_by(&pending.slots, start)
 }
 
-fn start_by(slots: &[KeptFetch], start: Moment) -> bool
+fn start_by(slots: &FetchSlab, start: Moment) -> bool
     ensures { result ≡ list_all (λ (fetch : PendingFetch). nat_le fetch.round.start start) slots.now }
 {
-    slots.iter().all(|slot| starts(slot, start))
+    for place in 0..slots.len() {
+        if !starts(slots.get(place), start) {
+            return false;
+        }
+    }
+    true
 }
 
 fn starts(slot: &KeptFetch, start: Moment) -> bool

@@ -3,5 +3,5 @@ use Rattle.pending_fetch.specs.Fetches.{shared_number}
 use Rattle.pending_fetch.specs.Indexes.{number_under}
 use Rattle.pending_fetch.proofs.slots.keys_of.Given as goal
 
-abbrev pub invariant-loop-slot : goal.invariant-loop-slot
-invariant-loop-slot l = (key : List ℕ) → number_under key l.keys ≡ shared_number key (take l.slot-index l.slots)
+abbrev pub invariant-loop-place : goal.invariant-loop-place
+invariant-loop-place l = (key : List ℕ) → number_under key l.keys ≡ shared_number key (take l.place l.slots)

@@ -6,15 +6,15 @@ use Rattle.pending_fetch.proofs.Calling.{indexed_copied}
 use Rattle.pending_fetch.proofs.pending.Pending.copy.Goals as goal
 
 pub keys_of-requires : goal.keys_of-requires
-keys_of-requires c = ap is_alone c.deref.ensures.value ∙ c.self.invariant.0.alone
+keys_of-requires c = c.self.invariant.0.alone
 
 pub invariant_of-result : goal.invariant_of-result
 invariant_of-result c =
-    let same = c.in_ok-slots.ensures ∙ c.deref-2.ensures.value in (
-      indexed_copied c.self.inside.slots.items c.deref.result.now c.in_ok-slots.slots.items c.self.inside.keys c.in_ok-keys.keys c.self.inside.clients c.in_ok-clients.clients c.self.invariant.0 c.deref.ensures.value same c.in_ok-keys.ensures c.in_ok-clients.ensures,
+    let same = c.in_ok-slots.ensures in (
+      indexed_copied c.self.inside.slots c.self.inside.slots c.in_ok-slots.slots c.self.inside.keys c.in_ok-keys.keys c.self.inside.clients c.in_ok-clients.clients c.self.invariant.0 refl same c.in_ok-keys.ensures c.in_ok-clients.ensures,
       record {
         roomy = c.in_ok-undecided.ensures.room;
-        queue_is = c.in_ok-undecided.ensures.items ∙ c.deref-3.ensures.value ∙ c.self.invariant.1.queue_is ∙ ap queue_of (sym same);
+        queue_is = c.in_ok-undecided.ensures.items ∙ c.deref.ensures.value ∙ c.self.invariant.1.queue_is ∙ ap queue_of (sym same);
       },
       c.in_ok-order.ensures ∙ c.self.invariant.2 ∙ ap numbers (sym same),
     )

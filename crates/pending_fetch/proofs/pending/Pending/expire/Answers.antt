@@ -7,22 +7,22 @@ use Rattle.pending_fetch.proofs.Calling.{put_view, KeepsKey-end, indexed_changed
 use Rattle.pending_fetch.proofs.pending.Pending.expire.Goals as goal
 
 pub settle-requires : goal.settle-requires
-settle-requires c = entries_distinct (vec_capacity c.self.inside.undecided) c.self.inside.undecided.items c.self.inside.slots.items c.self.invariant.1 c.self.invariant.0.legal.numbered
+settle-requires c = entries_distinct (vec_capacity c.self.inside.undecided) c.self.inside.undecided.items c.self.inside.slots c.self.invariant.1 c.self.invariant.0.legal.numbered
 
 pub invariant_of-self : goal.invariant_of-self
 invariant_of-self c = (
-  indexed_changed with_end c.args.number c.self.inside.slots.items c.expire_in-found.new.slots.items c.self.inside.keys c.self.inside.clients (Keeps-end c.matching_law.ensures.start_ended) KeepsKey-end c.self.invariant.0 c.expire_in-found.ensures.list,
-  queue_after with_end c.args.number (vec_capacity c.self.inside.undecided) (vec_capacity c.settle.new.queue) c.self.inside.slots.items c.expire_in-found.new.slots.items c.self.inside.undecided.items c.settle.new.queue.items c.decided_where.result
+  indexed_changed with_end c.args.number c.self.inside.slots c.expire_in-found.new.slots c.self.inside.keys c.self.inside.clients (Keeps-end c.matching_law.ensures.start_ended) KeepsKey-end c.self.invariant.0 c.expire_in-found.ensures.list,
+  queue_after with_end c.args.number (vec_capacity c.self.inside.undecided) (vec_capacity c.settle.new.queue) c.self.inside.slots c.expire_in-found.new.slots c.self.inside.undecided.items c.settle.new.queue.items c.decided_where.result
       (Keeps-end c.matching_law.ensures.start_ended) (λ f d. c.unchanged_law.ensures.expired f.round)
       c.self.invariant.0.legal.numbered c.self.invariant.1 c.settle.ensures.room c.expire_in-found.ensures.list
-      (c.decided_where.ensures ∙ ap (λ b. if b then Some true else None) c.expire_in-found.ensures.found ∙ ended_found c.unchanged_law.ensures.expired c.args.number c.self.inside.slots.items)
+      (c.decided_where.ensures ∙ ap (λ b. if b then Some true else None) c.expire_in-found.ensures.found ∙ ended_found c.unchanged_law.ensures.expired c.args.number c.self.inside.slots)
       c.settle.ensures.items,
-  order_changed with_end (λ f. refl) c.args.number c.self.inside.order c.self.inside.slots.items c.expire_in-found.new.slots.items c.self.invariant.2 c.expire_in-found.ensures.list,
+  order_changed with_end (λ f. refl) c.args.number c.self.inside.order c.self.inside.slots c.expire_in-found.new.slots c.self.invariant.2 c.expire_in-found.ensures.list,
 )
 
 pub returns-clause-list : goal.returns-clause-list
 returns-clause-list c =
-    put_view c.self.inside.last c.expire_in-found.new.slots.items c.self.inside.slots.items (changed with_end c.args.number) c.args.self.now c.expire_in-found.ensures.list c.self.view_is
+    put_view c.self.inside.last c.expire_in-found.new.slots c.self.inside.slots (changed with_end c.args.number) c.args.self.now c.expire_in-found.ensures.list c.self.view_is
 
 pub returns-clause-found : goal.returns-clause-found
 returns-clause-found c = c.expire_in-found.ensures.found ∙ ap (λ (w : Fetches). has_number c.args.number w.list) c.self.view_is

@@ -8,5 +8,5 @@ use Rattle.pending_fetch.specs.Bounds.{most_waiters}
 
 pub returns : goal.returns
 returns c =
-    c.are_crowded.ensures ∙ ap (nat_le most_waiters) (many_wait c.self.inside.slots.items c.self.inside.keys c.self.inside.clients c.self.invariant.0 c.facts.ensures)
+    c.are_crowded.ensures ∙ ap (nat_le most_waiters) (many_wait c.self.inside.slots c.self.inside.keys c.self.inside.clients c.self.invariant.0 c.facts.ensures)
     ∙ ap (λ (w : Fetches). is_crowded w.list) c.self.view_is

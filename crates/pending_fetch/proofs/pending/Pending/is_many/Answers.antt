@@ -5,4 +5,4 @@ use Rattle.pending_fetch.proofs.pending.Pending.is_many.Goals as goal
 use Rattle.pending_fetch.specs.Bounds.{most_fetches}
 
 pub returns : goal.returns
-returns c = c.are_many.ensures ∙ ap (λ l. nat_le most_fetches (length l)) c.deref.ensures.value ∙ ap (λ (w : Fetches). nat_le most_fetches (length w.list)) c.self.view_is
+returns c = c.are_many.ensures ∙ ap (λ (w : Fetches). nat_le most_fetches (length w.list)) c.self.view_is

@@ -9,17 +9,17 @@ use Rattle.pending_fetch.proofs.pending.Pending.leave.Goals as goal
 pub returns-in_default : goal.returns-in_default
 returns-in_default c =
     sym c.self.view_is
-    ∙ put_view c.self.inside.last c.self.inside.slots.items c.self.inside.slots.items (left c.args.client) c.args.self.now (nobody_is c.args.client c.self.inside.slots.items c.self.inside.keys c.self.inside.clients c.self.invariant.0 (sym c.number_of.ensures ∙ c.in_default.is)) c.self.view_is
+    ∙ put_view c.self.inside.last c.self.inside.slots c.self.inside.slots (left c.args.client) c.args.self.now (nobody_is c.args.client c.self.inside.slots c.self.inside.keys c.self.inside.clients c.self.invariant.0 (sym c.number_of.ensures ∙ c.in_default.is)) c.self.view_is
 
 pub invariant_of-self : goal.invariant_of-self
 invariant_of-self c = (
-  indexed_left c.args.client c.in-Some.number c.self.inside.slots.items c.leave_in.new.slots.items c.self.inside.keys c.self.inside.clients c.leave.new.self c.self.invariant.0 (sym c.number_of.ensures ∙ c.in-Some.is) c.leave_in.ensures c.leave.ensures,
-  queue_kept (vec_capacity c.self.inside.undecided) c.self.inside.slots.items c.leave_in.new.slots.items c.self.inside.undecided.items c.self.invariant.1
-      (ap queue_of (left_is c.args.client c.in-Some.number c.self.inside.slots.items c.leave_in.new.slots.items c.self.inside.keys c.self.inside.clients c.self.invariant.0 (sym c.number_of.ensures ∙ c.in-Some.is) c.leave_in.ensures) ∙ queue-left c.args.client c.self.inside.slots.items),
-  order_changed (dropped c.args.client) (λ f. refl) c.in-Some.number c.self.inside.order c.self.inside.slots.items c.leave_in.new.slots.items c.self.invariant.2 c.leave_in.ensures,
+  indexed_left c.args.client c.in-Some.number c.self.inside.slots c.leave_in.new.slots c.self.inside.keys c.self.inside.clients c.leave.new.self c.self.invariant.0 (sym c.number_of.ensures ∙ c.in-Some.is) c.leave_in.ensures c.leave.ensures,
+  queue_kept (vec_capacity c.self.inside.undecided) c.self.inside.slots c.leave_in.new.slots c.self.inside.undecided.items c.self.invariant.1
+      (ap queue_of (left_is c.args.client c.in-Some.number c.self.inside.slots c.leave_in.new.slots c.self.inside.keys c.self.inside.clients c.self.invariant.0 (sym c.number_of.ensures ∙ c.in-Some.is) c.leave_in.ensures) ∙ queue-left c.args.client c.self.inside.slots),
+  order_changed (dropped c.args.client) (λ f. refl) c.in-Some.number c.self.inside.order c.self.inside.slots c.leave_in.new.slots c.self.invariant.2 c.leave_in.ensures,
 )
 
 pub returns : goal.returns
 returns c =
-    put_view c.self.inside.last c.leave_in.new.slots.items c.self.inside.slots.items (left c.args.client) c.args.self.now
-    (left_is c.args.client c.in-Some.number c.self.inside.slots.items c.leave_in.new.slots.items c.self.inside.keys c.self.inside.clients c.self.invariant.0 (sym c.number_of.ensures ∙ c.in-Some.is) c.leave_in.ensures) c.self.view_is
+    put_view c.self.inside.last c.leave_in.new.slots c.self.inside.slots (left c.args.client) c.args.self.now
+    (left_is c.args.client c.in-Some.number c.self.inside.slots c.leave_in.new.slots c.self.inside.keys c.self.inside.clients c.self.invariant.0 (sym c.number_of.ensures ∙ c.in-Some.is) c.leave_in.ensures) c.self.view_is

@@ -6,10 +6,10 @@ use Rattle.pending_fetch.proofs.pending.Pending.new.Goals as goal
 
 pub invariant_of-result : goal.invariant_of-result
 invariant_of-result c = (
-  indexed_new c.new-3.result.items c.new-4.result c.in_ok-clients.clients c.new-3.ensures.items c.new-4.ensures c.in_ok-clients.ensures,
+  indexed_new c.new-3.result c.new-4.result c.in_ok-clients.clients c.new-3.ensures c.new-4.ensures c.in_ok-clients.ensures,
   record {
     roomy = omega (arith, c.in_ok-undecided.ensures.exact);
-    queue_is = c.in_ok-undecided.ensures.items ∙ sym (ap queue_of c.new-3.ensures.items);
+    queue_is = c.in_ok-undecided.ensures.items ∙ sym (ap queue_of c.new-3.ensures);
   },
-  c.in_ok-order.ensures ∙ sym (ap numbers c.new-3.ensures.items),
+  c.in_ok-order.ensures ∙ sym (ap numbers c.new-3.ensures),
 )

@@ -9,15 +9,15 @@ use Rattle.pending_fetch.proofs.pending.Pending.next_attempt.Goals as goal
 
 pub invariant_of-self : goal.invariant_of-self
 invariant_of-self c = (
-  indexed_changed with_next c.args.number c.self.inside.slots.items c.advance_in.new.slots.items c.self.inside.keys c.self.inside.clients Keeps-next KeepsKey-next c.self.invariant.0 c.advance_in.ensures.list,
-  queue_kept (vec_capacity c.self.inside.undecided) c.self.inside.slots.items c.advance_in.new.slots.items c.self.inside.undecided.items c.self.invariant.1
-      (ap queue_of c.advance_in.ensures.list ∙ queue-same with_next next_number next_round c.args.number c.self.inside.slots.items),
-  order_changed with_next next_number c.args.number c.self.inside.order c.self.inside.slots.items c.advance_in.new.slots.items c.self.invariant.2 c.advance_in.ensures.list,
+  indexed_changed with_next c.args.number c.self.inside.slots c.advance_in.new.slots c.self.inside.keys c.self.inside.clients Keeps-next KeepsKey-next c.self.invariant.0 c.advance_in.ensures.list,
+  queue_kept (vec_capacity c.self.inside.undecided) c.self.inside.slots c.advance_in.new.slots c.self.inside.undecided.items c.self.invariant.1
+      (ap queue_of c.advance_in.ensures.list ∙ queue-same with_next next_number next_round c.args.number c.self.inside.slots),
+  order_changed with_next next_number c.args.number c.self.inside.order c.self.inside.slots c.advance_in.new.slots c.self.invariant.2 c.advance_in.ensures.list,
 )
 
 pub returns-clause-list : goal.returns-clause-list
 returns-clause-list c =
-    put_view c.self.inside.last c.advance_in.new.slots.items c.self.inside.slots.items (changed with_next c.args.number) c.args.self.now c.advance_in.ensures.list c.self.view_is
+    put_view c.self.inside.last c.advance_in.new.slots c.self.inside.slots (changed with_next c.args.number) c.args.self.now c.advance_in.ensures.list c.self.view_is
 
 pub returns-clause-found : goal.returns-clause-found
 returns-clause-found c = c.advance_in.ensures.found ∙ ap (λ (w : Fetches). may_advance (fetch_of c.args.number w.list)) c.self.view_is

@@ -3,8 +3,8 @@ use Rattle.pending_fetch.specs.Fetches.{Fetches, PendingFetch, waiters_of, numbe
 use Rattle.pending_fetch.proofs.pending.Pending.waiters.Goals as goal
 
 pub waiters_in-requires : goal.waiters_in-requires
-waiters_in-requires c = c.self.invariant.2 ∙ ap numbers (sym c.deref.ensures.value)
+waiters_in-requires c = c.self.invariant.2
 
 pub returns : goal.returns
 returns c =
-    c.waiters_in.ensures ∙ ap (waiters_of c.args.number) c.deref.ensures.value ∙ ap (λ (w : Fetches). waiters_of c.args.number w.list) c.self.view_is
+    c.waiters_in.ensures ∙ ap (λ (w : Fetches). waiters_of c.args.number w.list) c.self.view_is

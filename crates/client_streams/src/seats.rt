@@ -1,0 +1,397 @@
+//! The seats of a listener's clients.
+ghost use Rattle.std.specs.Prelude.{◌≡◌};
+ghost use Rattle.futures.specs.Task.{IsArmed, Keeps};
+ghost use Rattle.futures.specs.Poll.{OnPending};
+
+use crate::patient::SharedStage;
+use futures::task::{Context, Poll, Source, Waker};
+use std::alloc::{AllocError, Global};
+use std::cell::RefCell;
+use std::collections::BTreeMap;
+use std::net::IpAddr;
+use std::rc::Rc;
+
+// The most clients that are refused concurrently. Further ones are closed without an answer.
+const MOST_REFUSALS: usize = 64;
+
+// The seat that nobody takes. Its neighbours are the ends of the order of idle seats.
+const NO_SEAT: usize = 0;
+
+// One seat. The seats whose connections are idle are linked to a ring, in the order in which they became idle.
+#[derive(Drop)]
+struct Seat {
+    // The neighbours in the ring, or the seat's own number while it is not idle.
+    before: usize,
+    after: usize,
+    // Wakes the task that serves the client.
+    waker: Option<Waker>,
+}
+
+/// The seats of a listener's clients, how many clients each address has, and which connections are idle.
+#[derive(Drop)]
+pub(crate) struct Seats {
+    seats: Vec<Seat>,
+    // The free seats of clients that are served, and of those that are refused.
+    free: Vec<usize>,
+    free_refusals: Vec<usize>,
+    // The last seat of a client that is served.
+    last: usize,
+    // The clients of each address that are served.
+    addresses: BTreeMap<IpAddr, usize>,
+    an_address: usize,
+    is_open: bool,
+    // Whether a client waits for a seat.
+    is_wanted: bool,
+    // Wakes the task that waits for a seat.
+    taker: Option<Waker>,
+}
+
+impl Seats {
+    // Seats for so many clients that are served, at most `an_address` of one address, and for those that are refused.
+    fn new(alloc: Global, most: usize, an_address: usize) -> Result<Seats, AllocError> {
+        let all = most.saturating_add(MOST_REFUSALS);
+        let mut seats = Vec::with_capacity(alloc, all.saturating_add(1))?;
+        for number in 0..=all {
+            seats.push(Seat {
+                before: number,
+                after: number,
+                waker: None,
+            })?;
+        }
+        Ok(Seats {
+            seats,
+            free: numbers(alloc, 1, most)?,
+            free_refusals: numbers(alloc, most.saturating_add(1), all)?,
+            last: most,
+            addresses: BTreeMap::new(alloc),
+            an_address,
+            is_open: false,
+            is_wanted: false,
+            taker: None,
+        })
+    }
+
+    fn has_most(&self, address: IpAddr) -> bool {
+        match self.addresses.get(&address) {
+            Some(count) => self.an_address <= *count,
+            None => self.an_address == 0,
+        }
+    }
+
+    // A free seat for a client at this address. `None` if there is no free one.
+    fn take(&mut self, address: IpAddr) -> Result<Option<usize>, AllocError> {
+        if self.free.is_empty() {
+            return Ok(None);
+        }
+        let count = match self.addresses.get(&address) {
+            Some(count) => count.saturating_add(1),
+            None => 1,
+        };
+        if self.addresses.insert(address, count).is_err() {
+            return Err(AllocError);
+        }
+        self.is_wanted = false;
+        Ok(self.free.pop())
+    }
+
+    fn leave(&mut self, number: usize, address: Option<IpAddr>) {
+        self.take_out(number);
+        if let Some(address) = address {
+            self.forget(address);
+        }
+        // Both have the capacity for all of their seats.
+        let _ = if number <= self.last {
+            self.free.push(number)
+        } else {
+            self.free_refusals.push(number)
+        };
+        // A waker that is dropped wakes its task.
+        self.taker = None;
+    }
+
+    // One client less of this address.
+    fn forget(&mut self, address: IpAddr) {
+        let Some(count) = self.addresses.get_mut(&address) else {
+            return;
+        };
+        if 1 < *count {
+            *count = count.saturating_sub(1);
+        } else {
+            let _ = self.addresses.remove(&address);
+        }
+    }
+
+    // The seat that follows in the ring.
+    fn after(&self, number: usize) -> usize {
+        match self.seats.get(number) {
+            Some(seat) => seat.after,
+            None => number,
+        }
+    }
+
+    // Makes two seats neighbours in the ring.
+    fn join(&mut self, before: usize, after: usize) {
+        if let Some(seat) = self.seats.get_mut(before) {
+            seat.after = after;
+        }
+        if let Some(seat) = self.seats.get_mut(after) {
+            seat.before = before;
+        }
+    }
+
+    // Takes a seat out of the ring, if it is in it.
+    fn take_out(&mut self, number: usize) {
+        let Some(seat) = self.seats.get(number) else {
+            return;
+        };
+        let (before, after) = (seat.before, seat.after);
+        self.join(before, after);
+        self.join(number, number);
+    }
+
+    // Puts a seat at the end of the ring, unless it is in it.
+    fn put_last(&mut self, number: usize) {
+        if self.after(number) != number {
+            return;
+        }
+        let Some(ends) = self.seats.get(NO_SEAT) else {
+            return;
+        };
+        let latest = ends.before;
+        self.join(latest, number);
+        self.join(number, NO_SEAT);
+    }
+
+    fn wake_longest_idle(&mut self) {
+        let first = self.after(NO_SEAT);
+        if let Some(seat) = self.seats.get_mut(first) {
+            seat.waker = None;
+        }
+    }
+
+    // Waits until a seat is free, and has the connection closed that has been idle for longest.
+    fn wait(&mut self, cx: &mut Context<'_>) -> Poll<()>
+        ensures pending { result ≡ Poll.Pending }
+        ensures armed { IsArmed cx.new }
+        ensures kept { Keeps cx.old cx.new }
+    {
+        self.is_wanted = true;
+        self.wake_longest_idle();
+        cx.register(&Source::new(), &mut self.taker)
+    }
+
+    // Notes that the connection of a seat is idle. Returns whether it has to close.
+    fn rest(&mut self, number: usize, cx: &mut Context<'_>) -> bool
+        ensures { Keeps cx.old cx.new }
+    {
+        self.put_last(number);
+        if self.is_wanted && self.after(NO_SEAT) == number {
+            self.is_wanted = false;
+            return true;
+        }
+        if let Some(seat) = self.seats.get_mut(number) {
+            let _: Poll<()> = cx.register(&Source::new(), &mut seat.waker);
+        }
+        false
+    }
+
+    // Notes that the connection of a seat is not idle. One that has been idle for long may have to close in its place.
+    fn work(&mut self, number: usize) {
+        self.take_out(number);
+        if self.is_wanted {
+            self.wake_longest_idle();
+        }
+    }
+
+    // Waits until the server is open.
+    fn wait_for_opening(&mut self, number: usize, cx: &mut Context<'_>) -> Poll<()>
+        ensures armed { OnPending result (IsArmed cx.new) }
+        ensures kept { Keeps cx.old cx.new }
+    {
+        if self.is_open {
+            return Poll::Ready(());
+        }
+        match self.seats.get_mut(number) {
+            Some(seat) => cx.register(&Source::new(), &mut seat.waker),
+            None => Poll::Ready(()),
+        }
+    }
+
+    // Waits until no seat is taken.
+    fn wait_for_all(&mut self, cx: &mut Context<'_>) -> Poll<()>
+        ensures armed { OnPending result (IsArmed cx.new) }
+        ensures kept { Keeps cx.old cx.new }
+    {
+        let free = self.free.len().saturating_add(self.free_refusals.len());
+        if self.last.saturating_add(MOST_REFUSALS) <= free {
+            return Poll::Ready(());
+        }
+        cx.register(&Source::new(), &mut self.taker)
+    }
+
+    fn open(&mut self) {
+        self.is_open = true;
+        for seat in self.seats.iter_mut() {
+            seat.waker = None;
+        }
+    }
+}
+
+// The numbers from `first` to `last`, in a list that has room for exactly these.
+fn numbers(alloc: Global, first: usize, last: usize) -> Result<Vec<usize>, AllocError> {
+    let count = last.saturating_add(1).saturating_sub(first);
+    let mut numbers = Vec::with_capacity(alloc, count)?;
+    for number in first..=last {
+        numbers.push(number)?;
+    }
+    Ok(numbers)
+}
+
+/// The seats, shared by the tasks of one thread.
+#[derive(Drop)]
+pub(crate) struct SharedSeats(Rc<RefCell<Seats>>);
+
+impl SharedSeats {
+    /// Seats for `most` clients, at most `an_address` of one address, and for 64 that are refused.
+    pub fn new(alloc: Global, most: usize, an_address: usize) -> Result<SharedSeats, AllocError> {
+        let seats = Seats::new(alloc, most, an_address)?;
+        Ok(SharedSeats(Rc::new(alloc, RefCell::new(seats))?))
+    }
+
+    /// Whether as many clients of this address as may be are served.
+    pub fn has_most(&self, address: IpAddr) -> bool {
+        match self.0.try_borrow_mut() {
+            Ok(seats) => seats.has_most(address),
+            Err(_) => true,
+        }
+    }
+
+    /// A seat for a client that is served. `None` if there is no free one. Errors: out of memory.
+    pub fn take(&self, address: IpAddr) -> Result<Option<TakenSeat>, AllocError> {
+        let shared = self.0.clone()?;
+        let Ok(mut seats) = self.0.try_borrow_mut() else {
+            return Err(AllocError);
+        };
+        let Some(number) = seats.take(address)? else {
+            return Ok(None);
+        };
+        Ok(Some(TakenSeat {
+            seats: shared,
+            number,
+            address: Some(address),
+        }))
+    }
+
+    /// A seat for a client that is refused. `None` if there is no free one, or if out of memory.
+    pub fn take_refusal(&self) -> Option<TakenSeat> {
+        let shared = self.0.clone().ok()?;
+        let Ok(mut seats) = self.0.try_borrow_mut() else {
+            return None;
+        };
+        let number = seats.free_refusals.pop()?;
+        Some(TakenSeat {
+            seats: shared,
+            number,
+            address: None,
+        })
+    }
+
+    /// Any seat, for nobody. `None` if there is no free one, or if out of memory.
+    pub fn take_any(&self) -> Option<TakenSeat> {
+        let shared = self.0.clone().ok()?;
+        let Ok(mut seats) = self.0.try_borrow_mut() else {
+            return None;
+        };
+        let number = match seats.free.pop() {
+            Some(number) => number,
+            None => seats.free_refusals.pop()?,
+        };
+        Some(TakenSeat {
+            seats: shared,
+            number,
+            address: None,
+        })
+    }
+
+    /// Ends the wait of all tasks in `TakenSeat::wait_for_opening`.
+    pub fn open(&self) {
+        if let Ok(mut seats) = self.0.try_borrow_mut() {
+            seats.open();
+        }
+    }
+
+    /// Waits until no seat is taken.
+    pub fn wait_for_all(&self, cx: &mut Context<'_>) -> Poll<()>
+        ensures armed { OnPending result (IsArmed cx.new) }
+        ensures kept { Keeps cx.old cx.new }
+    {
+        match self.0.try_borrow_mut() {
+            Ok(mut seats) => seats.wait_for_all(cx),
+            Err(_) => cx.yield_now(),
+        }
+    }
+
+    /// Waits until a seat is free, and has the connection closed that has been idle for longest.
+    pub fn wait(&self, cx: &mut Context<'_>) -> Poll<()>
+        ensures pending { result ≡ Poll.Pending }
+        ensures armed { IsArmed cx.new }
+        ensures kept { Keeps cx.old cx.new }
+    {
+        match self.0.try_borrow_mut() {
+            Ok(mut seats) => seats.wait(cx),
+            Err(_) => cx.yield_now(),
+        }
+    }
+}
+
+/// A seat that is taken, until this is dropped.
+pub(crate) struct TakenSeat {
+    seats: Rc<RefCell<Seats>>,
+    number: usize,
+    // The address of a client that is served.
+    address: Option<IpAddr>,
+}
+
+impl TakenSeat {
+    /// Waits until the server is open.
+    pub fn wait_for_opening(&self, cx: &mut Context<'_>) -> Poll<()>
+        ensures armed { OnPending result (IsArmed cx.new) }
+        ensures kept { Keeps cx.old cx.new }
+    {
+        match self.seats.try_borrow_mut() {
+            Ok(mut seats) => seats.wait_for_opening(self.number, cx),
+            Err(_) => cx.yield_now(),
+        }
+    }
+
+    /// Notes whether the connection is idle, and whether it has been used since the last call. Returns whether it has to close: it
+    /// has been idle for longer than all others, and a client waits for a seat. The seat of a client that is refused never has to.
+    pub fn must_close(&self, stage: &SharedStage, cx: &mut Context<'_>) -> bool
+        ensures { Keeps cx.old cx.new }
+    {
+        if self.address.is_none() {
+            return false;
+        }
+        let Ok(mut seats) = self.seats.try_borrow_mut() else {
+            return false;
+        };
+        let is_idle = stage.is_idle();
+        if stage.take_set() || !is_idle {
+            seats.work(self.number);
+        }
+        is_idle && seats.rest(self.number, cx)
+    }
+}
+
+impl Drop for TakenSeat {
+    fn drop(self) {
+        let TakenSeat {
+            seats,
+            number,
+            address,
+        } = self;
+        if let Ok(mut seats) = seats.try_borrow_mut() {
+            seats.leave(number, address);
+        }
+    }
+}

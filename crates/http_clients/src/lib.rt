@@ -1,0 +1,19 @@
+//! HTTP/1.1 servers for clients of a proxy and for its administration, on hyper, whose types stay inside this crate. Every decision
+//! is behind a trait: `http_traffic::Front` and `http_traffic::Panel`.
+//!
+//! The contracts see only that every future is polled in a state in which it may be; nothing is proved about the HTTP messages.
+//!
+//! Tested by: crates/test_edge; tests/serve, tests/serve_slow and tests/serve_hostile, which run the built program over loopback.
+#![tactic(auto)]
+
+mod administration;
+mod door;
+mod reply;
+mod requests;
+mod server;
+mod serving;
+mod texts;
+
+pub use administration::serve_admin;
+pub use server::ServeLimits;
+pub use serving::serve_clients;

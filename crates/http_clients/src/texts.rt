@@ -1,0 +1,55 @@
+//! Texts of the proxy's own responses.
+use std::alloc::{AllocError, Global};
+
+// The most octets of a target that a text quotes.
+const MOST_SHOWN: usize = 1024;
+
+/// The reason that a status of the proxy itself stands for.
+pub(crate) fn reason(status: u16) -> &'static str {
+    match status {
+        400 =>
+            "Bad Request: the target is not an http URL, the content is broken, or Connection has over 64 names",
+        401 => "Unauthorized: a change needs the administrator's token",
+        403 => "Forbidden: this proxy may not fetch from this address or port",
+        404 => "Not Found",
+        409 => "Conflict: a capture is under way, and there is one at a time",
+        413 => "Content Too Large",
+        414 => "URI Too Long: a URL may have 8192 octets",
+        501 => "Not Implemented: only GET is served",
+        502 => "Bad Gateway: no server gave a whole answer in time",
+        508 => "Loop Detected: this request has come through this proxy before",
+        504 => "Gateway Timeout: the cache has it not, and may not ask others",
+        _ => "Service Unavailable: too many requests, no server to ask, or no memory",
+    }
+}
+
+/// A line with the status and its reason, then a line with the target, cut to 1,024 octets. No second line for an empty target.
+pub(crate) fn text_of(alloc: Global, status: u16, target: &[u8]) -> Result<Vec<u8>, AllocError> {
+    let line = format!(in alloc; "{} {}\n", status, reason(status))?;
+    let mut text = line.into_bytes();
+    if target.is_empty() {
+        return Ok(text);
+    }
+    let shown = target.len().min(MOST_SHOWN);
+    text.extend_from_slice(&target[..shown])?;
+    text.push(b'\n')?;
+    Ok(text)
+}
+
+/// Why a request to the administration is not answered.
+pub(crate) fn not_administrator(alloc: Global) -> Result<Vec<u8>, AllocError> {
+    b"403 Forbidden: Host has to be 127.0.0.1 or localhost with this port, without Via and without an Origin of elsewhere\n".to_vec(
+        alloc,
+    )
+}
+
+/// A complete 403 response, for a client that is not admitted.
+pub(crate) fn forbidden(alloc: Global) -> Result<Vec<u8>, AllocError> {
+    let body = "403 Forbidden: this address may not use this proxy\n";
+    let text = format!(in alloc;
+        "HTTP/1.1 403 Forbidden\r\ncontent-type: text/plain\r\ncontent-length: {}\r\nconnection: close\r\n\r\n{}",
+        body.len(),
+        body
+    )?;
+    Ok(text.into_bytes())
+}

@@ -1,0 +1,310 @@
+//! Reads the whole content of a message, up to a limit.
+ghost use Rattle.std.specs.Prelude.{IsSome};
+ghost use Rattle.futures.specs.Poll.{OnPending};
+ghost use Rattle.futures.specs.Task.{Covers, Keeps};
+ghost use Rattle.hyper.specs.Incoming.{IncomingNeeds};
+
+use bytes::{Buf, Bytes};
+use futures::task::{Context, Poll};
+use futures::{Future, ready};
+use http_body::{Body, Frame, SizeHint};
+use http_body_util::combinators::Collect;
+use http_body_util::{BodyExt, Collected, Limited, LimitedError};
+use hyper::body::Incoming;
+use std::alloc::{AllocError, Global};
+
+// The most frames that one poll reads.
+const FRAMES_A_TURN: u32 = 32;
+
+/// Why a body was not read.
+#[derive(Clone, Copy, Debug, PartialEq, Eq)]
+pub enum ReadFault {
+    /// It is longer than the limit.
+    TooLong,
+    /// It is broken, it could not be paid for, or out of memory.
+    Broken,
+}
+
+/// Pays for the octets of a content.
+pub trait Purse: Drop {
+    /// Takes so many octets more. Its output is false if they can never be had.
+    fn poll_take(&mut self, cx: &mut Context<'_>, octets: usize) -> Poll<bool>
+        ensures registered { OnPending result (Covers cx.new (λ _. ⊥)) }
+        ensures kept { Keeps cx.old cx.new };
+}
+
+/// How the reading of a content ended that is not paid for.
+#[derive(Drop)]
+pub enum Ending {
+    /// With all its octets.
+    Whole(Vec<u8>),
+    /// It is longer than the limit.
+    TooLong,
+    /// It is broken, or out of memory.
+    Broken,
+}
+
+/// Starts reading a body that is not paid for.
+pub trait Read: Drop {
+    /// The body to be read.
+    type Body: Drop;
+
+    /// The future of the content.
+    type Reading: Future<Output = Ending>;
+
+    /// Starts reading this body.
+    fn read(&self, body: Self::Body) -> Self::Reading
+        ensures { Self.Reading.can_poll result };
+}
+
+/// Is told of each piece of a content.
+pub trait Hear: Drop {
+    /// A piece came.
+    fn hear(&self);
+}
+
+/// A body whose pieces are told.
+#[derive(Drop)]
+pub struct Heard<I, H> {
+    body: Incoming<I>,
+    by: H,
+}
+
+impl<I: Drop, H: Hear> Heard<I, H> {
+    /// This body, of whose pieces `by` is told.
+    pub fn new(body: Incoming<I>, by: H) -> Heard<I, H> {
+        Heard { body, by }
+    }
+}
+
+impl<I: Drop, H: Hear> Body for Heard<I, H> {
+    type Data = Bytes;
+
+    type Error = hyper::Error;
+
+    ghost needs = { λ h. IncomingNeeds h.body };
+
+    fn poll_frame(
+        &mut self,
+        cx: &mut Context<'_>,
+    ) -> Poll<Option<Result<Frame<Bytes>, hyper::Error>>> {
+        let next = ready!(self.body.poll_frame(cx));
+        if let Some(Ok(frame)) = &next
+            && frame.is_data()
+        {
+            self.by.hear();
+        }
+        Poll::Ready(next)
+    }
+
+    fn size_hint(&self) -> SizeHint {
+        self.body.size_hint()
+    }
+}
+
+/// Reads bodies of at most `limit` octets.
+#[derive(Drop)]
+pub struct AtMost<I, H> {
+    alloc: Global,
+    limit: usize,
+    body: std::marker::PhantomData<Heard<I, H>>,
+}
+
+impl<I: Drop, H: Hear> AtMost<I, H> {
+    /// A reader with this limit, in octets.
+    pub fn new(alloc: Global, limit: usize) -> AtMost<I, H> {
+        AtMost {
+            alloc,
+            limit,
+            body: std::marker::PhantomData,
+        }
+    }
+}
+
+impl<I: Drop, H: Hear> Read for AtMost<I, H> {
+    type Body = Heard<I, H>;
+
+    type Reading = Gathering<Limited<Heard<I, H>>>;
+
+    fn read(&self, body: Heard<I, H>) -> Gathering<Limited<Heard<I, H>>> {
+        Gathering {
+            alloc: self.alloc,
+            collect: Limited::new(body, self.limit).collect(self.alloc),
+        }
+    }
+}
+
+/// Tells a body that is too long from one that is broken.
+pub trait Excess: Drop {
+    /// Whether the body is longer than its limit.
+    fn is_excess(&self) -> bool;
+}
+
+impl<E: Drop> Excess for LimitedError<E> {
+    fn is_excess(&self) -> bool {
+        match self {
+            LimitedError::LengthLimit => true,
+            LimitedError::Body(_) => false,
+        }
+    }
+}
+
+/// The future of a content that is not paid for.
+#[derive(Drop)]
+pub struct Gathering<B: Body> {
+    alloc: Global,
+    collect: Collect<B>,
+}
+
+impl<D: Buf + Into<Bytes> + Drop, E: From<AllocError> + Excess, B: Body<Data = D, Error = E>> Future
+    for Gathering<B> {
+    type Output = Ending;
+
+    ghost can_poll = { λ g. B.can_poll g.collect.body × IsSome g.collect.collected };
+
+    fn poll(&mut self, cx: &mut Context<'_>) -> Poll<Ending> {
+        match ready!(self.collect.poll(cx)) {
+            Ok(collected) => Poll::Ready(ending_of(self.alloc, collected)),
+            Err(error) if error.is_excess() => Poll::Ready(Ending::TooLong),
+            Err(_) => Poll::Ready(Ending::Broken),
+        }
+    }
+}
+
+// The octets of a whole body.
+fn ending_of(alloc: Global, collected: Collected) -> Ending {
+    let Ok(octets) = collected.to_bytes() else {
+        return Ending::Broken;
+    };
+    match octets.to_vec(alloc) {
+        Ok(octets) => Ending::Whole(octets),
+        Err(_) => Ending::Broken,
+    }
+}
+
+/// A complete content, with what paid for it.
+#[derive(Drop)]
+pub struct Content<P> {
+    pub octets: Vec<u8>,
+    pub purse: P,
+}
+
+/// The future of a content: gathers the octets of a body in one vector. What a body has beyond its first `free` octets is paid for:
+/// of an announced length before the first octet is read, and otherwise as octets come. The vector has room for an announced length
+/// once the first octet has come.
+#[derive(Drop)]
+pub struct Gathered<B, P> {
+    body: B,
+    // The most octets.
+    limit: usize,
+    octets: Vec<u8>,
+    // What pays, until the content is complete.
+    purse: Option<P>,
+    // The announced length, or less.
+    announced: usize,
+    // Octets that are paid for, or free.
+    paid: usize,
+    // Octets to be paid for before anything else is read.
+    due: usize,
+    // Octets that came, and are added once they are paid for.
+    piece: Option<Bytes>,
+}
+
+impl<I: Drop, P: Purse> Gathered<Incoming<I>, P> {
+    /// Reads this body of at most `limit` octets, of which `free` need not be paid for. Without a purse it fails.
+    pub fn new(
+        alloc: Global,
+        body: Incoming<I>,
+        limit: usize,
+        free: usize,
+        purse: Option<P>,
+    ) -> Gathered<Incoming<I>, P> {
+        let announced = usize::try_from(body.size_hint().lower()).unwrap_or(usize::MAX);
+        let free = limit.min(free);
+        Gathered {
+            body,
+            limit,
+            octets: Vec::new(alloc),
+            purse,
+            announced,
+            paid: free,
+            due: announced.saturating_sub(free),
+            piece: None,
+        }
+    }
+
+    // Whether what is due is over the limit.
+    fn is_too_long(&self) -> bool {
+        self.limit.saturating_sub(self.paid) < self.due
+    }
+
+    // Pays for what is due. Its output is false if it can't be paid for.
+    fn poll_pay(&mut self, cx: &mut Context<'_>) -> Poll<bool>
+        ensures registered { OnPending result (Covers cx.new (λ _. ⊥)) }
+        ensures kept { Keeps cx.old cx.new }
+    {
+        if self.due == 0 {
+            return Poll::Ready(true);
+        }
+        let Some(purse) = &mut self.purse else {
+            return Poll::Ready(false);
+        };
+        if !ready!(purse.poll_take(cx, self.due)) {
+            return Poll::Ready(false);
+        }
+        self.paid = self.paid.saturating_add(self.due);
+        self.due = 0;
+        Poll::Ready(true)
+    }
+
+    // Adds the octets that are paid for. Returns `None` if out of memory.
+    fn add(&mut self) -> Option<()> {
+        let Some(piece) = self.piece.take() else {
+            return Some(());
+        };
+        if self.octets.is_empty() {
+            self.octets.reserve_exact(self.announced).ok()?;
+        }
+        self.octets.extend_from_slice(&piece).ok()
+    }
+
+    // Keeps the octets of a frame until they are paid for.
+    fn keep(&mut self, frame: Frame<Bytes>) {
+        let Ok(piece) = frame.into_data() else {
+            return;
+        };
+        let len = self.octets.len().saturating_add(piece.len());
+        self.due = len.saturating_sub(self.paid);
+        self.piece = Some(piece);
+    }
+
+    // The complete content. Returns `None` if it has been given before.
+    fn finish(&mut self) -> Option<Content<P>> {
+        let purse = self.purse.take()?;
+        let alloc = *self.octets.allocator();
+        let mut octets = std::mem::replace(&mut self.octets, Vec::new(alloc));
+        octets.shrink_to_fit();
+        Some(Content { octets, purse })
+    }
+}
+
+impl<I: Drop, P: Purse> Future for Gathered<Incoming<I>, P> {
+    type Output = Result<Content<P>, ReadFault>;
+
+    fn poll(&mut self, cx: &mut Context<'_>) -> Poll<Result<Content<P>, ReadFault>> {
+        for _ in 0..FRAMES_A_TURN {
+            if self.is_too_long() {
+                return Poll::Ready(Err(ReadFault::TooLong));
+            }
+            if !ready!(self.poll_pay(cx)) || self.add().is_none() {
+                return Poll::Ready(Err(ReadFault::Broken));
+            }
+            match ready!(self.body.poll_frame(cx)) {
+                Some(Ok(frame)) => self.keep(frame),
+                Some(Err(_)) => return Poll::Ready(Err(ReadFault::Broken)),
+                None => return Poll::Ready(self.finish().ok_or(ReadFault::Broken)),
+            }
+        }
+        cx.yield_now()
+    }
+}

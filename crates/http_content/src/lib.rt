@@ -1,0 +1,12 @@
+//! What the server and the client of HTTP have in common, on hyper: reading the whole content of a message, and header fields.
+//!
+//! The contracts see only that every future is polled in a state in which it may be. Tested by: crates/test_edge.
+#![tactic(auto)]
+
+mod content;
+mod heads;
+
+pub use content::{
+    AtMost, Content, Ending, Excess, Gathered, Gathering, Hear, Heard, Purse, Read, ReadFault,
+};
+pub use heads::{add_field, add_fields, add_object_fields};

@@ -1,0 +1,124 @@
+//! Octets of bodies under way, over all threads that fetch.
+ghost use Rattle.futures.specs.Poll.{OnPending};
+ghost use Rattle.futures.specs.Task.{Covers, Keeps};
+
+use futures::channel::oneshot;
+use futures::task::{Context, Poll};
+use futures::{Future, ready};
+use http_content::Purse;
+use std::alloc::{AllocError, Global};
+use std::sync::{Arc, Mutex, Wait};
+
+/// How many octets of bodies may be under way, and who waits for some to be given back. Shared by all threads that fetch.
+#[derive(Drop)]
+pub struct Budget {
+    most: usize,
+    purse: Mutex<Left>,
+}
+
+// What is left of a budget.
+#[derive(Drop)]
+struct Left {
+    octets: usize,
+    // One for each fetch that waits, and maybe for some that have ended.
+    waiting: Vec<oneshot::Sender<()>>,
+}
+
+impl Budget {
+    /// A budget of so many octets.
+    pub fn new(alloc: Global, most: usize) -> Budget {
+        Budget {
+            most,
+            purse: Mutex::new(Left {
+                octets: most,
+                waiting: Vec::new(alloc),
+            }),
+        }
+    }
+}
+
+/// What one fetch holds of a budget. It is given back when it is dropped.
+pub struct Share<R: Wait + Copy> {
+    rt: R,
+    alloc: Global,
+    budget: Arc<Budget>,
+    held: usize,
+    // Ready once some octets have been given back.
+    turn: Option<oneshot::Receiver<()>>,
+}
+
+impl<R: Wait + Copy> Share<R> {
+    /// A share of nothing as yet.
+    pub fn new(rt: R, alloc: Global, budget: &Arc<Budget>) -> Result<Share<R>, AllocError> {
+        Ok(Share {
+            rt,
+            alloc,
+            budget: Arc::try_clone(budget)?,
+            held: 0,
+            turn: None,
+        })
+    }
+
+    // Takes so many octets, or waits for some to be given back. `Some(true)` once they are taken, `Some(false)` if they can never
+    // be, since that is more than the whole budget or memory ran out, and `None` if it waits.
+    fn take(&mut self, octets: usize) -> Option<bool> {
+        if self.budget.most.saturating_sub(self.held) < octets {
+            return Some(false);
+        }
+        let mut left = self.budget.purse.lock(&self.rt);
+        if octets <= left.octets {
+            left.octets -= octets;
+            self.held = self.held.saturating_add(octets);
+            return Some(true);
+        }
+        let Ok((bell, turn)) = oneshot::channel(self.alloc) else {
+            return Some(false);
+        };
+        left.waiting.retain(|other| !other.is_canceled());
+        if left.waiting.push(bell).is_err() {
+            return Some(false);
+        }
+        self.turn = Some(turn);
+        None
+    }
+}
+
+impl<R: Wait + Copy> Purse for Share<R> {
+    fn poll_take(&mut self, cx: &mut Context<'_>, octets: usize) -> Poll<bool> {
+        if let Some(turn) = &mut self.turn {
+            let _ = ready!(turn.poll(cx));
+            self.turn = None;
+        }
+        if let Some(taken) = self.take(octets) {
+            return Poll::Ready(taken);
+        }
+        if let Some(turn) = &mut self.turn {
+            let _ = ready!(turn.poll(cx));
+        }
+        // Some were given back since: once more.
+        self.turn = None;
+        cx.yield_now()
+    }
+}
+
+impl<R: Wait + Copy> Drop for Share<R> {
+    fn drop(self) {
+        let Share {
+            rt,
+            alloc,
+            budget,
+            held,
+            turn: _,
+        } = self;
+        if held == 0 {
+            return;
+        }
+        let mut left = budget.purse.lock(&rt);
+        left.octets = left.octets.saturating_add(held);
+        let waiting = std::mem::replace(&mut left.waiting, Vec::new(alloc));
+        drop(left);
+        for bell in waiting {
+            let _ = bell.send(());
+        }
+    }
+}

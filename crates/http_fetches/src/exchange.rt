@@ -1,0 +1,288 @@
+//! One request to a server, over a connection of its own.
+ghost use Rattle.std.specs.Prelude.{IfSome};
+
+use crate::budget::Share;
+use bytes::Bytes;
+use futures::task::{Context, Poll};
+use futures::{Future, ready};
+use http_body_util::Empty;
+use http_content::{Content, Gathered, ReadFault, add_fields};
+use http_traffic::Page;
+use hyper::body::Incoming;
+use hyper::client::conn::http1;
+use hyper::client::conn::http1::{Connection, ResponseFuture};
+use hyper::{HeaderMap, Request, header};
+use paced_stream::{FETCH_TURN, Paced};
+use std::alloc::Global;
+use std::sync::Wait;
+use tokio::net::{ConnectFuture, TcpStream};
+use tokio::time::Timeout;
+
+/// A page, and the share of the budget that its body takes.
+#[derive(Drop)]
+pub struct Paid<P> {
+    pub page: Page,
+    pub purse: P,
+}
+
+/// Starts an exchange over a new connection.
+pub trait Talk: Drop {
+    /// What pays for the body.
+    type Purse: Drop;
+
+    /// The future of the page. Its output is `None` if the exchange failed.
+    type Talking: Future<Output = Option<Paid<Self::Purse>>>;
+
+    /// Starts the exchange. Returns `None` if the request cannot be made.
+    fn talk(&mut self, socket: TcpStream) -> Option<Self::Talking>
+        ensures { IfSome result Self.Talking.can_poll };
+}
+
+/// Connects, then runs the exchange. Returns `None` if either fails.
+#[derive(Drop)]
+pub struct Call<T: Talk> {
+    connecting: Option<Timeout<ConnectFuture>>,
+    talk: T,
+    talking: Option<T::Talking>,
+}
+
+impl<T: Talk> Call<T> {
+    /// A call over this connection attempt; `None` fails.
+    pub fn new(connecting: Option<Timeout<ConnectFuture>>, talk: T) -> Call<T>
+        ensures { IfSome result.talking T.Talking.can_poll }
+    {
+        Call {
+            connecting,
+            talk,
+            talking: None,
+        }
+    }
+}
+
+impl<T: Talk> Future for Call<T> {
+    type Output = Option<Paid<T::Purse>>;
+
+    ghost can_poll = { λ c. IfSome c.talking T.Talking.can_poll };
+
+    fn poll(&mut self, cx: &mut Context<'_>) -> Poll<Option<Paid<T::Purse>>> {
+        if self.talking.is_none() {
+            let Some(connecting) = &mut self.connecting else {
+                return Poll::Ready(None);
+            };
+            let Ok(Ok(socket)) = ready!(connecting.poll(cx)) else {
+                return Poll::Ready(None);
+            };
+            self.talking = self.talk.talk(socket);
+        }
+        match &mut self.talking {
+            Some(talking) => talking.poll(cx),
+            None => Poll::Ready(None),
+        }
+    }
+}
+
+/// A GET request for one page.
+#[derive(Drop)]
+pub struct Get<R: Wait + Copy> {
+    pub alloc: Global,
+    pub http: http1::Builder,
+    pub host: String,
+    pub target: String,
+    pub fields: Vec<(Vec<u8>, Vec<u8>)>,
+    /// The most octets of the body.
+    pub limit: usize,
+    /// How many of them need not be paid for.
+    pub free: usize,
+    /// What pays for the body, until the exchange begins.
+    pub share: Option<Share<R>>,
+}
+
+impl<R: Wait + Copy> Get<R> {
+    // The request to be sent. Returns `None` if a part of it is no valid HTTP, or if out of memory.
+    fn request(&self) -> Option<Request<Empty<Bytes>>> {
+        let mut request = Request::get(self.alloc, self.target.as_str())
+            .header(header::HOST, self.host.as_str())
+            .body(Empty::<Bytes>::new())
+            .ok()?;
+        add_fields(self.alloc, request.headers_mut(), self.fields.as_slice())?;
+        Some(request)
+    }
+}
+
+impl<R: Wait + Copy> Talk for Get<R> {
+    type Purse = Share<R>;
+
+    type Talking = Beside<Reply<Metered<R>>, Connection<Paced, Empty<Bytes>>>;
+
+    fn talk(&mut self, socket: TcpStream) -> Option<Self::Talking> {
+        let _ = socket.set_nodelay(true);
+        let request = self.request()?;
+        let Ok((mut sender, conn)) = self.http.handshake(Paced::new(socket, FETCH_TURN)) else {
+            return None;
+        };
+        let metered = Metered {
+            alloc: self.alloc,
+            limit: self.limit,
+            free: self.free,
+            share: self.share.take(),
+        };
+        let reply = Reply::new(sender.send_request(request), metered);
+        Some(Beside::new(reply, conn))
+    }
+}
+
+/// Starts reading the body of an answer.
+pub trait Read: Drop {
+    /// The body to be read.
+    type Body: Drop;
+
+    /// The content, with what was paid for it.
+    type Content: Drop;
+
+    /// The future of the content.
+    type Reading: Future<Output = Result<Self::Content, ReadFault>>;
+
+    /// Starts reading this body.
+    fn read(&mut self, body: Self::Body) -> Self::Reading
+        ensures { Self.Reading.can_poll result };
+}
+
+/// Reads one body of at most `limit` octets. The share pays for what is beyond the first `free`.
+#[derive(Drop)]
+pub struct Metered<R: Wait + Copy> {
+    alloc: Global,
+    limit: usize,
+    free: usize,
+    share: Option<Share<R>>,
+}
+
+impl<R: Wait + Copy> Read for Metered<R> {
+    type Body = Incoming<Paced>;
+
+    type Content = Content<Share<R>>;
+
+    type Reading = Gathered<Incoming<Paced>, Share<R>>;
+
+    fn read(&mut self, body: Incoming<Paced>) -> Gathered<Incoming<Paced>, Share<R>> {
+        Gathered::new(self.alloc, body, self.limit, self.free, self.share.take())
+    }
+}
+
+/// Polls `other` beside `first`, and returns what `first` returns. `other` is dropped with it, finished or not.
+#[derive(Drop)]
+pub struct Beside<A, B> {
+    first: A,
+    other: Option<B>,
+}
+
+impl<A: Future, B: Future> Beside<A, B> {
+    fn new(first: A, other: B) -> Beside<A, B>
+        requires first { A.can_poll first }
+        requires other { B.can_poll other }
+        ensures { A.can_poll result.first × IfSome result.other B.can_poll }
+    {
+        Beside {
+            first,
+            other: Some(other),
+        }
+    }
+}
+
+impl<A: Future, T: Drop, B: Future<Output = T>> Future for Beside<A, B> {
+    type Output = A::Output;
+
+    ghost can_poll = { λ b. A.can_poll b.first × IfSome b.other B.can_poll };
+
+    fn poll(&mut self, cx: &mut Context<'_>) -> Poll<A::Output> {
+        if let Some(other) = &mut self.other
+            && let Poll::Ready(_) = other.poll(cx)
+        {
+            self.other = None;
+        }
+        self.first.poll(cx)
+    }
+}
+
+// The head of a response.
+#[derive(Drop)]
+struct Head {
+    status: u16,
+    fields: HeaderMap,
+}
+
+/// Receives the head of a response, then its body.
+#[derive(Drop)]
+pub struct Reply<B: Read> {
+    answer: ResponseFuture<Paced>,
+    head: Option<Head>,
+    body: Option<B::Reading>,
+    read: B,
+}
+
+impl<B: Read<Body = Incoming<Paced>>> Reply<B> {
+    fn new(answer: ResponseFuture<Paced>, read: B) -> Reply<B>
+        ensures { IfSome result.body B.Reading.can_poll }
+    {
+        Reply {
+            answer,
+            head: None,
+            body: None,
+            read,
+        }
+    }
+}
+
+impl<P: Drop, B: Read<Body = Incoming<Paced>, Content = Content<P>>> Future for Reply<B> {
+    type Output = Option<Paid<P>>;
+
+    ghost can_poll = { λ e. IfSome e.body B.Reading.can_poll };
+
+    fn poll(&mut self, cx: &mut Context<'_>) -> Poll<Option<Paid<P>>> {
+        if self.body.is_none() {
+            let Ok(response) = ready!(self.answer.poll(cx)) else {
+                return Poll::Ready(None);
+            };
+            let (parts, body) = response.into_parts();
+            if has_foreign_coding(&parts.headers) {
+                return Poll::Ready(None);
+            }
+            self.head = Some(Head {
+                status: parts.status.as_u16(),
+                fields: parts.headers,
+            });
+            self.body = Some(self.read.read(body));
+        }
+        let Some(reading) = &mut self.body else {
+            return Poll::Ready(None);
+        };
+        match ready!(reading.poll(cx)) {
+            Ok(content) => Poll::Ready(paid_page(self.head.take(), content)),
+            Err(_) => Poll::Ready(None),
+        }
+    }
+}
+
+// The page of a head and a content. Returns `None` without a head.
+fn paid_page<P: Drop>(head: Option<Head>, content: Content<P>) -> Option<Paid<P>> {
+    let Head {
+        status,
+        fields: head,
+    } = head?;
+    let Content {
+        octets: body,
+        purse,
+    } = content;
+    let page = Page { status, head, body };
+    Some(Paid { page, purse })
+}
+
+// Whether the body has a transfer coding other than chunked.
+fn has_foreign_coding(headers: &HeaderMap) -> bool {
+    let mut codings = headers.get_all(header::TRANSFER_ENCODING).iter();
+    match codings.next() {
+        Some(first) => {
+            !first.as_bytes().eq_ignore_ascii_case(b"chunked") || codings.next().is_some()
+        }
+        None => false,
+    }
+}

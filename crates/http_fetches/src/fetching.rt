@@ -1,0 +1,335 @@
+//! Fetches from origin servers and neighbours, many concurrently on one thread.
+ghost use Rattle.std.specs.Prelude.{◌≡◌, ◌<◌, IfSome};
+ghost use Rattle.futures.specs.Poll.{OnPending};
+ghost use Rattle.futures.specs.Task.{Covers, Keeps};
+ghost use Rattle.tokio.specs.Timers.{timeout_future};
+
+use crate::budget::{Budget, Share};
+use crate::exchange::{Call, Get, Paid, Talk};
+use fetch_chain::{Begin, Submit};
+use futures::channel::mpsc::UnboundedReceiver;
+use futures::channel::oneshot;
+use futures::task::{Context, Poll};
+use futures::{Future, ready};
+use http_traffic::{Admit, FetchEnd, Fetched, Job, Order, Server};
+use hyper::client::conn::http1;
+use std::alloc::{AllocGlobal, Global};
+use std::hash::RandomState;
+use std::io;
+use std::net::{Net, SocketAddr};
+use std::random::RandomSource;
+use std::rc::Rc;
+use std::sync::{Arc, Wait};
+use std::time::{Clock, Duration};
+use tokio::net::{ConnectFuture, TcpStream};
+use tokio::runtime::{Handle, LocalRuntime};
+use tokio::time::Timeout;
+
+/// Limits of the fetches of one thread.
+#[derive(Clone, Copy)]
+pub struct FetchLimits {
+    /// The most octets of a body.
+    pub octets: usize,
+    /// How many octets of each body take nothing of the budget, so that short bodies never wait.
+    pub free: usize,
+    /// Time to connect.
+    pub connecting: Duration,
+    /// The most concurrent fetches.
+    pub at_once: usize,
+}
+
+/// What the fetches of all threads have in common.
+#[derive(Drop)]
+pub struct FetchRules<A> {
+    /// How many octets of bodies may be under way.
+    pub budget: Arc<Budget>,
+    /// Which servers may be fetched from as origins.
+    pub admit: A,
+}
+
+// Starts fetches.
+#[derive(Drop)]
+struct Getter<R, A> {
+    rt: R,
+    alloc: Global,
+    handle: Handle,
+    http: http1::Builder,
+    limits: FetchLimits,
+    rules: Rc<FetchRules<A>>,
+}
+
+impl<R: Net + Clock + Copy, A: Admit> Getter<R, A> {
+    // What connects one fetch. Returns `None` if out of memory.
+    fn dialer(&self, is_origin: bool) -> Option<Dialer<R, A>> {
+        Some(Dialer {
+            rt: self.rt,
+            handle: self.handle.clone().ok()?,
+            connecting: self.limits.connecting,
+            rules: self.rules.clone().ok()?,
+            is_origin,
+        })
+    }
+}
+
+impl<R: Wait + Net + Clock + Copy, A: Admit> Begin for Getter<R, A> {
+    type Job = Job;
+
+    type Done = Done<Share<R>>;
+
+    type Running = Fetch<R, A, Get<R>>;
+
+    fn begin(&mut self, job: Job) -> Fetch<R, A, Get<R>> {
+        let Job { server, order } = job;
+        let Order {
+            fetch,
+            attempt,
+            host,
+            target,
+            fields,
+            is_origin,
+            deadline,
+            wanted,
+        } = order;
+        let get = Get {
+            alloc: self.alloc,
+            http: self.http,
+            host,
+            target,
+            fields,
+            limit: self.limits.octets,
+            free: self.limits.free,
+            share: Share::new(self.rt, self.alloc, &self.rules.budget).ok(),
+        };
+        let visit = Visit::new(server, self.dialer(is_origin), get);
+        let timed = self.handle.time().timeout_at(deadline, visit);
+        Fetch {
+            fetch,
+            attempt,
+            wanted,
+            visit: timed.ok(),
+        }
+    }
+}
+
+// Connects to a server.
+#[derive(Drop)]
+struct Dialer<R, A> {
+    rt: R,
+    handle: Handle,
+    connecting: Duration,
+    rules: Rc<FetchRules<A>>,
+    is_origin: bool,
+}
+
+impl<R: Net + Clock + Copy, A: Admit> Dialer<R, A> {
+    // Whether this server may be connected to.
+    fn admits(&self, server: SocketAddr) -> bool {
+        !self.is_origin || self.rules.admit.admits(server)
+    }
+
+    // Connects to this address, with a timeout. Returns `None` if out of memory.
+    fn connect(&self, server: SocketAddr) -> Option<Timeout<ConnectFuture>> {
+        let connecting = TcpStream::connect(&self.rt, server, self.handle.reactor());
+        let time = self.handle.time();
+        time.timeout(&self.rt, self.connecting, connecting).ok()
+    }
+}
+
+// How a visit ended.
+#[derive(Drop)]
+enum Visited<P> {
+    // With a page.
+    Whole(Paid<P>),
+    // The server is not admitted.
+    Refused,
+    // Without a page.
+    Failed,
+}
+
+// Waits for the address of the server, then makes the call.
+#[derive(Drop)]
+struct Visit<R, A, T: Talk> {
+    server: Server,
+    dialer: Option<Dialer<R, A>>,
+    talk: Option<T>,
+    // The call, once it has begun.
+    call: Option<Call<T>>,
+}
+
+impl<R: Net + Clock + Copy, A: Admit, T: Talk> Visit<R, A, T> {
+    // A visit that has not begun; it fails without a dialer.
+    fn new(server: Server, dialer: Option<Dialer<R, A>>, talk: T) -> Visit<R, A, T>
+        ensures { IfSome result.call (λ c. IfSome c.talking T.Talking.can_poll) }
+    {
+        Visit {
+            server,
+            dialer,
+            talk: Some(talk),
+            call: None,
+        }
+    }
+
+    // Waits for the address of the server. `None` if its name has none.
+    fn poll_server(&mut self, cx: &mut Context<'_>) -> Poll<Option<SocketAddr>>
+        ensures same { self.new.call ≡ self.old.call }
+        ensures registered { OnPending result (Covers cx.new (λ _. ⊥)) }
+        ensures kept { Keeps cx.old cx.new }
+    {
+        match &mut self.server {
+            Server::At(server) => Poll::Ready(Some(*server)),
+            Server::Sought(sought) => Poll::Ready(ready!(sought.poll(cx)).ok()),
+        }
+    }
+
+    // Whether this server is known not to be admitted.
+    fn refuses(&self, server: SocketAddr) -> bool {
+        match &self.dialer {
+            Some(dialer) => !dialer.admits(server),
+            None => false,
+        }
+    }
+
+    // The call to this address. Returns `None` if it has begun before, or if out of memory.
+    fn call(&mut self, server: SocketAddr) -> Option<Call<T>>
+        ensures { IfSome result (λ c. IfSome c.talking T.Talking.can_poll) }
+    {
+        let talk = self.talk.take()?;
+        match &self.dialer {
+            Some(dialer) => Some(Call::new(dialer.connect(server), talk)),
+            None => None,
+        }
+    }
+}
+
+impl<R: Net + Clock + Copy, A: Admit, T: Talk> Future for Visit<R, A, T> {
+    type Output = Visited<T::Purse>;
+
+    ghost can_poll = { λ v. IfSome v.call (λ c. IfSome c.talking T.Talking.can_poll) };
+
+    fn poll(&mut self, cx: &mut Context<'_>) -> Poll<Visited<T::Purse>> {
+        if self.call.is_none() {
+            let Some(server) = ready!(self.poll_server(cx)) else {
+                return Poll::Ready(Visited::Failed);
+            };
+            if self.refuses(server) {
+                return Poll::Ready(Visited::Refused);
+            }
+            self.call = self.call(server);
+        }
+        let Some(call) = &mut self.call else {
+            return Poll::Ready(Visited::Failed);
+        };
+        match ready!(call.poll(cx)) {
+            Some(paid) => Poll::Ready(Visited::Whole(paid)),
+            None => Poll::Ready(Visited::Failed),
+        }
+    }
+}
+
+// A fetch in progress.
+#[derive(Drop)]
+struct Fetch<R, A, T: Talk> {
+    fetch: u32,
+    attempt: u16,
+    wanted: oneshot::Receiver<()>,
+    visit: Option<Timeout<Visit<R, A, T>>>,
+}
+
+impl<R: Net + Clock + Copy, A: Admit, T: Talk> Future for Fetch<R, A, T> {
+    type Output = Done<T::Purse>;
+
+    ghost can_poll = { λ f. IfSome f.visit (λ t. IfSome (timeout_future t).call (λ c. IfSome c.talking T.Talking.can_poll)) };
+
+    fn poll(&mut self, cx: &mut Context<'_>) -> Poll<Done<T::Purse>> {
+        let visited = if let Poll::Ready(_) = self.wanted.poll(cx) {
+            Visited::Failed
+        } else if let Some(visit) = &mut self.visit {
+            match ready!(visit.poll(cx)) {
+                Ok(visited) => visited,
+                Err(_elapsed) => Visited::Failed,
+            }
+        } else {
+            Visited::Failed
+        };
+        Poll::Ready(done_of(self.fetch, self.attempt, visited))
+    }
+}
+
+// The result of a fetch, and what its body takes of the budget.
+#[derive(Drop)]
+struct Done<P> {
+    fetched: Fetched,
+    purse: Option<P>,
+}
+
+// The result of a fetch whose visit has ended.
+fn done_of<P: Drop>(fetch: u32, attempt: u16, visited: Visited<P>) -> Done<P> {
+    let (end, purse) = match visited {
+        Visited::Whole(Paid { page, purse }) => (FetchEnd::Whole(page), Some(purse)),
+        Visited::Refused => (FetchEnd::Refused, None),
+        Visited::Failed => (FetchEnd::Failed, None),
+    };
+    let fetched = Fetched {
+        fetch,
+        attempt,
+        end,
+    };
+    Done { fetched, purse }
+}
+
+// Passes on results. What a body takes of the budget is given back once its result has been taken.
+#[derive(Drop)]
+struct PassOn<'a, S> {
+    seat: &'a mut S,
+}
+
+impl<P: Drop, S: Submit<Fetched>> Submit<Done<P>> for PassOn<'_, S> {
+    fn submit(&mut self, done: Done<P>) {
+        let Done { fetched, purse } = done;
+        self.seat.submit(fetched);
+        drop(purse);
+    }
+}
+
+// What starts the fetches of a runtime. Errors: there are no random numbers, or out of memory.
+fn getter_of<R, A>(
+    rt: R,
+    runtime: &LocalRuntime,
+    rules: FetchRules<A>,
+    limits: FetchLimits,
+) -> io::Result<Getter<R, A>>
+where
+    R: RandomSource + AllocGlobal + Copy,
+    A: Admit,
+{
+    let alloc = rt.alloc();
+    Ok(Getter {
+        rt,
+        alloc,
+        handle: runtime.handle().clone()?,
+        http: http1::Builder::new(alloc, RandomState::new(&rt)?),
+        limits,
+        rules: Rc::new(alloc, rules)?,
+    })
+}
+
+/// Runs the jobs of a channel until all its senders are gone and the last fetch has ended. Each fetch opens a connection of its
+/// own, and passes its result to `seat`. Errors: the event loop failed, or out of memory.
+pub fn run_fetches<R, S, A>(
+    rt: R,
+    jobs: UnboundedReceiver<Job>,
+    seat: &mut S,
+    rules: FetchRules<A>,
+    limits: FetchLimits,
+) -> io::Result<()>
+where
+    R: Wait + Clock + RandomSource + AllocGlobal + Net + Copy,
+    S: Submit<Fetched>,
+    A: Admit,
+    requires { 0 < limits.at_once }
+{
+    let mut runtime = LocalRuntime::new(&rt)?;
+    let getter = getter_of(rt, &runtime, rules, limits)?;
+    let mut seat = PassOn { seat };
+    fetch_chain::run(&rt, &mut runtime, jobs, getter, &mut seat, limits.at_once)
+}

@@ -1,0 +1,14 @@
+//! Fetches from origin servers and neighbours: HTTP/1.1 on hyper, whose types stay inside this crate, many fetches at a time on one
+//! thread.
+//!
+//! The contracts see only that every future is polled in a state in which it may be; nothing is proved about the HTTP messages.
+//!
+//! Tested by: crates/test_edge; tests/serve, tests/serve_slow and tests/serve_hostile, which run the built program over loopback.
+#![tactic(auto)]
+
+mod budget;
+mod exchange;
+mod fetching;
+
+pub use budget::{Budget, Share};
+pub use fetching::{FetchLimits, FetchRules, run_fetches};

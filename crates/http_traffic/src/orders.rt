@@ -1,0 +1,79 @@
+//! Fetches and their results.
+use futures::channel::oneshot;
+use http_header::HeaderMap;
+use std::net::SocketAddr;
+use std::time::Instant;
+
+/// A fetch to be made.
+#[derive(Drop)]
+pub struct Order {
+    /// The number of the fetch.
+    pub fetch: u32,
+    /// The number of this attempt of the fetch.
+    pub attempt: u16,
+    /// The value of the Host field.
+    pub host: String,
+    /// The request target: path and query for an origin server, the whole URL for a neighbour.
+    pub target: String,
+    /// The other fields of the request, as names and values.
+    pub fields: Vec<(Vec<u8>, Vec<u8>)>,
+    /// Whether the server is an origin server, and so has to be admitted; a neighbour is configured.
+    pub is_origin: bool,
+    /// When the fetch times out.
+    pub deadline: Instant,
+    /// Cancels the fetch when its sender is dropped.
+    pub wanted: oneshot::Receiver<()>,
+}
+
+/// The server of an order.
+#[derive(Drop)]
+pub enum Server {
+    /// Its address.
+    At(SocketAddr),
+    /// Receives its address once its name has been looked up. The fetch fails if the sender is dropped.
+    Sought(oneshot::Receiver<SocketAddr>),
+}
+
+/// An order and its server.
+#[derive(Drop)]
+pub struct Job {
+    pub server: Server,
+    pub order: Order,
+}
+
+/// A complete response, as received.
+#[derive(Debug, Drop)]
+pub struct Page {
+    pub status: u16,
+    pub head: HeaderMap,
+    pub body: Vec<u8>,
+}
+
+/// How a fetch ended.
+#[derive(Debug, Drop)]
+pub enum FetchEnd {
+    /// With a complete response.
+    Whole(Page),
+    /// The server is no origin server that may be fetched from; it was not connected to.
+    Refused,
+    /// Without a response: no connection, not HTTP, a body that is cut off, too large or in a transfer coding other than chunked,
+    /// timed out, cancelled, or out of memory.
+    Failed,
+}
+
+/// The result of an order.
+#[derive(Debug, Drop)]
+pub struct Fetched {
+    /// The number of the fetch.
+    pub fetch: u32,
+    /// The number of this attempt.
+    pub attempt: u16,
+    /// How it ended.
+    pub end: FetchEnd,
+}
+
+/// Knows which servers may be fetched from as origin servers.
+pub trait Admit: Drop {
+    /// Whether this server may be.
+    fn admits(&self, server: SocketAddr) -> bool;
+}

@@ -1,0 +1,57 @@
+//! What is administered.
+use crate::asking::Asked;
+use filter_slots::Slot;
+use futures::channel::mpsc;
+use std::alloc::AllocError;
+
+/// Why a filter was not installed.
+#[derive(Debug, Drop)]
+pub enum PutFault {
+    /// The text is not a valid filter; the line says what is wrong.
+    NoFilter(Vec<u8>),
+    /// Out of memory.
+    NoMemory,
+}
+
+/// Why no capture was begun.
+#[derive(Debug, Drop)]
+pub enum CaptureFault {
+    /// The query does not say what to capture; the line says what it has to be.
+    NoLimits(Vec<u8>),
+    /// One is under way.
+    Busy,
+    /// Out of memory.
+    NoMemory,
+}
+
+/// What is administered. Called on the thread that serves. Every `AllocError` means out of memory.
+pub trait Panel: Drop {
+    /// Whether the request is the administrator's. The other functions are called only for requests that are.
+    fn admits(&mut self, asked: &Asked) -> bool;
+
+    /// Whether a request of the administrator may change anything. `put`, `clear` and `capture` are called only for
+    /// requests that may.
+    fn admits_change(&mut self, asked: &Asked) -> bool;
+
+    /// Whether the slot exists. `put`, `clear` and `show` are called only for slots that exist.
+    fn has(&mut self, slot: Slot) -> bool;
+
+    /// Installs the filter of this text in a slot.
+    fn put(&mut self, slot: Slot, text: &[u8]) -> Result<(), PutFault>;
+
+    /// Removes the filter of a slot.
+    fn clear(&mut self, slot: Slot) -> Result<(), AllocError>;
+
+    /// The text of a slot's filter, or a text that says that it has none.
+    fn show(&mut self, slot: Slot) -> Result<Vec<u8>, AllocError>;
+
+    /// The counters, as JSON.
+    fn stats(&mut self) -> Result<Vec<u8>, AllocError>;
+
+    /// The state of each neighbour, as JSON.
+    fn neighbours(&mut self) -> Result<Vec<u8>, AllocError>;
+
+    /// Begins to capture datagrams, within the limits of this query of a request target, if there is one. The file's octets come
+    /// in pieces until the capture ends, which it does also where the receiver is dropped.
+    fn capture(&mut self, query: Option<&str>) -> Result<mpsc::Receiver<Vec<u8>>, CaptureFault>;
+}

@@ -1,0 +1,139 @@
+//! Host names of servers. Look-ups block, so threads of their own make them, and a fetch waits for its address on its own thread,
+//! under its own deadline. What was found is kept for a while, and a name is looked up once at a time, for all that wait for it.
+//!
+//! Nothing is proved here but that it is free of panics and overflows. Tested by: crates/test_edge, tests/serve, tests/serve_slow.
+#![tactic(auto)]
+
+mod table;
+
+use crossbeam_channel::{Receiver, Sender, bounded};
+use futures::channel::mpsc::UnboundedSender;
+use futures::channel::oneshot;
+use http_traffic::{Job, Order, Server};
+use std::alloc::{AllocError, Global};
+use std::net::{IpAddr, Ipv4Addr, Net, SocketAddr, SocketAddrV4, ToSocketAddrs};
+use std::sync::{Arc, Mutex, Wait};
+use std::time::{Clock, Instant};
+pub use table::{NameLimits, NameTable, Seeking, Waiter};
+
+/// Has names looked up by threads that run `look_up`.
+#[derive(Drop)]
+pub struct NameDesk {
+    table: Arc<Mutex<NameTable>>,
+    // Wakes a thread for each name that is queued.
+    wakes: Sender<(), Global>,
+}
+
+/// What a thread needs that looks up names.
+#[derive(Drop)]
+pub struct NameClerk {
+    table: Arc<Mutex<NameTable>>,
+    wakes: Receiver<(), Global>,
+}
+
+/// A desk without names, and what its threads need; `share` gives each its own. Errors: out of memory.
+pub fn open_names(alloc: Global, limits: NameLimits) -> Result<(NameDesk, NameClerk), AllocError> {
+    let table = Arc::new(alloc, Mutex::new(NameTable::new(alloc, limits)))?;
+    let (to, wakes) = bounded(alloc, limits.names.max(1))?;
+    let desk = NameDesk {
+        table: Arc::try_clone(&table)?,
+        wakes: to,
+    };
+    Ok((desk, NameClerk { table, wakes }))
+}
+
+impl NameClerk {
+    /// The same for another thread. Errors: out of memory.
+    pub fn share(&self) -> Result<NameClerk, AllocError> {
+        Ok(NameClerk {
+            table: Arc::try_clone(&self.table)?,
+            wakes: self.wakes.clone()?,
+        })
+    }
+}
+
+// The fetch thread of a fetch: the fetch number modulo the number of threads. Returns `None` if there are none.
+fn lane_of<'a>(lanes: &'a [UnboundedSender<Job>], fetch: u32) -> Option<&'a UnboundedSender<Job>> {
+    let place = (fetch as usize).checked_rem(lanes.len())?;
+    lanes.get(place)
+}
+
+/// Sends an order to its fetch thread. If `name` is not an IPv4 address in digits and its address is not known, it is looked up
+/// meanwhile. Errors: the order itself, if a channel is closed, if there is no fetch thread, if too many names are sought, if the
+/// clock cannot be read, or if out of memory.
+pub fn hand_over<R: Wait + Clock>(
+    rt: &R,
+    alloc: Global,
+    names: &NameDesk,
+    lanes: &[UnboundedSender<Job>],
+    name: String,
+    port: u16,
+    order: Order,
+) -> Result<(), Order> {
+    let Some(lane) = lane_of(lanes, order.fetch) else {
+        return Err(order);
+    };
+    let Some(server) = server_of(rt, alloc, names, name.as_str(), port) else {
+        return Err(order);
+    };
+    match lane.unbounded_send(Job { server, order }) {
+        Ok(()) => Ok(()),
+        Err(refused) => Err(refused.into_inner().order),
+    }
+}
+
+// The address in digits, or one that is sought. Returns `None` as `hand_over` fails.
+fn server_of<R: Wait + Clock>(
+    rt: &R,
+    alloc: Global,
+    names: &NameDesk,
+    name: &str,
+    port: u16,
+) -> Option<Server> {
+    if let Ok(address) = name.parse::<Ipv4Addr>() {
+        return Some(Server::At(SocketAddr::V4(SocketAddrV4::new(address, port))));
+    }
+    let (found, sought) = oneshot::channel(alloc).ok()?;
+    let now = Instant::now(rt).ok()?;
+    let seeking = names
+        .table
+        .lock(rt)
+        .seek(now, name, Waiter { port, found })
+        .ok()?;
+    if seeking == Seeking::Queued {
+        // If the channel is full, threads are woken already for as many names as there can be.
+        let _ = names.wakes.try_send(rt, ());
+    }
+    Some(Server::Sought(sought))
+}
+
+/// Looks up names until the desk is gone; several threads may do so at a time. A name that nobody waits for any more is not looked
+/// up. A name gets its first IPv4 address; the fetches of one without fail at once.
+pub fn look_up<R: Wait + Net + Clock>(rt: &R, clerk: &NameClerk) {
+    for () in clerk.wakes.iter(rt) {
+        for _ in 0..u64::MAX {
+            let Ok(began) = Instant::now(rt) else {
+                break;
+            };
+            let Some(name) = clerk.table.lock(rt).next(began) else {
+                break;
+            };
+            let address = address_of(rt, name.as_str());
+            let now = Instant::now(rt).unwrap_or(began);
+            clerk.table.lock(rt).tell(now, name.as_str(), address);
+        }
+    }
+}
+
+// The first IPv4 address of a name. Waits for the name servers.
+fn address_of<R: Net>(rt: &R, name: &str) -> Option<Ipv4Addr> {
+    let Ok(addresses) = (name, 0u16).to_socket_addrs(rt) else {
+        return None;
+    };
+    for address in addresses {
+        if let IpAddr::V4(address) = address.ip() {
+            return Some(address);
+        }
+    }
+    None
+}

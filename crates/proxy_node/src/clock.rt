@@ -1,0 +1,38 @@
+//! The times that the threads use.
+use filter_slots::Moment;
+use mio_queries::Timeline;
+use std::time::{Clock, SystemTime};
+
+/// The moment of an event that happens now. Returns 0 if a clock cannot be read or is out of range; an event at 0 leaves the node's
+/// clock as it is.
+pub fn now<R: Clock>(rt: &R, timeline: &Timeline) -> Moment {
+    match timeline.now(rt) {
+        Ok(now) => now,
+        Err(_) => Moment::new(0).unwrap(),
+    }
+}
+
+/// Seconds since 1970-01-01 UTC by the system's clock, which may be set back, for a Date field. Returns 0 if it cannot be read.
+pub fn date_seconds<R: Clock>(rt: &R) -> u64 {
+    match read(rt) {
+        Some(seconds) => seconds,
+        None => 0,
+    }
+}
+
+/// Microseconds since 1970-01-01 UTC by the system's clock. Returns 0 if it cannot be read.
+pub fn micros<R: Clock>(rt: &R) -> u64 {
+    let Ok(now) = SystemTime::now(rt) else {
+        return 0;
+    };
+    match now.duration_since(SystemTime::UNIX_EPOCH) {
+        Ok(since) => u64::try_from(since.as_micros()).unwrap_or(0),
+        Err(_) => 0,
+    }
+}
+
+fn read<R: Clock>(rt: &R) -> Option<u64> {
+    let now = SystemTime::now(rt).ok()?;
+    let since = now.duration_since(SystemTime::UNIX_EPOCH).ok()?;
+    Some(since.as_secs())
+}

@@ -1,0 +1,196 @@
+//! Waiting clients and in-flight fetches.
+use futures::channel::oneshot;
+use http_traffic::Outcome;
+use node_core::Mode;
+use object_store::CacheKey;
+use std::alloc::{AllocError, Global};
+use std::collections::{BTreeMap, BTreeSet};
+
+/// A header field: its name in lower case, and its value.
+pub type Field = (Vec<u8>, Vec<u8>);
+
+/// A waiting client.
+#[derive(Drop)]
+pub struct Waiting {
+    /// Sends the client its answer.
+    pub reply: oneshot::Sender<Outcome>,
+    /// The request fields that a fetch forwards: of a private one all, of a shared one the CDN-Loop fields of any one client that
+    /// waits for it.
+    pub fields: Vec<Field>,
+    /// The key of the request, if it is shared and has CDN-Loop fields.
+    pub looped: Option<CacheKey>,
+    /// The client's private fetch, once it has started.
+    pub fetch: Option<u32>,
+}
+
+/// What is known of an in-flight fetch.
+#[derive(Clone, Copy)]
+pub struct Flight {
+    /// Private, or shared between clients.
+    pub mode: Mode,
+    /// Whether the origin is asked, and not a neighbour.
+    pub is_origin: bool,
+}
+
+/// An in-flight fetch.
+#[derive(Drop)]
+struct Fetching {
+    flight: Flight,
+    /// Cancels the fetch when dropped.
+    _wanted: oneshot::Sender<()>,
+}
+
+/// Waiting clients by client number, and in-flight fetches by fetch number.
+#[derive(Drop)]
+pub struct Mailbox {
+    clients: BTreeMap<u64, Waiting>,
+    fetches: BTreeMap<u32, Fetching>,
+    // Clients whose shared requests have CDN-Loop fields, by key.
+    looped: BTreeMap<Vec<u8>, BTreeSet<u64>>,
+}
+
+impl Mailbox {
+    /// No clients and no fetches.
+    pub fn new(alloc: Global) -> Mailbox {
+        Mailbox {
+            clients: BTreeMap::new(alloc),
+            fetches: BTreeMap::new(alloc),
+            looped: BTreeMap::new(alloc),
+        }
+    }
+
+    /// Adds a waiting client. Errors: out of memory.
+    pub fn add(&mut self, alloc: Global, client: u64, waiting: Waiting) -> Result<(), AllocError> {
+        let looped = match &waiting.looped {
+            Some(key) => Some(key.share()?),
+            None => None,
+        };
+        if self.clients.insert(client, waiting).is_err() {
+            return Err(AllocError);
+        }
+        if let Some(key) = looped
+            && self.add_looped(alloc, key.as_slice(), client).is_err()
+        {
+            let _ = self.clients.remove(&client);
+            return Err(AllocError);
+        }
+        Ok(())
+    }
+
+    /// Removes a client and cancels its private fetch.
+    pub fn remove(&mut self, client: u64) {
+        if let Some(waiting) = self.take(client)
+            && let Some(fetch) = waiting.fetch
+        {
+            let _ = self.fetches.remove(&fetch);
+        }
+    }
+
+    /// Answers a client, if it is still waiting, and removes it.
+    pub fn answer(&mut self, client: u64, answer: Outcome) {
+        if let Some(waiting) = self.take(client) {
+            let _ = waiting.reply.send(answer);
+        }
+    }
+
+    /// Removes a client.
+    fn take(&mut self, client: u64) -> Option<Waiting> {
+        let waiting = self.clients.remove(&client)?;
+        if let Some(key) = &waiting.looped {
+            self.remove_looped(key.as_slice(), client);
+        }
+        Some(waiting)
+    }
+
+    /// Notes that this client's shared request for a key has CDN-Loop fields. Errors: out of memory.
+    fn add_looped(&mut self, alloc: Global, key: &[u8], client: u64) -> Result<(), AllocError> {
+        if let Some(clients) = self.looped.get_mut(key) {
+            clients.insert(client).map_err(|_| AllocError)?;
+            return Ok(());
+        }
+        let mut clients = BTreeSet::new(alloc);
+        clients.insert(client).map_err(|_| AllocError)?;
+        match self.looped.insert(key.to_vec(alloc)?, clients) {
+            Ok(_) => Ok(()),
+            Err(_) => Err(AllocError),
+        }
+    }
+
+    fn remove_looped(&mut self, key: &[u8], client: u64) {
+        if let Some(clients) = self.looped.get_mut(key) {
+            let _ = clients.remove(&client);
+            if clients.is_empty() {
+                let _ = self.looped.remove(key);
+            }
+        }
+    }
+
+    /// The CDN-Loop fields of a client whose shared request for this key has some; none if there is no such client. Errors: out of
+    /// memory.
+    pub fn loop_fields(&self, alloc: Global, key: &[u8]) -> Result<Vec<Field>, AllocError> {
+        let clients = self.looped.get(key);
+        match clients.and_then(|clients| self.clients.get(clients.first()?)) {
+            Some(waiting) => copy_of(alloc, waiting.fields.as_slice()),
+            None => Ok(Vec::new(alloc)),
+        }
+    }
+
+    /// Records `fetch` as the client's private fetch. Returns a copy of the fields to forward, or `None` if the client no longer
+    /// waits. Errors: out of memory.
+    pub fn fields_for(
+        &mut self,
+        alloc: Global,
+        client: u64,
+        fetch: u32,
+    ) -> Result<Option<Vec<Field>>, AllocError> {
+        let Some(waiting) = self.clients.get_mut(&client) else {
+            return Ok(None);
+        };
+        waiting.fetch = Some(fetch);
+        Ok(Some(copy_of(alloc, waiting.fields.as_slice())?))
+    }
+
+    /// Adds an in-flight fetch, which is cancelled when `wanted` is dropped. It replaces, and so cancels, an earlier attempt of
+    /// the same fetch. Errors: out of memory.
+    pub fn begin(
+        &mut self,
+        fetch: u32,
+        flight: Flight,
+        wanted: oneshot::Sender<()>,
+    ) -> Result<(), AllocError> {
+        let fetching = Fetching {
+            flight,
+            _wanted: wanted,
+        };
+        match self.fetches.insert(fetch, fetching) {
+            Ok(_) => Ok(()),
+            Err(_) => Err(AllocError),
+        }
+    }
+
+    /// Removes a fetch whose attempt has ended. One that is not in flight counts as private, so that nothing is stored.
+    pub fn end(&mut self, fetch: u32) -> Flight {
+        match self.fetches.remove(&fetch) {
+            Some(fetching) => fetching.flight,
+            None => Flight {
+                mode: Mode::Private,
+                is_origin: true,
+            },
+        }
+    }
+
+    /// Cancels all fetches and drops all clients without an answer.
+    pub fn clear(&mut self) {
+        self.fetches.clear();
+        self.clients.clear();
+        self.looped.clear();
+    }
+}
+
+fn copy_of(alloc: Global, fields: &[Field]) -> Result<Vec<Field>, AllocError> {
+    let mut copy = Vec::new(alloc);
+    for (name, value) in fields {
+        copy.push((name.to_vec(alloc)?, value.to_vec(alloc)?))?;
+    }
+    Ok(copy)
+}

@@ -1,0 +1,269 @@
+//! A thread's handle to the node.
+ghost use Rattle.std.specs.Prelude.{◌≡◌};
+ghost use Rattle.node_book.specs.Audited.{IsAudited};
+
+use crate::capture_tap::Recorder;
+use crate::limits::EVENTS_AN_AUDIT;
+use crate::proxy_state::{Attempt, ProxyState};
+use crossbeam_channel::Sender;
+use filter_slots::{Datagram, End, Judged, Moment, Socket};
+use mio_queries::Bell;
+use node_book::{Clerk, Programs, Seat, SubmitFault};
+use node_core::{Action, Event, NoMemory, Out, Outcome};
+use object_store::CacheKey;
+use std::alloc::{AllocError, Global};
+use std::sync::atomic::Ordering;
+use std::sync::ledger::Ledger;
+use std::sync::{Arc, Wait};
+use std::time::Clock;
+
+/// A datagram for the query thread to send.
+#[derive(Drop)]
+pub struct Outgoing {
+    pub socket: Socket,
+    pub to: End,
+    pub payload: Vec<u8>,
+}
+
+/// Queues datagrams for the query thread, and wakes it.
+#[derive(Drop)]
+pub struct Outbox {
+    pub to: Sender<Outgoing, Global>,
+    pub bell: Bell,
+}
+
+/// A seat on its way to the thread that will own it, with the shared state.
+#[derive(Drop)]
+pub struct ThreadSeat<L: Ledger> {
+    proxy: Arc<ProxyState<L>>,
+    seat: Seat<L>,
+}
+
+impl<L: Ledger> ThreadSeat<L> {
+    /// Pairs a seat with the shared state. Errors: the state cannot get one more owner.
+    pub fn new(proxy: &Arc<ProxyState<L>>, seat: Seat<L>) -> Result<ThreadSeat<L>, AllocError> {
+        Ok(ThreadSeat {
+            proxy: Arc::try_clone(proxy)?,
+            seat,
+        })
+    }
+}
+
+/// A thread's handle to the node: submits events through the thread's seat, and carries out the actions they cause. The node's
+/// lock is held only while an event is submitted, not while its actions are carried out.
+#[derive(Drop)]
+pub struct NodeHandle<R, L: Ledger> {
+    rt: R,
+    alloc: Global,
+    proxy: Arc<ProxyState<L>>,
+    seat: Seat<L>,
+    // A reused action buffer; `None` while its actions are carried out.
+    out: Option<Out>,
+    // Where datagrams go; `None` in the query thread, which sends them itself, and in threads whose events send none.
+    outbox: Option<Outbox>,
+    programs: Programs,
+    // Events submitted, modulo 2^32.
+    submitted: u32,
+    // Records datagrams for the administration. Only in the query thread, whose events come through `Clerk`.
+    recorder: Recorder,
+}
+
+impl<R: Wait + Clock + Drop, L: Ledger> NodeHandle<R, L> {
+    /// A handle for the calling thread.
+    pub fn new(
+        rt: R,
+        alloc: Global,
+        seat: ThreadSeat<L>,
+        outbox: Option<Outbox>,
+    ) -> NodeHandle<R, L> {
+        let ThreadSeat { proxy, seat } = seat;
+        NodeHandle {
+            rt,
+            alloc,
+            proxy,
+            seat,
+            out: None,
+            outbox,
+            programs: Programs::new(),
+            submitted: 0,
+            recorder: Recorder::new(),
+        }
+    }
+
+    /// State shared by all threads.
+    pub fn proxy(&self) -> &ProxyState<L> {
+        &self.proxy
+    }
+
+    /// Returns the seat, with which the event log is settled.
+    pub fn into_seat(self) -> Seat<L> {
+        let NodeHandle { seat, .. } = self;
+        seat
+    }
+
+    /// Submits an event and carries out its actions. Returns the number of actions. After an error the event was not taken.
+    pub fn take(&mut self, event: Event) -> Result<usize, SubmitFault> {
+        let count = self.hand_in(event)?;
+        self.report_failures();
+        Ok(count)
+    }
+
+    /// Reports to the node the fetches that no thread could start. If a report is refused, the attempt stays recorded for a later
+    /// call by any thread; the query thread calls this in every round of its loop.
+    pub fn report_failures(&mut self) {
+        for _ in 0..u64::MAX {
+            let Some(failed) = self.proxy.next_failure(&self.rt) else {
+                return;
+            };
+            let event = Event::Fetched {
+                fetch: failed.fetch,
+                attempt: failed.attempt,
+                result: Outcome::Failed,
+                now: crate::clock::now(&self.rt, &self.proxy.timeline),
+            };
+            if self.hand_in(event).is_err() {
+                self.proxy.record_failure(&self.rt, failed);
+                return;
+            }
+        }
+    }
+
+    fn hand_in(&mut self, event: Event) -> Result<usize, SubmitFault> {
+        let Ok(event) = Arc::new(self.alloc, event) else {
+            return Err(SubmitFault::NoMemory);
+        };
+        let mut out = match self.out.take() {
+            Some(out) => out,
+            None => Out::new(self.alloc)?,
+        };
+        out.clear();
+        let _ = self
+            .proxy
+            .desk
+            .submit(&self.rt, self.alloc, &mut self.seat, event, &mut out)?;
+        self.audit();
+        for action in out.actions() {
+            self.carry_out(action);
+        }
+        let count = out.actions().len();
+        self.out = Some(out);
+        Ok(count)
+    }
+
+    // Counts one event, and compares receipts with the event log once in so many. If one doesn't agree, the proxy is to end.
+    fn audit(&mut self)
+        ensures seat { IsAudited self.old.seat self.new.seat }
+        ensures share { self.new.seat.share ≡ self.old.seat.share }
+    {
+        self.submitted = self.submitted.wrapping_add(1);
+        if self.submitted % EVENTS_AN_AUDIT != 0 {
+            return;
+        }
+        let found = self.proxy.desk.audit(&self.rt, &mut self.seat);
+        if found.is_some() && !self.proxy.is_astray.swap(true, Ordering::SeqCst) {
+            let _ = self.proxy.end.send(&self.rt, ());
+        }
+    }
+
+    fn carry_out(&mut self, action: &Action) {
+        if let Action::Send {
+            socket,
+            to,
+            payload,
+        } = action
+        {
+            self.queue(*socket, *to, payload.as_slice());
+            return;
+        }
+        self.perform_or_record(action);
+    }
+
+    // Carries out an action other than `Send`. A fetch that cannot be started is recorded.
+    fn perform_or_record(&self, action: &Action) {
+        if self.proxy.pass(&self.rt, self.alloc, action).is_err()
+            && let Action::Fetch { fetch, attempt, .. } = action
+        {
+            let failed = Attempt {
+                fetch: *fetch,
+                attempt: *attempt,
+            };
+            self.proxy.record_failure(&self.rt, failed);
+        }
+    }
+
+    // Queues a datagram for the query thread. On an allocation failure it is dropped, as UDP may drop any.
+    fn queue(&self, socket: Socket, to: End, payload: &[u8]) {
+        let Some(outbox) = &self.outbox else {
+            return;
+        };
+        let Ok(payload) = payload.to_vec(self.alloc) else {
+            return;
+        };
+        let outgoing = Outgoing {
+            socket,
+            to,
+            payload,
+        };
+        if outbox.to.send(&self.rt, outgoing).is_ok() {
+            outbox.bell.ring();
+        }
+    }
+}
+
+impl<R: Wait + Clock + Drop, L: Ledger> Clerk for NodeHandle<R, L> {
+    ghost use Rattle.node_book.specs.Told.{seat_told};
+
+    ghost told = { λ h. seat_told h.seat };
+
+    ghost taken = { λ h. h.seat.share };
+
+    ghost programs = { λ h. h.programs };
+
+    fn submit(
+        &mut self,
+        alloc: Global,
+        event: Arc<Event>,
+        out: &mut Out,
+    ) -> Result<u64, SubmitFault> {
+        let submitted = self
+            .proxy
+            .desk
+            .submit(&self.rt, alloc, &mut self.seat, event, out);
+        self.recorder.tick(&self.rt, &self.proxy.tap);
+        if submitted.is_ok() {
+            self.audit();
+        }
+        submitted
+    }
+
+    fn submit_judged(
+        &mut self,
+        alloc: Global,
+        judged: &Judged,
+        now: Moment,
+        out: &mut Out,
+    ) -> Result<u64, SubmitFault> {
+        let submitted = self
+            .proxy
+            .desk
+            .submit_judged(&self.rt, alloc, &mut self.seat, judged, now, out);
+        if submitted.is_ok() {
+            self.recorder.note(&self.rt, &self.proxy.tap, judged);
+            self.audit();
+        }
+        submitted
+    }
+
+    fn judge(&mut self, datagram: Arc<Datagram>) -> Result<Judged, NoMemory> {
+        self.programs.judge(&self.rt, &self.proxy.desk, datagram)
+    }
+
+    fn pass(&mut self, _alloc: Global, action: &Action) -> Result<(), NoMemory> {
+        self.perform_or_record(action);
+        Ok(())
+    }
+
+    fn key_of(&mut self, _alloc: Global, fetch: u32) -> Result<Option<CacheKey>, NoMemory> {
+        self.proxy.desk.key_of(&self.rt, fetch)
+    }
+}

@@ -1,0 +1,72 @@
+//! Turns a fetched response into an object.
+use crate::mailbox::Field;
+use http_header::HeaderMap;
+use http_rules::{PassFault, age_of, end_to_end, may_store, tells_end};
+use http_traffic::Page;
+use node_core::Mode;
+use object_store::{Object, SharedObject};
+use std::alloc::{AllocError, Global};
+
+/// The object of a received response: its end-to-end fields with our Via added, and a Date if it had none (RFC 9110, 6.6.1), its
+/// Age, and its freshness lifetime in seconds, 0 if it must not be stored. Errors: its Connection fields name too many others, or
+/// out of memory.
+pub fn object_of(
+    alloc: Global,
+    name: &[u8],
+    mode: Mode,
+    page: Page,
+    date: &[u8],
+) -> Result<SharedObject, PassFault> {
+    let Page { status, head, body } = page;
+    let life = life_of(mode, status, &head);
+    let age = age_of(&head);
+    let mut fields = end_to_end(alloc, &head)?;
+    add_ours(alloc, &mut fields, name, date)?;
+    Ok(SharedObject::new(alloc, Object::new(status, fields, body, age, life))?)
+}
+
+/// Adds Via, and Date if there is none. Errors: out of memory.
+fn add_ours(
+    alloc: Global,
+    fields: &mut Vec<Field>,
+    name: &[u8],
+    date: &[u8],
+) -> Result<(), AllocError> {
+    if !fields
+        .iter()
+        .any(|(name, _)| name.as_slice() == b"date".as_slice())
+    {
+        fields.push((b"date".to_vec(alloc)?, date.to_vec(alloc)?))?;
+    }
+    fields.push(via(alloc, name)?)?;
+    Ok(())
+}
+
+/// What a client gets whose URL is one of a server that may not be fetched from.
+const REFUSAL: &[u8] = b"403 Forbidden: this proxy may not fetch from this address or port\n";
+
+/// The answer in place of a page of a server that may not be fetched from; it is not stored. Errors: out of memory.
+pub fn refusal(alloc: Global, date: &[u8]) -> Result<SharedObject, AllocError> {
+    let mut fields = Vec::new(alloc);
+    fields.push((b"content-type".to_vec(alloc)?, b"text/plain".to_vec(alloc)?))?;
+    fields.push((b"date".to_vec(alloc)?, date.to_vec(alloc)?))?;
+    let body = REFUSAL.to_vec(alloc)?;
+    SharedObject::new(alloc, Object::new(403, fields, body, 0, 0))
+}
+
+/// The seconds for which a response may be stored, 0 if it must not be. One whose body ends with its connection may have been cut,
+/// and is not stored.
+fn life_of(mode: Mode, status: u16, head: &HeaderMap) -> u32 {
+    if tells_end(head) {
+        may_store(mode, status, head).unwrap_or(0)
+    } else {
+        0
+    }
+}
+
+/// The Via field (RFC 9110, 7.6.3) of a cache of this name.
+pub fn via(alloc: Global, name: &[u8]) -> Result<Field, AllocError> {
+    let mut value = b"1.1 ".to_vec(alloc)?;
+    value.extend_from_slice(name)?;
+    Ok((b"via".to_vec(alloc)?, value))
+}

@@ -1,0 +1,310 @@
+//! State shared by the threads of a proxy.
+use crate::addressing::{Destination, Peer, origin_of, peer_of};
+use crate::capture_tap::Tap;
+use crate::mailbox::{Field, Flight, Mailbox};
+use crate::objects::via;
+use crossbeam_channel::Sender;
+use filter_slots::End;
+use futures::channel::mpsc::UnboundedSender;
+use futures::channel::oneshot;
+use http_rules::OriginRules;
+use http_traffic as serving;
+use http_traffic::{Admit, Job, Order};
+use mio_queries::Timeline;
+use name_lookup::{NameDesk, hand_over};
+use node_book::Desk;
+use node_core::{Action, Answer, Mode, NoMemory};
+use peer_select::Source;
+use plain_node::MAX_PENDING_FETCHES;
+use std::alloc::{AllocError, Global};
+use std::net::{IpAddr, SocketAddr};
+use std::sync::atomic::{AtomicBool, AtomicU16};
+use std::sync::ledger::Ledger;
+use std::sync::{Arc, Mutex, Wait};
+use std::time::{Clock, Duration, Instant};
+
+/// Senders to the threads that fetch.
+#[derive(Drop)]
+pub struct Lanes {
+    /// To the threads that look up names.
+    pub names: NameDesk,
+    /// To each fetch thread, by index.
+    pub jobs: Vec<UnboundedSender<Job>>,
+}
+
+/// One attempt of a fetch.
+#[derive(Clone, Copy)]
+pub struct Attempt {
+    pub fetch: u32,
+    pub attempt: u16,
+}
+
+/// State shared by the threads of a proxy. No thread holds two of these locks at once.
+#[derive(Drop)]
+pub struct ProxyState<L: Ledger> {
+    /// The node and its event log, behind a lock of its own that is held for one event or one question at a time.
+    pub desk: Desk<L>,
+    /// Waiting clients and in-flight fetches. Locked by the client thread when a client comes or leaves, by a thread whose action
+    /// starts a fetch or answers a client, and by a fetch thread when a fetch ends.
+    pub mailbox: Mutex<Mailbox>,
+    /// Senders to the threads that fetch; `None` before they start and after `close`. Locked while an order is sent.
+    pub lanes: Mutex<Option<Lanes>>,
+    /// Attempts that could not be started and that no thread has reported to the node yet. Locked to add or remove one.
+    pub failed: Mutex<Vec<Attempt>>,
+    /// The moments of all threads.
+    pub timeline: Timeline,
+    /// The name of this cache.
+    pub name: String,
+    /// The element of CDN-Loop that marks what this cache has sent (RFC 8586).
+    pub loop_mark: Vec<u8>,
+    /// Which servers may be fetched from as origins. Locked while one server is judged.
+    pub origins: Mutex<OriginRules>,
+    /// The neighbours, in the order of the configuration.
+    pub peers: Vec<Peer>,
+    /// Time limit of a fetch.
+    pub fetching: Duration,
+    /// The port that administration is served on: the configuration's, and once its socket is bound that of the socket.
+    pub admin_port: AtomicU16,
+    /// Where the administration hands a capture to the query thread.
+    pub tap: Tap,
+    /// Whether an audit found a receipt that does not agree with the event log.
+    pub is_astray: AtomicBool,
+    /// Receives a message when that happens, so that the proxy ends.
+    pub end: Sender<(), Global>,
+}
+
+/// Room for fetches that could not be begun.
+pub fn no_failures(alloc: Global) -> Result<Mutex<Vec<Attempt>>, AllocError> {
+    Ok(Mutex::new(Vec::with_capacity(alloc, MAX_PENDING_FETCHES)?))
+}
+
+/// A fetch that the node asks for.
+#[derive(Clone, Copy)]
+struct Wanted {
+    fetch: u32,
+    attempt: u16,
+    source: Source,
+    only_if_cached: bool,
+    owner: Option<u64>,
+}
+
+impl Wanted {
+    /// What is to be known of the fetch while it is in flight.
+    fn flight(&self) -> Flight {
+        Flight {
+            mode: match self.owner {
+                Some(_) => Mode::Private,
+                None => Mode::Shared,
+            },
+            is_origin: matches!(self.source, Source::Origin),
+        }
+    }
+}
+
+impl<L: Ledger> ProxyState<L> {
+    /// Carries out an action other than `Send`, which it ignores. Errors: a fetch could not be started.
+    pub fn pass<R: Wait + Clock>(
+        &self,
+        rt: &R,
+        alloc: Global,
+        action: &Action,
+    ) -> Result<(), NoMemory> {
+        match action {
+            Action::Send { .. } => Ok(()),
+            Action::Serve { client, answer } => {
+                let answer = outcome_of(answer);
+                self.mailbox.lock(rt).answer(*client, answer);
+                Ok(())
+            }
+            Action::Fetch {
+                fetch,
+                attempt,
+                source,
+                only_if_cached,
+                owner,
+            } => self.begin(
+                rt,
+                alloc,
+                Wanted {
+                    fetch: *fetch,
+                    attempt: *attempt,
+                    source: *source,
+                    only_if_cached: *only_if_cached,
+                    owner: *owner,
+                },
+            ),
+        }
+    }
+
+    /// Starts a fetch.
+    fn begin<R: Wait + Clock>(
+        &self,
+        rt: &R,
+        alloc: Global,
+        wanted: Wanted,
+    ) -> Result<(), NoMemory> {
+        let Some(key) = self.desk.key_of(rt, wanted.fetch)? else {
+            return Err(AllocError);
+        };
+        let destination = self.destination(alloc, wanted.source, key.as_slice());
+        let destination = destination.ok_or(AllocError)?;
+        let fields = self.fields(rt, alloc, wanted, key.as_slice())?;
+        let (sender, receiver) = oneshot::channel(alloc)?;
+        let flight = wanted.flight();
+        let deadline = self.deadline(rt).ok_or(AllocError)?;
+        self.mailbox.lock(rt).begin(wanted.fetch, flight, sender)?;
+        let Destination {
+            name,
+            port,
+            host,
+            target,
+        } = destination;
+        let order = Order {
+            fetch: wanted.fetch,
+            attempt: wanted.attempt,
+            host,
+            target,
+            fields,
+            is_origin: flight.is_origin,
+            deadline,
+            wanted: receiver,
+        };
+        self.send(rt, alloc, name, port, order)
+    }
+
+    /// The deadline of a fetch that starts now. Returns `None` if the clock cannot be read.
+    fn deadline<R: Clock>(&self, rt: &R) -> Option<Instant> {
+        Instant::now(rt).ok()?.checked_add(self.fetching)
+    }
+
+    /// Sends an order to a fetch thread. Errors: it was not accepted; the fetch is no longer in flight.
+    fn send<R: Wait + Clock>(
+        &self,
+        rt: &R,
+        alloc: Global,
+        name: String,
+        port: u16,
+        order: Order,
+    ) -> Result<(), NoMemory> {
+        let fetch = order.fetch;
+        let taken = match &*self.lanes.lock(rt) {
+            Some(lanes) => hand_over(
+                rt,
+                alloc,
+                &lanes.names,
+                lanes.jobs.as_slice(),
+                name,
+                port,
+                order,
+            )
+            .is_ok(),
+            None => false,
+        };
+        if taken {
+            return Ok(());
+        }
+        let _ = self.mailbox.lock(rt).end(fetch);
+        Err(AllocError)
+    }
+
+    /// The destination of a fetch of `key` from `source`.
+    fn destination(&self, alloc: Global, source: Source, key: &[u8]) -> Option<Destination> {
+        match source {
+            Source::Origin => origin_of(alloc, key),
+            Source::Peer(place) => peer_of(alloc, key, *self.peers.get(place)?),
+        }
+    }
+
+    /// The request fields of a fetch of `key` other than Host: those of the client that owns a private fetch, or the CDN-Loop
+    /// fields of one that waits for a shared one; `only-if-cached` for a sibling; CDN-Loop and Via of this cache.
+    fn fields<R: Wait>(
+        &self,
+        rt: &R,
+        alloc: Global,
+        wanted: Wanted,
+        key: &[u8],
+    ) -> Result<Vec<Field>, AllocError> {
+        let mut fields = match wanted.owner {
+            Some(client) => {
+                let kept = self
+                    .mailbox
+                    .lock(rt)
+                    .fields_for(alloc, client, wanted.fetch)?;
+                kept.ok_or(AllocError)?
+            }
+            None => self.mailbox.lock(rt).loop_fields(alloc, key)?,
+        };
+        if wanted.only_if_cached {
+            let name = b"cache-control".to_vec(alloc)?;
+            fields.push((name, b"only-if-cached".to_vec(alloc)?))?;
+        }
+        let mark = self.loop_mark.to_vec(alloc)?;
+        fields.push((b"cdn-loop".to_vec(alloc)?, mark))?;
+        fields.push(via(alloc, self.name.as_bytes())?)?;
+        Ok(fields)
+    }
+
+    /// Whether a server may be fetched from as an origin.
+    pub fn admits<R: Wait>(&self, rt: &R, server: End) -> bool {
+        self.origins.lock(rt).admits(server)
+    }
+
+    /// Adds a bound socket of this cache, which is never fetched from. Errors: out of memory.
+    pub fn add_own<R: Wait>(&self, rt: &R, end: End) -> Result<(), AllocError> {
+        Ok(self.origins.lock(rt).own.push(end)?)
+    }
+
+    /// Records an attempt that could not be started, for some thread to report to the node.
+    pub fn record_failure<R: Wait>(&self, rt: &R, failed: Attempt) {
+        let _ = self.failed.lock(rt).push(failed);
+    }
+
+    /// Removes a recorded attempt, which the caller reports to the node.
+    pub fn next_failure<R: Wait>(&self, rt: &R) -> Option<Attempt> {
+        self.failed.lock(rt).pop()
+    }
+
+    /// Shuts down: accepts no more orders, cancels in-flight fetches, and drops waiting clients without an answer.
+    pub fn close<R: Wait>(&self, rt: &R) {
+        let lanes = self.lanes.lock(rt).take();
+        drop(lanes);
+        self.mailbox.lock(rt).clear();
+    }
+}
+
+/// Judges the servers of a thread's fetches.
+#[derive(Drop)]
+pub struct Origins<R, L: Ledger> {
+    pub rt: R,
+    pub proxy: Arc<ProxyState<L>>,
+}
+
+impl<R: Wait + Drop, L: Ledger> Admit for Origins<R, L> {
+    fn admits(&self, server: SocketAddr) -> bool {
+        match server.ip() {
+            IpAddr::V4(address) => self.proxy.admits(
+                &self.rt,
+                End {
+                    addr: address.octets(),
+                    port: server.port(),
+                },
+            ),
+            IpAddr::V6(_) => false,
+        }
+    }
+}
+
+/// An answer of the node as the HTTP server takes it; status 503 if the object cannot get one more owner.
+fn outcome_of(answer: &Answer) -> serving::Outcome {
+    match answer {
+        Answer::Hit { object, age } => match object.share() {
+            Ok(object) => serving::Outcome::Hit { object, age: *age },
+            Err(_) => serving::Outcome::Fail(503),
+        },
+        Answer::Got(object) => match object.share() {
+            Ok(object) => serving::Outcome::Got(object),
+            Err(_) => serving::Outcome::Fail(503),
+        },
+        Answer::Fail(status) => serving::Outcome::Fail(*status),
+    }
+}

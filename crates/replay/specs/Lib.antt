@@ -1,0 +1,6 @@
+pub mod Aim
+pub mod Finding
+pub mod Tally
+pub mod File
+pub mod Contrast
+pub mod Comparison

@@ -1,0 +1,12 @@
+-- Which origins a configuration allows and denies.
+use Rattle.std.specs.Prelude.{ℕ, ◌≤◌, List, All, length}
+use Rattle.plain_node.specs.declared.config.Network.{Network}
+
+-- networks with prefixes of at most 32 bits
+abbrev pub AreNetworks : List Network → Type 0
+AreNetworks networks = All (λ network. network.prefix ≤ 32) networks
+
+-- one or more ports, none of them 0
+pub record ArePorts (ports : List ℕ) : Type 0 where
+  pub some : 1 ≤ length ports
+  pub each : All (λ port. 1 ≤ port) ports

@@ -1,0 +1,67 @@
+//! Tests of the budget of octets under way.
+use crate::fetches::{Kept, ask, page_of};
+use crate::limits::{fetch_limits, fetch_rules};
+use crate::origin;
+use futures::channel::mpsc::unbounded;
+use http_fetches::run_fetches;
+use std::alloc::AllocGlobal;
+use std::net::{Net, SocketAddr, TcpListener};
+use std::random::RandomSource;
+use std::sync::Wait;
+use std::test::Fail;
+use std::thread;
+use std::time::{Clock, Duration};
+
+/// How many of these targets are fetched whole, all at the same time, while so many octets may be under way.
+fn whole_of<R>(rt: R, server: SocketAddr, targets: &[&str], octets: usize) -> Result<usize, Fail>
+where
+    R: Wait + Clock + RandomSource + AllocGlobal + Net + Copy,
+{
+    let alloc = rt.alloc();
+    let (jobs, work) = unbounded(alloc)?;
+    let mut keeps = Vec::new(alloc);
+    let mut fetch = 0u32;
+    for target in targets {
+        keeps.push(ask(&rt, alloc, &jobs, Some(server), fetch, target)?)?;
+        fetch = fetch.saturating_add(1);
+    }
+    drop(jobs);
+    let mut seat = Kept {
+        all: Vec::new(alloc),
+    };
+    let rules = fetch_rules(alloc, octets)?;
+    run_fetches(
+        rt,
+        work,
+        &mut seat,
+        rules,
+        fetch_limits(100, Duration::from_millis(500)),
+    )?;
+    drop(keeps);
+    Ok(
+        seat.all
+            .iter()
+            .filter(|done| page_of(done).is_some())
+            .count(),
+    )
+}
+
+/// Where one body fits at a time, each waits for the one before it. A body that is larger than all that may be under way fails, and
+/// takes nothing from the others.
+#[test]
+fn a_budget_of_octets(rt: HostRuntime) -> Result<(), Fail> {
+    let alloc = rt.alloc();
+    let listener = TcpListener::bind(&rt, "127.0.0.1:0")?;
+    let server = listener.local_addr()?;
+    let origin = thread::spawn(&rt, move || origin::serve(rt, alloc, listener, 13))?;
+    let announced = ["/good", "/slow", "/good", "/many", "/slow"];
+    assert_eq!(rt; whole_of(rt, server, &announced, 10)?, 5);
+    assert_eq!(rt; whole_of(rt, server, &["/chunked", "/close"], 10)?, 2);
+    assert_eq!(rt; whole_of(rt, server, &["/many", "/good", "/more"], 9)?, 1);
+    assert_eq!(rt;
+        whole_of(rt, server, &["/chunked", "/close", "/good"], 4)?,
+        0
+    );
+    let _ = origin.join(&rt);
+    Ok(())
+}
