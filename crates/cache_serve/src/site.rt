@@ -10,8 +10,10 @@ use crate::tasks::{
     AdministrationTask, BoundQueries, ClientTask, Ending, FetchTask, QueryTask, Task, ThreadConfig,
     Work, no_memory, run_task,
 };
+use capture_tap::Tap;
 use crossbeam_channel::{Receiver, Sender, bounded, unbounded};
 use filter_slots::End;
+use forwarding::{Mailbox, Peer};
 use futures::channel::{mpsc, oneshot};
 use http_fetches::Budget;
 use http_rules::{OriginRules, loop_mark, usual_denials};
@@ -19,9 +21,7 @@ use mio_queries::{Bell, Timeline};
 use name_lookup::{NameDesk, NameLimits, look_up, open_names};
 use node_book::{BOOK_OCTETS, BookFault, Booked, Desk, RECEIPT_OCTETS, Report, Seat};
 use node_core::{Config, Network, Node};
-use proxy_node::{
-    Lanes, Mailbox, Outbox, Outgoing, Peer, ProxyState, Tap, ThreadSeat, no_failures,
-};
+use proxy_node::{Lanes, Outbox, Outgoing, ProxyState, ThreadSeat, no_failures};
 use serve_config::Settings;
 use std::alloc::{AllocError, AllocGlobal, Global};
 use std::net::{IpAddr, Ipv4Addr, Net, SocketAddr, SocketAddrV4};

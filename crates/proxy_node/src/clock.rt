@@ -20,17 +20,6 @@ pub fn date_seconds<R: Clock>(rt: &R) -> u64 {
     }
 }
 
-/// Microseconds since 1970-01-01 UTC by the system's clock. Returns 0 if it cannot be read.
-pub fn micros<R: Clock>(rt: &R) -> u64 {
-    let Ok(now) = SystemTime::now(rt) else {
-        return 0;
-    };
-    match now.duration_since(SystemTime::UNIX_EPOCH) {
-        Ok(since) => u64::try_from(since.as_micros()).unwrap_or(0),
-        Err(_) => 0,
-    }
-}
-
 fn read<R: Clock>(rt: &R) -> Option<u64> {
     let now = SystemTime::now(rt).ok()?;
     let since = now.duration_since(SystemTime::UNIX_EPOCH).ok()?;

@@ -1,10 +1,9 @@
 //! Client requests on their way to the node.
-use crate::addressing::end_in_digits;
 use crate::clock::now;
-use crate::mailbox::{Field, Waiting};
 use crate::node_handle::NodeHandle;
 use crate::proxy_state::ProxyState;
 use crossbeam_channel::Sender;
+use forwarding::{Field, Waiting, end_in_digits};
 use futures::channel::oneshot;
 use http_rules::{PassFault, TargetFault, classify, end_to_end, has_come_back, key_of};
 use http_traffic::{Asked, Asking, Forward, Front, Outcome};

@@ -5,24 +5,16 @@
 //! tests/serve_hostile, which run the built program over loopback.
 #![tactic(auto)]
 
-mod addressing;
-mod capture_limits;
-mod capture_tap;
 mod clock;
 mod front;
 mod limits;
-mod mailbox;
 mod node_handle;
-mod objects;
 mod panel;
 mod proxy_state;
 mod results;
 
-pub use addressing::Peer;
-pub use capture_tap::Tap;
 pub use front::NodeFront;
 pub use limits::{RETRIES, RETRY_MILLIS};
-pub use mailbox::Mailbox;
 pub use node_handle::{NodeHandle, Outbox, Outgoing, ThreadSeat};
 pub use panel::NodePanel;
 pub use proxy_state::{Lanes, Origins, ProxyState, no_failures};

@@ -2,9 +2,9 @@
 ghost use Rattle.std.specs.Prelude.{◌≡◌};
 ghost use Rattle.node_book.specs.Audited.{IsAudited};
 
-use crate::capture_tap::Recorder;
 use crate::limits::EVENTS_AN_AUDIT;
 use crate::proxy_state::{Attempt, ProxyState};
+use capture_tap::Recorder;
 use crossbeam_channel::Sender;
 use filter_slots::{Datagram, End, Judged, Moment, Socket};
 use mio_queries::Bell;

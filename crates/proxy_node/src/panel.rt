@@ -1,9 +1,8 @@
 //! Administration of the node: filters, counters and captures.
-use crate::capture_limits::{CaptureLimits, QUERY_LINE};
-use crate::capture_tap::TapFault;
 use crate::node_handle::NodeHandle;
 use bpf_asm::to_text;
 use bpf_check::Checked;
+use capture_tap::{CaptureLimits, QUERY_LINE, TapFault};
 use filter_slots::Slot;
 use filter_text::{ProgramFault, read_program};
 use futures::channel::mpsc;

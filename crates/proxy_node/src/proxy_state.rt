@@ -1,10 +1,8 @@
 //! State shared by the threads of a proxy.
-use crate::addressing::{Destination, Peer, origin_of, peer_of};
-use crate::capture_tap::Tap;
-use crate::mailbox::{Field, Flight, Mailbox};
-use crate::objects::via;
+use capture_tap::Tap;
 use crossbeam_channel::Sender;
 use filter_slots::End;
+use forwarding::{Destination, Field, Flight, Mailbox, Peer, origin_of, peer_of, via};
 use futures::channel::mpsc::UnboundedSender;
 use futures::channel::oneshot;
 use http_rules::OriginRules;

@@ -1,11 +1,10 @@
 //! Results of fetches on their way to the node.
 use crate::clock::{date_seconds, now};
 use crate::limits::{RETRIES, RETRY_MILLIS};
-use crate::mailbox::Flight;
 use crate::node_handle::NodeHandle;
-use crate::objects::{object_of, refusal};
 use crossbeam_channel::Sender;
 use fetch_chain::Submit;
+use forwarding::{Flight, object_of, refusal};
 use http_rules::PassFault;
 use http_traffic::{FetchEnd, Fetched, Page};
 use httpdate::HttpDate;

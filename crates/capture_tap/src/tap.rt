@@ -1,20 +1,30 @@
 //! Captures of the datagrams that come in, for the administration: the query thread writes the file's blocks, and hands them over
 //! in pieces through a bounded channel.
-use crate::capture_limits::CaptureLimits;
-use crate::clock::micros;
+use crate::limits::CaptureLimits;
 use capture_file::{COUNTS_OCTETS, Fate, HEAD_OCTETS, counts_block, datagram_block, head};
 use filter_slots::{Datagram, Judged, cut};
 use futures::channel::mpsc;
 use std::alloc::{AllocError, Global};
 use std::sync::atomic::{AtomicBool, Ordering};
 use std::sync::{Mutex, Wait};
-use std::time::{Clock, Duration, Instant};
+use std::time::{Clock, Duration, Instant, SystemTime};
 
 // The octets after which a piece is handed over. One datagram can make a piece longer.
 const PIECE: usize = 65_536;
 
 // The most pieces that wait for the client.
 const WAITING: usize = 32;
+
+// Microseconds since 1970-01-01 UTC by the system's clock; 0 if it cannot be read.
+fn micros<R: Clock>(rt: &R) -> u64 {
+    let Ok(now) = SystemTime::now(rt) else {
+        return 0;
+    };
+    match now.duration_since(SystemTime::UNIX_EPOCH) {
+        Ok(since) => u64::try_from(since.as_micros()).unwrap_or(0),
+        Err(_) => 0,
+    }
+}
 
 /// Why no recording was begun.
 #[derive(Clone, Copy, Debug, PartialEq, Eq)]
