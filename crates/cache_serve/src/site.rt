@@ -17,6 +17,7 @@ use forwarding::{Mailbox, Peer};
 use futures::channel::{mpsc, oneshot};
 use http_fetches::Budget;
 use http_rules::{OriginRules, loop_mark, usual_denials};
+use http_traffic::Job;
 use mio_queries::{Bell, Timeline};
 use name_lookup::{NameDesk, NameLimits, look_up, open_names};
 use node_book::{BOOK_OCTETS, BookFault, Booked, Desk, RECEIPT_OCTETS, Report, Seat};
@@ -134,6 +135,8 @@ fn proxy_of<L: Ledger>(
 {
     let peers = peers_of(alloc, &settings.node).map_err(no_memory)?;
     let origins = origins_of(alloc, &mut settings).map_err(no_memory)?;
+    let failed = no_failures(alloc).map_err(no_memory)?;
+    let timeline = Timeline::new(alloc).map_err(no_memory)?;
     let Settings {
         name,
         volume,
@@ -152,8 +155,8 @@ fn proxy_of<L: Ledger>(
         desk,
         mailbox: Mutex::new(Mailbox::new(alloc)),
         lanes: Mutex::new(None),
-        failed: no_failures(alloc).map_err(no_memory)?,
-        timeline: Timeline::new(alloc).map_err(no_memory)?,
+        failed,
+        timeline,
         name,
         loop_mark,
         origins: Mutex::new(origins),
@@ -327,6 +330,16 @@ where
         ThreadSeat::new(&self.site.proxy, seat).map_err(no_memory)
     }
 
+    /// One more owner of the shared state.
+    fn proxy(&self) -> Result<Arc<ProxyState<L>>, ServeFault> {
+        Arc::try_clone(&self.site.proxy).map_err(no_memory)
+    }
+
+    /// One more sender that asks the proxy to end.
+    fn end(&self) -> Result<Sender<(), Global>, ServeFault> {
+        self.site.end.clone().map_err(no_memory)
+    }
+
     /// Starts a thread and keeps its handle.
     fn begin(&mut self, work: Work<L>) -> Result<(), ServeFault> {
         let (rt, task) = (self.rt, Task { work });
@@ -383,21 +396,32 @@ where
         for _ in 0..FETCHERS {
             let (to, jobs) = mpsc::unbounded(self.alloc).map_err(no_memory)?;
             let _ = lanes.push(to);
-            let fetches = FetchTask {
-                seat: self.seat()?,
-                jobs,
-                proxy: Arc::try_clone(&self.site.proxy).map_err(no_memory)?,
-                budget: Arc::try_clone(&budget).map_err(no_memory)?,
-                octets: self.config.body_limit,
-                connecting: self.config.limits.connecting,
-                end: self.site.end.clone().map_err(no_memory)?,
-            };
-            self.begin(Work::Fetches(fetches))?;
+            let budget = Arc::try_clone(&budget).map_err(no_memory)?;
+            self.open_fetcher(jobs, budget)?;
         }
         let names = self.open_look_ups()?;
         let lanes = Lanes { names, jobs: lanes };
         *self.site.proxy.lanes.lock(&self.rt) = Some(lanes);
         Ok(())
+    }
+
+    fn open_fetcher(
+        &mut self,
+        jobs: mpsc::UnboundedReceiver<Job>,
+        budget: Arc<Budget>,
+    ) -> Result<(), ServeFault> {
+        let proxy = self.proxy()?;
+        let end = self.end()?;
+        let fetches = FetchTask {
+            seat: self.seat()?,
+            jobs,
+            proxy,
+            budget,
+            octets: self.config.body_limit,
+            connecting: self.config.limits.connecting,
+            end,
+        };
+        self.begin(Work::Fetches(fetches))
     }
 
     /// Starts the threads that look up names. They are not joined, since the system's resolver may hold each for as long as it
@@ -420,14 +444,16 @@ where
         outgoing: Receiver<Outgoing, Global>,
     ) -> Result<BoundQueries, ServeFault> {
         let (bound, heard) = unbounded(self.alloc).map_err(no_memory)?;
+        let is_ended = Arc::try_clone(&self.site.is_ended).map_err(no_memory)?;
+        let end = self.end()?;
         let queries = QueryTask {
             seat: self.seat()?,
             icp: self.config.icp,
             htcp: self.config.htcp,
             outgoing,
             bound,
-            is_ended: Arc::try_clone(&self.site.is_ended).map_err(no_memory)?,
-            end: self.site.end.clone().map_err(no_memory)?,
+            is_ended,
+            end,
         };
         self.begin(Work::Queries(queries))?;
         match heard.recv(&self.rt) {
@@ -443,16 +469,19 @@ where
     ) -> Result<SocketAddr, ServeFault> {
         let (stop, stopped) = oneshot::channel(self.alloc).map_err(no_memory)?;
         let (bound, heard) = unbounded(self.alloc).map_err(no_memory)?;
+        let name = String::from_str(self.alloc, self.site.proxy.name.as_str()).map_err(no_memory)?;
+        let proxy = self.proxy()?;
+        let end = self.end()?;
         let clients = ClientTask {
-            proxy: Arc::try_clone(&self.site.proxy).map_err(no_memory)?,
+            proxy,
             seat: self.seat()?,
             outbox,
             config: self.config,
             allowed,
-            name: String::from_str(self.alloc, self.site.proxy.name.as_str()).map_err(no_memory)?,
+            name,
             bound,
             stopped,
-            end: self.site.end.clone().map_err(no_memory)?,
+            end,
         };
         self.begin(Work::Clients(clients))?;
         let _ = self.site.stops.push(stop);
@@ -464,13 +493,14 @@ where
     fn open_administration(&mut self, token: Option<String>) -> Result<SocketAddr, ServeFault> {
         let (stop, stopped) = oneshot::channel(self.alloc).map_err(no_memory)?;
         let (bound, heard) = unbounded(self.alloc).map_err(no_memory)?;
+        let end = self.end()?;
         let administration = AdministrationTask {
             seat: self.seat()?,
             config: self.config,
             token,
             bound,
             stopped,
-            end: self.site.end.clone().map_err(no_memory)?,
+            end,
         };
         self.begin(Work::Administration(administration))?;
         let _ = self.site.stops.push(stop);
@@ -495,16 +525,17 @@ fn settled<L: Ledger>(
     let Some(proxy) = Arc::into_inner(proxy) else {
         return Err(ServeFault::Settle);
     };
-    let ProxyState {
-        desk,
-        is_astray,
-        ..
-    } = proxy;
-    if is_astray.into_inner() {
+    let (is_astray, desk) = desk_of_state(proxy);
+    if is_astray {
         return Err(ServeFault::Settle);
     }
     match desk.settle(seats) {
         Ok(report) => Ok(report),
         Err(_) => Err(ServeFault::Settle),
     }
+}
+
+/// Whether an audit found a receipt that does not agree with the event log, and the desk.
+fn desk_of_state<L: Ledger>(proxy: ProxyState<L>) -> (bool, Desk<L>) {
+    (proxy.is_astray.into_inner(), proxy.desk)
 }
