@@ -21,12 +21,12 @@ moment_by clock time = moment_at (start_after clock.start time) clock.last time
 -- the clock after a packet: the first one may tell where moments begin, and each datagram that was received has its moment
 abbrev pub clock_by : Clock → ℕ → Part → Clock
 clock_by clock time (Received socket) = record { start = start_after clock.start time; last = moment_by clock time }
-clock_by clock time other = record clock { start = start_after clock.start time }
+clock_by clock time part = record clock { start = start_after clock.start time }
 
 -- the lines of a packet
 abbrev pub lines_by : Clock → ℕ → UdpFields → Part → List ℕ
 lines_by clock time d (Received socket) = datagram_text socket d.from d.payload (moment_by clock time) ++ codes "\n"
-lines_by clock time d other = []
+lines_by clock time d part = []
 
 abbrev pub lines_of : Sockets → Clock → ℕ → Option UdpFields → List ℕ
 lines_of sockets clock time None = []
