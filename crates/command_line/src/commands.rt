@@ -51,10 +51,10 @@ fn check<'a>(alloc: Global) -> Result<Command<'a>, AllocError> {
 }
 
 fn serve<'a>(alloc: Global) -> Result<Command<'a>, AllocError> {
-    let command = Command::new(alloc, "serve")
+    Command::new(alloc, "serve")
         .about("Runs the proxy, or checks its configuration")
-        .arg(word(alloc, "config.json", "The configuration, one JSON object"))?;
-    with_flags(alloc, command, &SERVE, "Options")
+        .arg(word(alloc, "config.json", "The configuration, one JSON object"))?
+        .arg(SERVE.arg(alloc))
 }
 
 fn replay<'a>(alloc: Global) -> Result<Command<'a>, AllocError> {
@@ -63,7 +63,7 @@ fn replay<'a>(alloc: Global) -> Result<Command<'a>, AllocError> {
         .override_usage(REPLAY_USAGE)
         .arg(word(alloc, "filter", "The filter that judges the datagrams"))?
         .arg(word(alloc, "capture", "A classic pcap file"))?;
-    let command = with_flags(alloc, command, &SHARED, "Options")?;
+    let command = with_flags(alloc, command, &SHARED, "Options of both")?;
     let command = with_flags(alloc, command, &FILTER, "Options of a filter")?;
     with_flags(alloc, command, &NODE, "Options of a node")
 }

@@ -24,12 +24,12 @@ impl Flag {
     }
 }
 
-/// Those of `serve`.
-pub(crate) const SERVE: [Flag; 1] = [Flag {
+/// That of `serve`.
+pub(crate) const SERVE: Flag = Flag {
     name: "check",
     value: None,
     help: "Only reads the configuration: prints ok, or its fault, and binds no socket",
-}];
+};
 
 /// Those of `replay` with a filter and with a node.
 pub(crate) const SHARED: [Flag; 4] = [
