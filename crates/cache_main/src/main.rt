@@ -1,5 +1,6 @@
 //! The program `cache_main`, with five commands: `feed` runs a script from standard input, `check` reads a filter program from a
-//! file, `replay` runs one over a capture, `explain` over one datagram, `serve` runs the proxy from a configuration file.
+//! file, `replay` runs one over a capture, `explain` over one datagram, `serve` runs the proxy from a configuration file, or checks
+//! that file. What is asked about the program itself (`--help`, `help`, `--version`, `serve --check`) is told by `command_line`.
 //!
 //! This crate parses the arguments, calls the crates below it, and turns their results into lines and exit statuses. It has no
 //! functional contract of its own; `run_serve` only requires a ledger for seven threads, those that submit events to the node.
@@ -7,10 +8,13 @@
 #![tactic(auto)]
 
 mod check_command;
+mod configuration_command;
 mod serve_command;
 
 use cache_serve::SEATS;
 use check_command::run_check;
+use command_line::{Question, asked};
+use configuration_command::check_configuration;
 use feed_script::feed;
 use filter_replay::{run_explain, run_replay};
 use serve_command::{run_serve, settings_of};
@@ -45,6 +49,9 @@ fn main(rt: HostRuntime) -> ExitCode {
     let Ok(words) = words_of(&rt) else {
         return refuse_words(&rt);
     };
+    if let Some(status) = answered(&rt, words.as_slice()) {
+        return status;
+    }
     match command_of(words.as_slice()) {
         Some(Command::Feed) => run_feed(&rt),
         Some(Command::Check(file)) => run_check(&rt, file),
@@ -61,6 +68,28 @@ fn main(rt: HostRuntime) -> ExitCode {
             }
         }
         None => tell_usage(&rt),
+    }
+}
+
+/// The status once the arguments were answered that ask for a help text, the version or a check of a configuration; `None` if they
+/// ask for none of these.
+fn answered(rt: &HostRuntime, words: &[String]) -> Option<ExitCode> {
+    match asked(rt.alloc(), words) {
+        Ok(None) => None,
+        Ok(Some(Question::Text(text))) => Some(print_text(rt, text.as_str())),
+        Ok(Some(Question::Configuration(file))) => Some(check_configuration(rt, file)),
+        Err(_) => Some(tell_usage(rt)),
+    }
+}
+
+/// Prints a help text or the version on standard output.
+fn print_text(rt: &HostRuntime, text: &str) -> ExitCode {
+    match print!(rt; "{text}") {
+        Ok(()) => ExitCode::SUCCESS,
+        Err(_) => {
+            let _ = eprintln!(rt; "{NO_OUTPUT}");
+            ExitCode::FAILURE
+        }
     }
 }
 
@@ -97,12 +126,14 @@ fn words_of(rt: &HostRuntime) -> io::Result<Vec<String>> {
     Ok(env::args(rt)?.collect(rt.alloc())?)
 }
 
-/// Parses the arguments; `None` if they are no command.
+/// Parses the arguments; `None` if they are no command. The option `--check` is no configuration file.
 fn command_of(words: &[String]) -> Option<Command<'_>> {
     match words {
         [_, word] if word.as_str() == "feed" => Some(Command::Feed),
         [_, word, file] if word.as_str() == "check" => Some(Command::Check(file.as_str())),
-        [_, word, file] if word.as_str() == "serve" => Some(Command::Serve(file.as_str())),
+        [_, word, file] if word.as_str() == "serve" && file.as_str() != "--check" => {
+            Some(Command::Serve(file.as_str()))
+        }
         [_, word, rest @ ..] if word.as_str() == "replay" => Some(Command::Replay(rest)),
         [_, word, rest @ ..] if word.as_str() == "explain" => Some(Command::Explain(rest)),
         _ => None,

@@ -20,7 +20,12 @@ pub fn settings_of<R: Files + AllocGlobal + Eprint>(rt: &R, file: &str) -> Optio
         let _ = eprintln!(rt; "file fault");
         return None;
     };
-    match Settings::read(rt.alloc(), text.as_slice()) {
+    settings_in(rt, text.as_slice())
+}
+
+/// Parses the settings in a text. On a fault prints its line on standard error and returns `None`.
+pub fn settings_in<R: AllocGlobal + Eprint>(rt: &R, text: &[u8]) -> Option<Settings> {
+    match Settings::read(rt.alloc(), text) {
         Ok(settings) => Some(settings),
         Err(fault) => {
             let _ = eprintln!(rt; "{fault}");

@@ -1,0 +1,53 @@
+//! The command `serve --check`: reads a configuration, tells what is wrong or odd in it, and binds no socket.
+
+use crate::NO_OUTPUT;
+use crate::serve_command::settings_in;
+use node_core::Network;
+use std::fs;
+use std::net::Ipv4Addr;
+use std::process::ExitCode;
+
+/// Prints `ok` on standard output if the proxy would accept a configuration file, and the line of the fault on standard error if
+/// not. Networks with bits beyond their prefix are told on standard error, and accepted.
+pub fn check_configuration(rt: &HostRuntime, file: &str) -> ExitCode {
+    let text = match fs::read(rt, file) {
+        Ok(text) => text,
+        Err(fault) => {
+            let _ = eprintln!(rt; "file fault\n{file}: {fault}");
+            return ExitCode::FAILURE;
+        }
+    };
+    let Some(settings) = settings_in(rt, text.as_slice()) else {
+        return ExitCode::FAILURE;
+    };
+    warn_of(rt, "allowed", settings.node.allowed.as_slice());
+    if let Some(networks) = &settings.deny_origins {
+        warn_of(rt, "deny_origins", networks.as_slice());
+    }
+    if println!(rt; "ok").is_err() {
+        let _ = eprintln!(rt; "{NO_OUTPUT}");
+        return ExitCode::FAILURE;
+    }
+    ExitCode::SUCCESS
+}
+
+/// Prints a warning for each network in the list of this key that has bits beyond its prefix.
+fn warn_of(rt: &HostRuntime, key: &str, networks: &[Network]) {
+    for i in 0..networks.len() {
+        let Network { addr, prefix } = networks[i];
+        if has_bits_beyond(addr, prefix) {
+            let address = Ipv4Addr::from_octets(addr);
+            let _ = eprintln!(rt;
+                "warning: {key}[{i}]: {address}/{prefix} has bits beyond its prefix"
+            );
+        }
+    }
+}
+
+/// Whether an address has a bit that is 1 behind its first `prefix` bits.
+fn has_bits_beyond(addr: [u8; 4], prefix: u8) -> bool {
+    match u32::from_be_bytes(addr).checked_shl(u32::from(prefix)) {
+        Some(rest) => rest != 0,
+        None => false,
+    }
+}
