@@ -1,5 +1,5 @@
 //! A node with its book: the log of the events that it has taken, each with a tally of its actions.
-ghost use Rattle.std.specs.Prelude.{true, false, ◌≡◌, ◌<◌, ◌≤◌, [], ◌∷◌, ◌+◌, length, IfOk, OnOk, OnErr, IsErrOf, IsTrue, ◌≢◌, ◌↔◌, map};
+ghost use Rattle.std.specs.Prelude.{true, false, ◌≡◌, ◌<◌, ◌≤◌, [], ◌∷◌, ◌+◌, ◌++◌, length, vec_capacity, IfOk, OnOk, OnErr, IsErrOf, IsTrue, ◌≢◌, ◌↔◌, map};
 ghost use Rattle.std.specs.Option.{option_map};
 ghost use Rattle.pending_fetch.specs.Fetches.{PendingFetch, fetch_of};
 ghost use Rattle.std.specs.Bool.{OnFalse};
@@ -8,6 +8,7 @@ ghost use Rattle.node_core.specs.Happening.{arrives, happening};
 ghost use Rattle.node_core.specs.State.{HasTaken};
 ghost use Rattle.plain_node.specs.Tally.{tally_of};
 ghost use Rattle.node_book.specs.Claims.{claim_of, said_of};
+ghost use Rattle.node_book.specs.Contents.{contents_of};
 ghost use Rattle.node_book.specs.Entries.{entry_of};
 ghost use Rattle.node_book.specs.Good.{Stands};
 ghost use Rattle.node_book.specs.Book.{IsLegal, begun, begun_within, count_of, is_full, turned, written};
@@ -287,11 +288,11 @@ impl Booked {
         let shared = Arc::try_clone(event)?;
         self.present.step(alloc, &**event, out)?;
         let tally = out.tally();
-        self.octets += contents_of(&**event);
-        self.kept.push_reserved(Entry {
+        let entry = Entry {
             event: shared,
             tally,
-        });
+        };
+        append(&mut self.kept, &mut self.octets, entry);
         Ok(tally)
     }
 
@@ -316,11 +317,11 @@ impl Booked {
         let shared = Arc::try_clone(event)?;
         self.present.step_judged(alloc, judged, now, out)?;
         let tally = out.tally();
-        self.octets += contents_of(&**event);
-        self.kept.push_reserved(Entry {
+        let entry = Entry {
             event: shared,
             tally,
-        });
+        };
+        append(&mut self.kept, &mut self.octets, entry);
         Ok(tally)
     }
 
@@ -358,6 +359,18 @@ impl Booked {
             }
         }
     }
+}
+
+/// Appends an entry to those of a volume, which have room for it, and adds the octets of its contents to theirs.
+fn append(kept: &mut Vec<Entry>, octets: &mut u64, entry: Entry)
+    requires room { length kept.old.items < vec_capacity kept.old }
+    requires few { octets.old < 4294967296 }
+    ensures items { kept.new.items ≡ kept.old.items ++ entry ∷ [] }
+    ensures capacity { vec_capacity kept.new ≡ vec_capacity kept.old }
+    ensures octets { octets.new ≡ octets.old + contents_of (happening (arc_value entry.event)) }
+{
+    *octets += contents_of(&*entry.event);
+    kept.push_reserved(entry);
 }
 
 /// Whether a receipt and an entry have equal events and tallies.

@@ -2,7 +2,6 @@ use Rattle.std.proofs.Common.{◌≡◌, false, ◌<◌, ◌≤◌, ◌∙◌, a
 use Rattle.std.proofs.lemmas.List.{map-append}
 use Rattle.node_core.specs.Happening.{happening}
 use Rattle.node_book.specs.Book.{Book, count_of, entry_octets, is_full}
-use Rattle.node_book.specs.Contents.{contents_of}
 use Rattle.node_book.specs.Kept.{book_of}
 use Rattle.node_book.specs.Entries.{entry_of}
 use Rattle.node_book.proofs.Legal.{legal-push, longer-octets, short, slender}
@@ -14,25 +13,23 @@ invariant_of-self-2 c =
     let has = subst room (sym c.self.view_is) c.requires.room in
     let legal = c.self.invariant.0 in
     let roomy = c.self.invariant.1 in
-    let capacity = c.push_reserved.ensures.capacity in (
+    let capacity = c.append.ensures.capacity in (
       legal-push (book_of c.self.inside) _ _ _ _ legal
-          (ap (map entry_of) c.push_reserved.ensures.items ∙ map-append entry_of c.self.inside.kept.items _
+          (ap (map entry_of) c.append.ensures.items ∙ map-append entry_of c.self.inside.kept.items _
           ∙ (λ i. map entry_of c.self.inside.kept.items ++ ((ap happening c.in_ok-shared.ensures ∙ c.requires.event) i, c.tally-tally.ensures i) ∷ []))
           (c.append_law.ensures.one _ _ _ _ _ _ _ legal.taken c.in_ok-step_judged.ensures.taken)
           (short (book_of c.self.inside) legal has.0) has.1,
       (omega (arith, capacity, roomy)),
-      (let same =
-          ap (λ e. contents_of (happening e)) (c.in_ok-shared.ensures ∙ sym c.deref.ensures) ∙ sym c.contents_of.ensures.value in
-          let whole =
-          ap entry_octets (ap (map entry_of) c.push_reserved.ensures.items ∙ map-append entry_of c.self.inside.kept.items _)
+      (let whole =
+          ap entry_octets (ap (map entry_of) c.append.ensures.items ∙ map-append entry_of c.self.inside.kept.items _)
           ∙ longer-octets (map entry_of c.self.inside.kept.items) _ in
-          omega (arith, c.self.invariant.2, same, whole)),
+          omega (arith, c.self.invariant.2, c.append.ensures.octets, whole)),
     )
 
-pub overflow_add-self : goal.overflow_add-self
-overflow_add-self c =
+pub append-requires-clause-few : goal.append-requires-clause-few
+append-requires-clause-few c =
     let room : Book → Type 0 = λ b. (is_full b ≡ false) × (count_of b < 18446744073709551615) in
     let has = subst room (sym c.self.view_is) c.requires.room in
     let few = slender (book_of c.self.inside) has.0 in
     let small = c.self.invariant.0.octets_fit.1 in
-    omega (arith, few, small, c.self.invariant.2, c.contents_of.ensures.few)
+    omega (arith, few, small, c.self.invariant.2)
