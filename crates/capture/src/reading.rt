@@ -121,7 +121,8 @@ fn take_section_behind<R: Read>(
 
 impl Capture {
     /// Takes the next packet out of a reader: what the file says of it is returned, and its captured octets replace the contents of
-    /// `frame`. Blocks without a packet are passed over. Returns `None` at the end of the file.
+    /// `frame`. Blocks without a packet are passed over. Returns `None` at the end of the file; then, and
+    /// after an error, what `frame` holds is not said.
     ///
     /// Errors: `Ends`, `TooLong`, `Read`, `NoMemory`, and of a pcapng file `Block`, `Interface`, and `NotCapture` of another major
     /// version. After an error the reader stands within the record or block that begins at `place`.

@@ -2,6 +2,7 @@
 
 use capture::{CaptureFault, Link, PacketHead, take_start};
 use std::alloc::Global;
+use std::mem::swap;
 use std::test::Fail;
 
 /// A file in hexadecimal, the number of its packets, and the last of them.
@@ -219,6 +220,7 @@ const WHOLE: &str = "0a0d0d0a1c0000004d3c2b1a01000000ffffffffffffffff1c000000010
 const ENDS: [usize; 4] = [28, 60, 100, 120];
 
 /// What a file holds.
+#[derive(Drop)]
 struct Found {
     packets: usize,
     last: Option<PacketHead>,
@@ -244,9 +246,11 @@ fn read(alloc: Global, octets: &[u8]) -> Found {
             return found;
         }
     };
+    let mut frame = Vec::new(alloc);
     for _ in 0..octets.len() {
-        match capture.take_packet(&mut left, &mut found.frame) {
+        match capture.take_packet(&mut left, &mut frame) {
             Ok(Some(head)) => {
+                swap(&mut found.frame, &mut frame);
                 found.last = Some(head);
                 found.packets = found.packets.saturating_add(1);
             }
