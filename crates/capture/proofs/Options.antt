@@ -1,5 +1,5 @@
 -- Options that are read one after the other.
-use Rattle.std.proofs.Common.{◌≡◌, ℕ, suc, ◌-◌, ◌<◌, ◌≤◌, List, refl, sym, ap, ◌∙◌, arith, true, false}
+use Rattle.std.proofs.Common.{◌≡◌, ℕ, suc, ◌+◌, ◌-◌, ◌<◌, ◌≤◌, List, refl, sym, ap, ◌∙◌, arith, true, false}
 use Rattle.std.specs.Prelude.{if◌then◌else◌}
 use Rattle.capture.specs.declared.order.Order.{Order}
 use Rattle.capture.specs.declared.interface.Interface.{Interface}
@@ -28,3 +28,12 @@ with_end order n i x y rest end e =
 
 pub with_stop : (order : Order) (n : ℕ) (x y : Interface) (rest : List ℕ) → has_option order rest ≡ false → with_options order n x rest ≡ y → x ≡ y
 with_stop order n x y rest is e = sym (with_none order n x rest is) ∙ e
+
+pub with_next : (order : Order) (n i code : ℕ) (x next y : Interface) (rest value left : List ℕ) → i < n → has_option order rest ≡ true → code ≡ half order rest 0 → value ≡ value_of order rest → next ≡ with_option order code value x → left ≡ behind_option order rest → with_options order (n - i) x rest ≡ y → with_options order (n - (i + 1)) next left ≡ y
+with_next order n i code x next y rest value left within is code_is value_is next_is left_is e =
+    let count : n - (i + 1) ≡ n - suc i = omega arith in
+    let said = next_is ∙ ap (λ (k : ℕ). with_option order k value x) code_is ∙ ap (λ (v : List ℕ). with_option order (half order rest 0) v x) value_is in
+    ap (λ (m : ℕ). with_options order m next left) count
+    ∙ ap (λ (z : Interface). with_options order (n - suc i) z left) said
+    ∙ ap (λ (l : List ℕ). with_options order (n - suc i) (with_option order (half order rest 0) (value_of order rest) x) l) left_is
+    ∙ with_more order n i x y rest within is e

@@ -1,7 +1,7 @@
 //! The interfaces of a section of a pcapng file.
 
 ghost use Rattle.std.specs.Prelude.{◌≡◌, ◌+◌, ◌≤◌, length, drop, IsTrue};
-ghost use Rattle.capture.specs.Interface.{behind_option, has_option, interface_of, long, value_of, with_option, with_options, without_options};
+ghost use Rattle.capture.specs.Interface.{behind_option, has_option, interface_of, long, options_in, value_of, with_option, with_options, without_options};
 
 use crate::link::Link;
 use crate::order::{Order, half, word};
@@ -25,18 +25,32 @@ pub(crate) fn interface_of(order: Order, block: &[u8]) -> Interface
     requires { 20 ≤ length block.now }
     ensures { result ≡ interface_of order block.now }
 {
-    let said = Interface {
+    with_options(order, without_options(order, block), options_in(block))
+}
+
+// What the block's fields say.
+fn without_options(order: Order, block: &[u8]) -> Interface
+    requires { 20 ≤ length block.now }
+    ensures { result ≡ without_options order block.now }
+{
+    Interface {
         link: Link::of(u32::from(half(order, block, 8))),
         snap: word(order, block, 12),
         resolution: 6,
         offset: 0,
-    };
+    }
+}
+
+// The octets of the block's options.
+fn options_in(block: &[u8]) -> &[u8]
+    requires { 20 ≤ length block.now }
+    ensures { result.now ≡ options_in block.now }
+{
     let before_end = &block[..block.len() - 4];
-    with_options(order, said, &before_end[16..])
+    behind(before_end, 16)
 }
 
 // What an interface's options say, one after the other.
-#[tactic(auto, using(crate::proofs::Options::with_more, crate::proofs::Options::with_stop, crate::proofs::Options::with_end))]
 fn with_options(order: Order, said: Interface, options: &[u8]) -> Interface
     ensures { result ≡ with_options order (length options.now) said options.now }
 {

@@ -2,5 +2,5 @@
 use Rattle.capture.proofs.Passing.{Leads}
 use Rattle.capture.proofs.reading.Capture.take_packet.Given as goal
 
-abbrev pub invariant-blocks : goal.invariant-blocks
-invariant-blocks g l = Leads l.initial.self (g.R.Read.remaining l.initial.reader) l.self (g.R.Read.remaining l.reader)
+abbrev pub invariant-blocks-2 : goal.invariant-blocks-2
+invariant-blocks-2 g l = Leads l.initial.self (g.R.Read.remaining l.initial.reader) l.self (g.R.Read.remaining l.reader)
