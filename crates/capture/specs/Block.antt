@@ -12,9 +12,9 @@ begins_section block = word Big block 0 == 0x0a0d0d0a
 abbrev pub order_of : Order → List ℕ → Option Order
 order_of order block =
     if begins_section block then
-        if word Big block 8 == 0x1a2b3c4d then Some Big
-        else if word Little block 8 == 0x1a2b3c4d then Some Little
-        else None
+    if word Big block 8 == 0x1a2b3c4d then Some Big
+    else if word Little block 8 == 0x1a2b3c4d then Some Little
+    else None
     else Some order
 
 -- a block's length stands behind its type and at its end

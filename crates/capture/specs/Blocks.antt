@@ -64,5 +64,5 @@ abbrev pub interfaces_after : Order → List Interface → List ℕ → Option (
 interfaces_after order interfaces block =
     if begins_section block then (if is_section order block then Some [] else None)
     else if word order block 0 == 1 then
-        (if nat_le 20 (length block) then Some (interfaces ++ interface_of order block ∷ []) else None)
+    (if nat_le 20 (length block) then Some (interfaces ++ interface_of order block ∷ []) else None)
     else Some interfaces

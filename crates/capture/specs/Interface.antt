@@ -38,7 +38,7 @@ unfoldable pub with_options : Order → ℕ → Interface → List ℕ → Inter
 with_options order ℕ.zero interface octets = interface
 with_options order (suc most) interface octets =
     if has_option order octets then
-        with_options order most (with_option order (half order octets 0) (value_of order octets) interface) (behind_option order octets)
+    with_options order most (with_option order (half order octets 0) (value_of order octets) interface) (behind_option order octets)
     else interface
 
 -- what the block's fields say; moments are in microseconds where no option says otherwise

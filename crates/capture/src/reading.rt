@@ -150,11 +150,7 @@ impl Capture {
     }
 
     // Takes the next record or block.
-    fn step<R: Read>(
-        &mut self,
-        reader: &mut R,
-        frame: &mut Vec<u8>,
-    ) -> Result<Step, CaptureFault>
+    fn step<R: Read>(&mut self, reader: &mut R, frame: &mut Vec<u8>) -> Result<Step, CaptureFault>
         ensures { IfOk result (λ step. Steps self.old (R.remaining reader.old) self.new (R.remaining reader.new) frame.new.items step) }
     {
         match self.form {
@@ -216,11 +212,7 @@ impl Capture {
 // Notes what a block without a packet says of interfaces.
 //
 // Errors: `NotCapture` for a section of another version, `Block` if it has no room for its fields, `Interface`, `NoMemory`.
-fn note(
-    order: Order,
-    block: &[u8],
-    interfaces: &mut Vec<Interface>,
-) -> Result<(), CaptureFault>
+fn note(order: Order, block: &[u8], interfaces: &mut Vec<Interface>) -> Result<(), CaptureFault>
     requires { 12 ≤ length block.now }
     ensures { IfOk result (λ _. interfaces_after order interfaces.old.items block.now ≡ Some interfaces.new.items) }
 {
