@@ -4,4 +4,10 @@ pub mod Udp
 pub mod View
 pub mod Record
 pub mod Head
+pub mod Block
+pub mod Interface
+pub mod Moment
+pub mod Blocks
 pub mod Packet
+pub mod Start
+pub mod Step

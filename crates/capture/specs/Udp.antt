@@ -84,3 +84,8 @@ udp_if (Some packet) = udp_of packet
 -- the datagram in a frame, if there is one
 abbrev pub udp_in : Link → List ℕ → Option UdpFields
 udp_in link frame = udp_if (packet_in link frame)
+
+-- likewise where a frame may be of a link type that isn't read: it holds none
+abbrev pub udp_at : Option Link → List ℕ → Option UdpFields
+udp_at None frame = None
+udp_at (Some link) frame = udp_in link frame

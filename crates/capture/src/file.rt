@@ -1,12 +1,15 @@
 //! The header of a classic pcap file.
 
-ghost use Rattle.std.specs.Prelude.{◌≡◌, IfOk};
+ghost use Rattle.std.specs.Prelude.{◌≡◌, ◌≤◌, length, IfOk};
+ghost use Rattle.capture.specs.Block.{prepended};
 ghost use Rattle.capture.specs.Head.{Says, TakesHead, form_of};
 
+use crate::block::{FRONT, join};
 use crate::fault::CaptureFault;
 use crate::link::Link;
 use crate::order::{Order, half, word};
-use crate::record::fill;
+use crate::record::{fill, take_octets};
+use std::alloc::Global;
 use std::io::Read;
 
 /// The magic number of files whose moments are in microseconds.
@@ -40,8 +43,31 @@ pub fn take_head<R: Read>(reader: &mut R) -> Result<FileHead, CaptureFault>
     head_of(&header)
 }
 
+/// Takes the rest of a classic pcap file's header (24 octets) out of a reader, whose first octets were taken already.
+///
+/// Errors: `NotCapture` for a magic number or a major version other than pcap's, `LinkType`, `Ends`, `Read`, `NoMemory`.
+#[tactic(auto, using(crate::proofs::Starts::takes_head))]
+pub(crate) fn take_head_behind<R: Read>(
+    alloc: Global,
+    reader: &mut R,
+    front: &[u8; FRONT],
+) -> Result<FileHead, CaptureFault>
+    ensures { IfOk result (λ head. TakesHead (prepended front.now (R.remaining reader.old)) (R.remaining reader.new) head) }
+{
+    let mut rest = Vec::new(alloc);
+    take_octets(reader, 12, &mut rest)?;
+    let mut header = Vec::new(alloc);
+    join(front, &rest, &mut header)?;
+    if header.len() != 24 {
+        return Err(CaptureFault::Ends);
+    }
+    let head = head_of(&header)?;
+    Ok(head)
+}
+
 // What the header says.
-fn head_of(header: &[u8; 24]) -> Result<FileHead, CaptureFault>
+fn head_of(header: &[u8]) -> Result<FileHead, CaptureFault>
+    requires { 24 ≤ length header.now }
     ensures { IfOk result (λ head. Says header.now head) }
 {
     let Some((order, nanoseconds)) = form_of(header) else {
@@ -62,7 +88,8 @@ fn head_of(header: &[u8; 24]) -> Result<FileHead, CaptureFault>
 }
 
 // The byte order, and whether moments count nanoseconds, by the magic number.
-fn form_of(header: &[u8; 24]) -> Option<(Order, bool)>
+fn form_of(header: &[u8]) -> Option<(Order, bool)>
+    requires { 24 ≤ length header.now }
     ensures { result ≡ form_of header.now }
 {
     let big = word(Order::Big, header, 0);

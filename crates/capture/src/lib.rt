@@ -1,24 +1,33 @@
-//! Reads captures of network traffic in the form of classic pcap files, as `tcpdump -w` writes them: their header, their records
-//! one after the other, and the UDP datagram in each frame. Memory is bounded by one record of 262,144 octets, whatever the file.
+//! Reads captures of network traffic, packet by packet, and the UDP datagram in each frame: classic pcap files, as `tcpdump -w`
+//! writes them, and pcapng files, as dumpcap and Wireshark do. Memory is bounded by one block of 1,048,576 octets and 65,536
+//! interfaces, whatever the file.
 //!
-//! `specs/Udp.antt` and `specs/Link.antt` define which datagram a frame holds, by its link type and its headers, and
-//! `specs/Head.antt` and `specs/Record.antt` which header or record stands in front of a file's octets, `specs/Packet.antt` what is
-//! said of a packet. Contracts see a frame as the list of its octets, and of a reader what it has left.
+//! `specs/Udp.antt` and `specs/Link.antt` define which datagram a frame holds, by its link type and its headers;
+//! `specs/Packet.antt` which packet stands in front of a file's octets, and what the file says of it: in a record (`specs/Head.antt`,
+//! `specs/Record.antt`) or in a block (`specs/Block.antt`, `specs/Blocks.antt`, `specs/Interface.antt`, `specs/Moment.antt`).
+//! Contracts see a frame as the list of its octets, and of a reader what it has left.
 //! Tested by: crates/test_capture, must-fail edits.
 #![tactic(auto)]
 
+mod block;
 mod fault;
 mod file;
+mod head;
+mod interface;
 mod link;
 mod order;
+mod packet;
 mod reading;
 mod record;
 mod udp;
 
+pub use block::MOST_BLOCK;
 pub use fault::CaptureFault;
 pub use file::{FileHead, take_head};
+pub use head::PacketHead;
+pub use interface::Interface;
 pub use link::{Link, packet_in};
 pub use order::Order;
-pub use reading::{Capture, PacketHead, take_start};
+pub use reading::{Capture, Form, MOST_INTERFACES, take_start};
 pub use record::{MOST_OCTETS, RecordHead, take_record};
-pub use udp::{UdpView, udp_in};
+pub use udp::{UdpView, udp_at, udp_in};

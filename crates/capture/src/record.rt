@@ -8,7 +8,7 @@ use crate::fault::CaptureFault;
 use crate::order::{Order, word};
 use std::io::{ErrorKind, Read};
 
-/// The longest record that is read, in octets.
+/// The most octets of a packet that are read.
 pub const MOST_OCTETS: u32 = 262_144;
 
 /// What the header of a record says besides the number of captured octets.
@@ -42,6 +42,9 @@ pub fn take_record<R: Read>(
         return Err(CaptureFault::Ends);
     }
     let captured = word(order, &header, 8);
+    if captured > MOST_OCTETS {
+        return Err(CaptureFault::TooLong);
+    }
     take_octets(reader, captured, octets)?;
     Ok(Some(RecordHead {
         seconds: word(order, &header, 0),
@@ -50,8 +53,8 @@ pub fn take_record<R: Read>(
     }))
 }
 
-// Takes `count` octets out of a reader; they replace the contents of `octets`.
-fn take_octets<R: Read>(
+/// Takes `count` octets out of a reader; they replace the contents of `octets`. Errors: `Ends`, `Read` and `NoMemory`.
+pub(crate) fn take_octets<R: Read>(
     reader: &mut R,
     count: u32,
     octets: &mut Vec<u8>,
@@ -59,9 +62,6 @@ fn take_octets<R: Read>(
     ensures taken { IfOk result (λ _. Consumes (R.remaining reader.old) (R.remaining reader.new) octets.new.items) }
     ensures long { IfOk result (λ _. length octets.new.items ≡ count) }
 {
-    if count > MOST_OCTETS {
-        return Err(CaptureFault::TooLong);
-    }
     octets.resize(count as usize, 0)?;
     match reader.read_exact(octets.as_mut_slice()) {
         Ok(()) => Ok(()),

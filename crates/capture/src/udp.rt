@@ -1,7 +1,7 @@
 //! The UDP datagram in a frame.
 
 ghost use Rattle.std.specs.Prelude.{◌≡◌, ◌+◌, ◌≤◌, length, take, Some, None, IsTrue, MatchOption};
-ghost use Rattle.capture.specs.Udp.{carries_udp, carried, is_udp, datagram_of, udp_of, udp_in, header_length};
+ghost use Rattle.capture.specs.Udp.{carries_udp, carried, is_udp, datagram_of, udp_of, udp_in, udp_at, header_length};
 ghost use Rattle.capture.specs.View.{shown};
 
 use crate::link::{Link, packet_in};
@@ -28,6 +28,16 @@ pub fn udp_in(link: Link, frame: &[u8]) -> Option<UdpView<'_>>
 {
     let packet = packet_in(link, frame)?;
     udp_of(packet)
+}
+
+/// The same of a frame whose link type may be one that is not read; it holds none then.
+pub fn udp_at(link: Option<Link>, frame: &[u8]) -> Option<UdpView<'_>>
+    ensures { MatchOption result (udp_at link frame.now ≡ None) (λ udp. udp_at link frame.now ≡ Some (shown udp)) }
+{
+    match link {
+        Some(link) => udp_in(link, frame),
+        None => None,
+    }
 }
 
 // The datagram in a packet.

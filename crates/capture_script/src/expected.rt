@@ -9,7 +9,7 @@ use crate::script::Progress;
 use crate::tally::{Answers, Counts};
 use crate::waiting::{Queue, Samples, Shown, Waiting};
 use bpf_run::{End, Moment, Socket};
-use capture::{UdpView, udp_in};
+use capture::{UdpView, udp_at};
 use filter_slots::Datagram;
 use node_core::{Action, Config, Event, Node, Out};
 use std::alloc::{AllocError, Global};
@@ -55,7 +55,7 @@ pub fn expect<R: Read>(
     reader: &mut R,
     plan: &Plan<'_>,
 ) -> Result<Expected, ScriptFault> {
-    let mut packets = Packets::open(reader)?;
+    let mut packets = Packets::open(alloc, reader)?;
     let mut trial = Trial::new(alloc, plan)?;
     let mut frame = Vec::new(alloc);
     for _ in 0..u64::MAX {
@@ -175,7 +175,7 @@ impl Trial {
         frame: &[u8],
     ) -> Result<(), AllocError> {
         self.progress.clock = self.progress.clock.started(packet.time);
-        let Some(datagram) = udp_in(packet.link, frame) else {
+        let Some(datagram) = udp_at(packet.link, frame) else {
             self.progress.counts = self.progress.counts.counted(Part::Other);
             return Ok(());
         };

@@ -1,7 +1,7 @@
 //! The script of a capture.
 
 ghost use Rattle.std.specs.Prelude.{◌≡◌, ◌++◌, OnOk};
-ghost use Rattle.capture.specs.Udp.{udp_in};
+ghost use Rattle.capture.specs.Udp.{udp_at};
 ghost use Rattle.capture_script.specs.Taking.{clock_by, lines_of, part_in};
 ghost use Rattle.capture_script.specs.Tally.{counted};
 
@@ -12,7 +12,7 @@ use crate::packets::{Packet, Packets};
 use crate::part::{Part, Sockets, part_of};
 use crate::plan::Plan;
 use crate::tally::Counts;
-use capture::udp_in;
+use capture::udp_at;
 use node_core::Network;
 use std::alloc::{AllocError, Global};
 use std::io::{Read, Write};
@@ -46,7 +46,7 @@ pub fn write_script<R: Read, W: Write>(
     output: &mut W,
     plan: &Plan<'_>,
 ) -> Result<Counts, ScriptFault> {
-    let mut packets = Packets::open(reader)?;
+    let mut packets = Packets::open(alloc, reader)?;
     let mut script = Script { output, octets: 0 };
     script.put_settings(alloc, plan)?;
     let mut progress = Progress::new(plan);
@@ -82,12 +82,12 @@ impl Progress {
         frame: &[u8],
         line: &mut Vec<u8>,
     ) -> Result<(), AllocError>
-        ensures lines { OnOk result (line.new.items ≡ line.old.items ++ lines_of sockets.now self.old.clock packet.now.time (udp_in packet.now.link frame.now)) }
-        ensures clock { OnOk result (self.new.clock ≡ clock_by self.old.clock packet.now.time (part_in sockets.now (udp_in packet.now.link frame.now))) }
-        ensures counts { OnOk result (self.new.counts ≡ counted self.old.counts (part_in sockets.now (udp_in packet.now.link frame.now))) }
+        ensures lines { OnOk result (line.new.items ≡ line.old.items ++ lines_of sockets.now self.old.clock packet.now.time (udp_at packet.now.link frame.now)) }
+        ensures clock { OnOk result (self.new.clock ≡ clock_by self.old.clock packet.now.time (part_in sockets.now (udp_at packet.now.link frame.now))) }
+        ensures counts { OnOk result (self.new.counts ≡ counted self.old.counts (part_in sockets.now (udp_at packet.now.link frame.now))) }
     {
         self.clock = self.clock.started(packet.time);
-        let Some(datagram) = udp_in(packet.link, frame) else {
+        let Some(datagram) = udp_at(packet.link, frame) else {
             self.counts = self.counts.counted(Part::Other);
             return Ok(());
         };

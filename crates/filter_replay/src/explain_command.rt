@@ -5,7 +5,7 @@ use bpf_asm::to_text;
 use bpf_check::Checked;
 use bpf_run::machine::Machine;
 use bpf_run::{Packet, Run, run_states};
-use capture::{CaptureFault, Link, UdpView, take_head, take_record, udp_in};
+use capture::{CaptureFault, Link, UdpView, take_start, udp_at};
 use std::fs::File;
 use std::io::{self, BufReader};
 use std::process::ExitCode;
@@ -13,7 +13,7 @@ use std::process::ExitCode;
 /// A frame and its link type.
 #[derive(Drop)]
 struct Frame {
-    link: Link,
+    link: Option<Link>,
     octets: Vec<u8>,
 }
 
@@ -32,7 +32,7 @@ pub fn run_explain(rt: &HostRuntime, words: &[String]) -> Option<ExitCode> {
     let Some(frame) = frame_of(rt, given.as_str()) else {
         return Some(ExitCode::from(FAULT));
     };
-    let Some(datagram) = udp_in(frame.link, &frame.octets) else {
+    let Some(datagram) = udp_at(frame.link, &frame.octets) else {
         let _ = eprintln!(rt; "no UDP datagram over IPv4");
         return Some(ExitCode::from(FAULT));
     };
@@ -64,7 +64,7 @@ fn explain(rt: &HostRuntime, program: &Checked, datagram: &UdpView<'_>) -> ExitC
 fn frame_of(rt: &HostRuntime, given: &str) -> Option<Frame> {
     if let Ok(octets) = hex::decode(rt.alloc(), given) {
         return Some(Frame {
-            link: Link::Raw,
+            link: Some(Link::Raw),
             octets,
         });
     }
@@ -93,25 +93,24 @@ fn frame_of(rt: &HostRuntime, given: &str) -> Option<Frame> {
     }
 }
 
-// The frame of a capture's record with this number, from 1.
+// The frame of a capture's packet with this number, from 1.
 fn frame_at(rt: &HostRuntime, file: File, number: u64) -> Result<Option<Frame>, CaptureFault> {
     let Ok(mut reader) = BufReader::new(rt.alloc(), file) else {
         return Err(CaptureFault::NoMemory);
     };
-    let head = take_head(&mut reader)?;
+    let mut capture = take_start(rt.alloc(), &mut reader)?;
     let mut octets = Vec::new(rt.alloc());
+    let mut link = None;
     for _ in 0..number {
-        if take_record(&mut reader, head.order, &mut octets)?.is_none() {
+        let Some(head) = capture.take_packet(&mut reader, &mut octets)? else {
             return Ok(None);
-        }
+        };
+        link = head.link;
     }
     if number == 0 {
         return Ok(None);
     }
-    Ok(Some(Frame {
-        link: head.link,
-        octets,
-    }))
+    Ok(Some(Frame { link, octets }))
 }
 
 // Prints the run: each instruction with the machine after it, then the verdict.

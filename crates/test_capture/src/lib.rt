@@ -1,8 +1,10 @@
-//! Tests of reading captures (`capture`): frames of each link type and with each fault, and files of both byte orders, made by
-//! hand. No contract is proved here beyond the safety of the tests.
+//! Tests of reading captures (`capture`): frames of each link type and with each fault, and classic and pcapng files of both
+//! byte orders, made by hand. No contract is proved here beyond the safety of the tests.
 //! Tested by: nothing; its `#[test]` functions are the tests.
 #![tactic(auto)]
 
+#[cfg(test)]
+mod blocks;
 #[cfg(test)]
 mod files;
 #[cfg(test)]
