@@ -1,7 +1,7 @@
 //! Pcapng files, whole and broken. What is wanted of each was made from the standard's figures, not by reading it.
 
 use capture::{CaptureFault, Link, PacketHead, take_start};
-use std::alloc::Global;
+use std::alloc::{AllocError, Global};
 use std::mem::swap;
 use std::test::Fail;
 
@@ -371,6 +371,22 @@ fn each_front(rt: HostRuntime) -> Result<(), Fail> {
     Ok(())
 }
 
+// A copy of a file with up to four octets changed, by numbers of a simple generator.
+fn mutilated(alloc: Global, octets: &[u8], state: &mut u64) -> Result<Vec<u8>, AllocError> {
+    let mut file = octets.to_vec(alloc)?;
+    for _ in 0..4 {
+        *state = state
+            .wrapping_mul(6_364_136_223_846_793_005)
+            .wrapping_add(1_442_695_040_888_963_407);
+        if let Some(place) = ((*state >> 33) as usize).checked_rem(octets.len())
+            && let Some(octet) = file.get_mut(place)
+        {
+            *octet = (*state >> 56) as u8;
+        }
+    }
+    Ok(file)
+}
+
 // Files with up to four octets changed are read to a fault or to their end.
 #[test]
 fn mutilated_files(rt: HostRuntime) -> Result<(), Fail> {
@@ -378,17 +394,7 @@ fn mutilated_files(rt: HostRuntime) -> Result<(), Fail> {
     let mut state = 1u64;
     let mut ended = 0usize;
     for _ in 0..10_000 {
-        let mut file = Vec::new(rt.alloc());
-        file.extend_from_slice(&octets)?;
-        for _ in 0..4 {
-            state = state
-                .wrapping_mul(6_364_136_223_846_793_005)
-                .wrapping_add(1_442_695_040_888_963_407);
-            let place = (state >> 33) as usize % octets.len();
-            if let Some(octet) = file.get_mut(place) {
-                *octet = (state >> 56) as u8;
-            }
-        }
+        let file = mutilated(rt.alloc(), &octets, &mut state)?;
         let found = read(rt.alloc(), &file);
         if found.packets <= 2 {
             ended = ended.saturating_add(1);
