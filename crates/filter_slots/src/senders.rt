@@ -115,13 +115,6 @@ impl Senders {
         let _ = &self.last;
     }
 
-    /// Number of pairs.
-    pub(crate) fn len(&self) -> usize
-        ensures { result ≡ length self.now }
-    {
-        self.all.len()
-    }
-
     /// Index of a pair, or `None`. Most unknown ends fall into an empty bucket, so that their lookup ends there.
     #[inline(always)]
     pub(crate) fn find(&self, socket: Socket, end: End) -> Option<usize>
