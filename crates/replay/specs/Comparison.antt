@@ -3,10 +3,9 @@ use Rattle.std.specs.Prelude.{◌≡◌, ℕ, if◌then◌else◌, List, [], ◌
 use Rattle.bpf_check.specs.declared.insn.Insn.{Insn}
 use Rattle.bpf_run.specs.declared.ends.Socket.{Socket}
 use Rattle.bpf_run.specs.declared.ends.Socket.TheVariants.{Icp, Htcp}
-use Rattle.capture.specs.declared.link.Link.{Link}
-use Rattle.capture.specs.declared.file.FileHead.{FileHead}
-use Rattle.capture.specs.Head.{IsHead}
-use Rattle.capture.specs.Udp.{UdpFields, udp_in}
+use Rattle.capture.specs.Packet.{SoFar}
+use Rattle.capture.specs.Start.{IsStart}
+use Rattle.capture.specs.Udp.{UdpFields}
 use Rattle.replay.specs.declared.aim.Aim.{Aim}
 use Rattle.replay.specs.declared.contrast.Contrast.{Contrast}
 use Rattle.replay.specs.declared.contrast.Contrast.TheVariants.{Same, FirstAlone, OtherAlone, Lengths}
@@ -14,7 +13,8 @@ use Rattle.replay.specs.declared.contrast.Differences.{Differences}
 use Rattle.replay.specs.declared.contrast.Comparison.{Comparison}
 use Rattle.replay.specs.Aim.{socket_of, is_complete}
 use Rattle.replay.specs.Contrast.{contrast_of}
-use Rattle.replay.specs.File.{AreRecords}
+use Rattle.replay.specs.File.{AreFrames}
+use Rattle.replay.specs.Frame.{Frame, datagram_in}
 use Rattle.replay.specs.Tally.{plus}
 
 -- all counters at 0
@@ -57,22 +57,21 @@ met p q aim counts None = record counts { others = plus counts.others 1 }
 met p q aim counts (Some d) = came p q counts d (socket_of aim d.to)
 
 -- the counts after the frames, which come one after the other
-unfoldable pub comparison_from : List Insn → List Insn → Aim → Link → Comparison → List (List ℕ) → Comparison
-comparison_from p q aim link counts [] = counts
-comparison_from p q aim link counts (frame ∷ frames) =
-    comparison_from p q aim link (met p q aim counts (udp_in link frame)) frames
+unfoldable pub comparison_from : List Insn → List Insn → Aim → Comparison → List Frame → Comparison
+comparison_from p q aim counts [] = counts
+comparison_from p q aim counts (frame ∷ frames) = comparison_from p q aim (met p q aim counts (datagram_in frame)) frames
 
--- the octets are records, and comparing on their frames leads from the old counts to the new ones
-pub record AreCompared (p q : List Insn) (aim : Aim) (head : FileHead) (octets : List ℕ) (old new : Comparison) : Type 0 where
-  pub frames : List (List ℕ)
-  pub are_records : AreRecords head.order [] frames octets
-  pub counts : new ≡ comparison_from p q aim head.link old frames
+-- comparing on the frames in the octets, where so much of the file was read, leads from the old counts to the new ones
+pub record AreCompared (p q : List Insn) (aim : Aim) (so_far : SoFar) (octets : List ℕ) (old new : Comparison) : Type 0 where
+  pub frames : List Frame
+  pub are_frames : AreFrames frames so_far octets
+  pub counts : new ≡ comparison_from p q aim old frames
 
--- the octets are a whole file, a header and records, on whose frames the two filters compare so
+-- the octets are a whole file, its start and packets, on whose frames the two filters compare so
 pub record IsComparisonOf (p q : List Insn) (aim : Aim) (octets : List ℕ) (counts : Comparison) : Type 0 where
-  pub head : FileHead
-  pub records : List ℕ
-  pub is_head : IsHead octets head records
-  pub frames : List (List ℕ)
-  pub are_records : AreRecords head.order [] frames records
-  pub counted : counts ≡ comparison_from p q aim head.link no_comparison frames
+  pub start : SoFar
+  pub packets : List ℕ
+  pub is_start : IsStart octets start packets
+  pub frames : List Frame
+  pub are_frames : AreFrames frames start packets
+  pub counted : counts ≡ comparison_from p q aim no_comparison frames

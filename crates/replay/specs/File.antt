@@ -1,38 +1,39 @@
--- The frames of a classic pcap file, and the counts of a whole file.
+-- The frames of a capture file, and the counts of a whole file.
 use Rattle.std.specs.Prelude.{◌≡◌, ℕ, List, [], ◌∷◌}
 use Rattle.bpf_check.specs.declared.insn.Insn.{Insn}
-use Rattle.capture.specs.declared.order.Order.{Order}
-use Rattle.capture.specs.declared.record.RecordHead.{RecordHead}
-use Rattle.capture.specs.declared.file.FileHead.{FileHead}
-use Rattle.capture.specs.Head.{IsHead}
-use Rattle.capture.specs.Record.{IsRecord}
+use Rattle.capture.specs.declared.head.PacketHead.{PacketHead}
+use Rattle.capture.specs.Packet.{SoFar, IsPacket, HasNoPacket}
+use Rattle.capture.specs.Start.{IsStart}
 use Rattle.replay.specs.declared.aim.Aim.{Aim}
 use Rattle.replay.specs.declared.tally.Tally.{Tally}
+use Rattle.replay.specs.Frame.{Frame}
 use Rattle.replay.specs.Tally.{tally_from, tally_of}
 
--- a record with this frame stands in front of the octets, and then comes what the rest is
-pub record StandsFirst (order : Order) (octets frame : List ℕ) (Rest : List ℕ → Type 0) : Type 0 where
-  pub head : RecordHead
+-- a packet with this frame stands in front of the octets, and then comes what the rest is
+pub record StandsFirst (old : SoFar) (octets : List ℕ) (frame : Frame) (Rest : SoFar → List ℕ → Type 0) : Type 0 where
+  pub new : SoFar
+  pub head : PacketHead
   pub middle : List ℕ
-  pub is_record : IsRecord order octets head frame middle
-  pub others : Rest middle
+  pub is_packet : IsPacket old octets new head frame.octets middle
+  pub link_is : frame.link ≡ head.link
+  pub others : Rest new middle
 
--- records with these frames stand in front of the octets, one after the other, and leave the rest
-abbrev pub AreRecords : Order → List ℕ → List (List ℕ) → List ℕ → Type 0
-AreRecords order rest [] octets = octets ≡ rest
-AreRecords order rest (frame ∷ frames) octets = StandsFirst order octets frame (AreRecords order rest frames)
+-- the packets in the octets have these frames, one after the other, and there are no others
+abbrev pub AreFrames : List Frame → SoFar → List ℕ → Type 0
+AreFrames [] so_far octets = HasNoPacket so_far octets
+AreFrames (frame ∷ frames) so_far octets = StandsFirst so_far octets frame (AreFrames frames)
 
--- the octets are records, and counting their frames leads from the old counts to the new ones
-pub record AreCounted (p : List Insn) (aim : Aim) (head : FileHead) (octets : List ℕ) (old new : Tally) : Type 0 where
-  pub frames : List (List ℕ)
-  pub are_records : AreRecords head.order [] frames octets
-  pub counts : new ≡ tally_from p aim head.link old frames
+-- counting the frames in the octets, where so much of the file was read, leads from the old counts to the new ones
+pub record AreCounted (p : List Insn) (aim : Aim) (so_far : SoFar) (octets : List ℕ) (old new : Tally) : Type 0 where
+  pub frames : List Frame
+  pub are_frames : AreFrames frames so_far octets
+  pub counts : new ≡ tally_from p aim old frames
 
--- the octets are a whole file, a header and records, whose frames have these counts
+-- the octets are a whole file, its start and packets, whose frames have these counts
 pub record IsCountOf (p : List Insn) (aim : Aim) (octets : List ℕ) (tally : Tally) : Type 0 where
-  pub head : FileHead
-  pub records : List ℕ
-  pub is_head : IsHead octets head records
-  pub frames : List (List ℕ)
-  pub are_records : AreRecords head.order [] frames records
-  pub counts : tally ≡ tally_of p aim head.link frames
+  pub start : SoFar
+  pub packets : List ℕ
+  pub is_start : IsStart octets start packets
+  pub frames : List Frame
+  pub are_frames : AreFrames frames start packets
+  pub counts : tally ≡ tally_of p aim frames

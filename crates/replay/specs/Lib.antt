@@ -1,4 +1,5 @@
 pub mod Aim
+pub mod Frame
 pub mod Finding
 pub mod Tally
 pub mod File

@@ -3,14 +3,14 @@ use Rattle.std.specs.Prelude.{ℕ, ◌+◌, ◌==◌, min, Bool, if◌then◌els
 use Rattle.bpf_check.specs.declared.insn.Insn.{Insn}
 use Rattle.bpf_run.specs.declared.ends.Socket.{Socket}
 use Rattle.bpf_run.specs.declared.ends.Socket.TheVariants.{Icp, Htcp}
-use Rattle.capture.specs.declared.link.Link.{Link}
-use Rattle.capture.specs.Udp.{UdpFields, udp_in}
+use Rattle.capture.specs.Udp.{UdpFields}
 use Rattle.replay.specs.declared.aim.Aim.{Aim}
 use Rattle.replay.specs.declared.finding.Finding.{Finding}
 use Rattle.replay.specs.declared.tally.Counts.{Counts}
 use Rattle.replay.specs.declared.tally.Tally.{Tally}
 use Rattle.replay.specs.Aim.{socket_of, is_complete}
 use Rattle.replay.specs.Finding.{finding_of}
+use Rattle.replay.specs.Frame.{Frame, datagram_in}
 
 -- addition, at most 2^64 - 1
 abbrev pub plus : ℕ → ℕ → ℕ
@@ -53,10 +53,10 @@ seen p aim tally None = record tally { others = plus tally.others 1 }
 seen p aim tally (Some d) = arrived p tally d (socket_of aim d.to)
 
 -- the counts after the frames, which come one after the other
-unfoldable pub tally_from : List Insn → Aim → Link → Tally → List (List ℕ) → Tally
-tally_from p aim link tally [] = tally
-tally_from p aim link tally (frame ∷ frames) = tally_from p aim link (seen p aim tally (udp_in link frame)) frames
+unfoldable pub tally_from : List Insn → Aim → Tally → List Frame → Tally
+tally_from p aim tally [] = tally
+tally_from p aim tally (frame ∷ frames) = tally_from p aim (seen p aim tally (datagram_in frame)) frames
 
 -- the counts of all frames
-abbrev pub tally_of : List Insn → Aim → Link → List (List ℕ) → Tally
-tally_of p aim link frames = tally_from p aim link no_tally frames
+abbrev pub tally_of : List Insn → Aim → List Frame → Tally
+tally_of p aim frames = tally_from p aim no_tally frames

@@ -10,7 +10,7 @@ pub enum ReplayFault {
     /// The capture is not one that is read, or is broken. It prints as the fault, ` octet ` and the place.
     Capture {
         fault: CaptureFault,
-        /// The place in the file, in octets, where the header or the record begins that could not be read.
+        /// The place in the file, in octets, where the header, record or block begins that could not be read.
         place: u64,
     },
     /// Memory ran out.

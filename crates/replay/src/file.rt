@@ -1,8 +1,9 @@
 //! Replays of whole files.
 
-ghost use Rattle.std.specs.Prelude.{◌≡◌, IfOk, IfSome};
-ghost use Rattle.capture.specs.Head.{TakesHead};
-ghost use Rattle.capture.specs.Udp.{udp_in};
+ghost use Rattle.std.specs.Prelude.{◌≡◌, IfOk, IfSome, MatchOption};
+ghost use Rattle.capture.specs.Packet.{TakesPacket, TakesNoPacket};
+ghost use Rattle.capture.specs.Start.{TakesStart};
+ghost use Rattle.capture.specs.Udp.{udp_at};
 ghost use Rattle.replay.specs.File.{IsCountOf, AreCounted};
 ghost use Rattle.replay.specs.Tally.{no_tally, seen};
 
@@ -15,14 +16,9 @@ use crate::samples::Samples;
 use crate::tally::Tally;
 use bpf_check::Checked;
 use bpf_run::Socket;
-use capture::{FileHead, Link, UdpView, take_head, take_record, udp_in};
+use capture::{Capture, Link, PacketHead, UdpView, take_start, udp_at};
 use std::alloc::{AllocError, Global};
 use std::io::Read;
-
-/// The number of octets of a file's header, and of a record's.
-pub(crate) const HEAD: u64 = 24;
-
-pub(crate) const RECORD_HEAD: u64 = 16;
 
 /// What is asked of a capture.
 #[derive(Clone, Copy, Debug)]
@@ -50,9 +46,9 @@ pub struct Report {
     pub rejected: Samples,
 }
 
-/// Runs a filter over all datagrams of a classic pcap file. Memory is bounded whatever the file's size.
+/// Runs a filter over all datagrams of a classic pcap file or a pcapng file. Memory is bounded whatever the file's size.
 ///
-/// Errors: `Capture` for a file that is not one or is broken, with the place of the broken header or record; `NoMemory`.
+/// Errors: `Capture` for a file that is not one or is broken, with the place of the broken header, record or block; `NoMemory`.
 #[tactic(auto, using(crate::proofs::Records::whole_file))]
 pub fn replay<R: Read>(
     alloc: Global,
@@ -61,20 +57,37 @@ pub fn replay<R: Read>(
 ) -> Result<Report, ReplayFault>
     ensures { IfOk result (λ report. IfSome (R.remaining reader.old) (λ octets. IsCountOf question.now.program.now question.now.aim octets report.tally)) }
 {
-    let head = head_of(reader)?;
+    let mut capture = open(alloc, reader)?;
     let mut report = Report::new(alloc, question.program.len())?;
-    report.take_all(alloc, reader, question, head)?;
+    report.take_all(alloc, reader, question, &mut capture)?;
     report.details.settle()?;
     Ok(report)
 }
 
-/// Takes the header of the file.
-pub(crate) fn head_of<R: Read>(reader: &mut R) -> Result<FileHead, ReplayFault>
-    ensures { IfOk result (λ head. TakesHead (R.remaining reader.old) (R.remaining reader.new) head) }
+/// Takes what the file begins with.
+pub(crate) fn open<R: Read>(alloc: Global, reader: &mut R) -> Result<Capture, ReplayFault>
+    ensures { IfOk result (λ capture. TakesStart (R.remaining reader.old) (R.remaining reader.new) capture) }
 {
-    match take_head(reader) {
-        Ok(head) => Ok(head),
+    match take_start(alloc, reader) {
+        Ok(capture) => Ok(capture),
         Err(fault) => Err(ReplayFault::Capture { fault, place: 0 }),
+    }
+}
+
+/// Takes the next packet; its octets replace the contents of `frame`. Returns `None` at the end of the file.
+pub(crate) fn next_packet<R: Read>(
+    capture: &mut Capture,
+    reader: &mut R,
+    frame: &mut Vec<u8>,
+) -> Result<Option<PacketHead>, ReplayFault>
+    ensures { IfOk result (λ taken. MatchOption taken (TakesNoPacket capture.old (R.remaining reader.old)) (λ head. TakesPacket capture.old (R.remaining reader.old) capture.new (R.remaining reader.new) head frame.new.items)) }
+{
+    match capture.take_packet(reader, frame) {
+        Ok(taken) => Ok(taken),
+        Err(fault) => Err(ReplayFault::Capture {
+            fault,
+            place: capture.place(),
+        }),
     }
 }
 
@@ -94,44 +107,39 @@ impl Report {
         })
     }
 
-    // Takes all records of the file.
+    // Takes all packets that are left of the file.
+    #[tactic(auto, using(crate::proofs::Records::leads_none, crate::proofs::Records::leads_more, crate::proofs::Records::leads_end))]
     fn take_all<R: Read>(
         &mut self,
         alloc: Global,
         reader: &mut R,
         question: &Question<'_>,
-        head: FileHead,
+        capture: &mut Capture,
     ) -> Result<(), ReplayFault>
-        ensures { IfOk result (λ _. IfSome (R.remaining reader.old) (λ octets. AreCounted question.now.program.now question.now.aim head octets self.old.tally self.new.tally)) }
+        ensures { IfOk result (λ _. IfSome (R.remaining reader.old) (λ octets. AreCounted question.now.program.now question.now.aim capture.old octets self.old.tally self.new.tally)) }
     {
         let mut frame = Vec::new(alloc);
-        let mut place = HEAD;
-        'records: for number in 0..u64::MAX {
-            match take_record(reader, head.order, &mut frame) {
-                Ok(Some(_)) => (),
-                Ok(None) => return Ok(()),
-                Err(fault) => return Err(ReplayFault::Capture { fault, place }),
-            }
+        'packets: for number in 0..u64::MAX {
+            let Some(head) = next_packet(capture, reader, &mut frame)? else {
+                return Ok(());
+            };
             self.take(alloc, question, number + 1, head.link, &frame)?;
-            place = place
-                .saturating_add(RECORD_HEAD)
-                .saturating_add(frame.len() as u64);
         }
         Err(ReplayFault::NoMemory)
     }
 
-    // Counts the frame of a record.
+    // Counts the frame of a packet.
     fn take(
         &mut self,
         alloc: Global,
         question: &Question<'_>,
         number: u64,
-        link: Link,
+        link: Option<Link>,
         frame: &[u8],
     ) -> Result<(), AllocError>
-        ensures { IfOk result (λ _. self.new.tally ≡ seen question.now.program.now question.now.aim self.old.tally (udp_in link frame.now)) }
+        ensures { IfOk result (λ _. self.new.tally ≡ seen question.now.program.now question.now.aim self.old.tally (udp_at link frame.now)) }
     {
-        let Some(datagram) = udp_in(link, frame) else {
+        let Some(datagram) = udp_at(link, frame) else {
             self.tally = self.tally.with_other();
             return Ok(());
         };

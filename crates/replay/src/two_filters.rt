@@ -1,17 +1,17 @@
 //! Comparisons of two filters over whole files.
 
 ghost use Rattle.std.specs.Prelude.{◌≡◌, IfOk, IfSome};
-ghost use Rattle.capture.specs.Udp.{udp_in};
+ghost use Rattle.capture.specs.Udp.{udp_at};
 ghost use Rattle.replay.specs.Comparison.{AreCompared, IsComparisonOf, met, no_comparison};
 
 use crate::aim::{Aim, is_complete};
 use crate::contrast::{Comparison, Contrast, contrast_by, verdict_on};
 use crate::fault::ReplayFault;
-use crate::file::{HEAD, RECORD_HEAD, head_of};
+use crate::file::{next_packet, open};
 use crate::samples::MOST_SAMPLES;
 use bpf_check::Checked;
 use bpf_run::{End, Socket};
-use capture::{FileHead, Link, UdpView, take_record, udp_in};
+use capture::{Capture, Link, UdpView, udp_at};
 use std::alloc::{AllocError, Global};
 use std::io::Read;
 
@@ -27,7 +27,7 @@ pub struct Pair<'a> {
 /// A datagram in which two filters differ.
 #[derive(Clone, Copy, Debug, PartialEq, Eq)]
 pub struct Differing {
-    /// The number of its record in the file, from 1.
+    /// The number of its packet in the file, from 1.
     pub number: u64,
     /// The socket that it is for.
     pub socket: Socket,
@@ -49,10 +49,10 @@ pub struct Compared {
     pub samples: Vec<Differing>,
 }
 
-/// Runs two filters over all datagrams of a classic pcap file, and counts where they differ. Memory is bounded whatever the file's
-/// size.
+/// Runs two filters over all datagrams of a classic pcap file or a pcapng file, and counts where they differ. Memory is bounded
+/// whatever the file's size.
 ///
-/// Errors: `Capture` for a file that is not one or is broken, with the place of the broken header or record; `NoMemory`.
+/// Errors: `Capture` for a file that is not one or is broken, with the place of the broken header, record or block; `NoMemory`.
 #[tactic(auto, using(crate::proofs::Comparing::whole_file))]
 pub fn compare<R: Read>(
     alloc: Global,
@@ -61,9 +61,9 @@ pub fn compare<R: Read>(
 ) -> Result<Compared, ReplayFault>
     ensures { IfOk result (λ compared. IfSome (R.remaining reader.old) (λ octets. IsComparisonOf pair.now.first.now pair.now.other.now pair.now.aim octets compared.comparison)) }
 {
-    let head = head_of(reader)?;
+    let mut capture = open(alloc, reader)?;
     let mut compared = Compared::new(alloc);
-    compared.take_all(alloc, reader, pair, head)?;
+    compared.take_all(alloc, reader, pair, &mut capture)?;
     Ok(compared)
 }
 
@@ -78,43 +78,38 @@ impl Compared {
         }
     }
 
-    // Takes all records of the file.
+    // Takes all packets that are left of the file.
+    #[tactic(auto, using(crate::proofs::Comparing::leads_none, crate::proofs::Comparing::leads_more, crate::proofs::Comparing::leads_end))]
     fn take_all<R: Read>(
         &mut self,
         alloc: Global,
         reader: &mut R,
         pair: &Pair<'_>,
-        head: FileHead,
+        capture: &mut Capture,
     ) -> Result<(), ReplayFault>
-        ensures { IfOk result (λ _. IfSome (R.remaining reader.old) (λ octets. AreCompared pair.now.first.now pair.now.other.now pair.now.aim head octets self.old.comparison self.new.comparison)) }
+        ensures { IfOk result (λ _. IfSome (R.remaining reader.old) (λ octets. AreCompared pair.now.first.now pair.now.other.now pair.now.aim capture.old octets self.old.comparison self.new.comparison)) }
     {
         let mut frame = Vec::new(alloc);
-        let mut place = HEAD;
-        'records: for number in 0..u64::MAX {
-            match take_record(reader, head.order, &mut frame) {
-                Ok(Some(_)) => (),
-                Ok(None) => return Ok(()),
-                Err(fault) => return Err(ReplayFault::Capture { fault, place }),
-            }
+        'packets: for number in 0..u64::MAX {
+            let Some(head) = next_packet(capture, reader, &mut frame)? else {
+                return Ok(());
+            };
             self.take(pair, number + 1, head.link, &frame)?;
-            place = place
-                .saturating_add(RECORD_HEAD)
-                .saturating_add(frame.len() as u64);
         }
         Err(ReplayFault::NoMemory)
     }
 
-    // Counts the frame of a record.
+    // Counts the frame of a packet.
     fn take(
         &mut self,
         pair: &Pair<'_>,
         number: u64,
-        link: Link,
+        link: Option<Link>,
         frame: &[u8],
     ) -> Result<(), AllocError>
-        ensures { IfOk result (λ _. self.new.comparison ≡ met pair.now.first.now pair.now.other.now pair.now.aim self.old.comparison (udp_in link frame.now)) }
+        ensures { IfOk result (λ _. self.new.comparison ≡ met pair.now.first.now pair.now.other.now pair.now.aim self.old.comparison (udp_at link frame.now)) }
     {
-        let Some(datagram) = udp_in(link, frame) else {
+        let Some(datagram) = udp_at(link, frame) else {
             self.comparison = self.comparison.with_other();
             return Ok(());
         };
