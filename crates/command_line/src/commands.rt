@@ -62,7 +62,7 @@ fn replay<'a>(alloc: Global) -> Result<Command<'a>, AllocError> {
         .about("Runs a filter, or a whole node, over a capture")
         .override_usage(REPLAY_USAGE)
         .arg(word(alloc, "filter", "The filter that judges the datagrams"))?
-        .arg(word(alloc, "capture", "A classic pcap file"))?;
+        .arg(word(alloc, "capture", "A capture, pcap or pcapng"))?;
     let command = with_flags(alloc, command, &SHARED, "Options of both")?;
     let command = with_flags(alloc, command, &FILTER, "Options of a filter")?;
     with_flags(alloc, command, &NODE, "Options of a node")
