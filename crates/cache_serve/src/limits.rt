@@ -56,7 +56,8 @@ impl ProxyLimits {
     pub fn usual() -> ProxyLimits {
         ProxyLimits {
             clients: serve_limits(4_096, ADDRESS_CONNECTIONS, CLIENT_CONTENT),
-            administration: serve_limits(64, 64, ADMINISTRATION_CONTENT),
+            // (no limit of an address, so that where all 64 are taken the longest idle one gives way)
+            administration: serve_limits(64, 65, ADMINISTRATION_CONTENT),
             connecting: Duration::from_secs(5),
             fetching: Duration::from_secs(30),
         }

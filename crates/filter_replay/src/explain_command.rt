@@ -5,7 +5,8 @@ use bpf_asm::to_text;
 use bpf_check::Checked;
 use bpf_run::machine::Machine;
 use bpf_run::{Packet, Run, run_states};
-use capture::{CaptureFault, Link, UdpView, take_start, udp_at};
+use capture::{Link, UdpView, take_start, udp_at};
+use capture_script::ScriptFault;
 use std::fs::File;
 use std::io::{self, BufReader};
 use std::process::ExitCode;
@@ -94,18 +95,23 @@ fn frame_of(rt: &HostRuntime, given: &str) -> Option<Frame> {
 }
 
 // The frame of a capture's packet with this number, from 1.
-fn frame_at(rt: &HostRuntime, file: File, number: u64) -> Result<Option<Frame>, CaptureFault> {
+fn frame_at(rt: &HostRuntime, file: File, number: u64) -> Result<Option<Frame>, ScriptFault> {
     let Ok(mut reader) = BufReader::new(rt.alloc(), file) else {
-        return Err(CaptureFault::NoMemory);
+        return Err(ScriptFault::NoMemory);
     };
-    let mut capture = take_start(rt.alloc(), &mut reader)?;
+    let started = take_start(rt.alloc(), &mut reader);
+    let mut capture = started.map_err(|fault| ScriptFault::Capture { fault, place: 0 })?;
     let mut octets = Vec::new(rt.alloc());
     let mut link = None;
     for _ in 0..number {
-        let Some(head) = capture.take_packet(&mut reader, &mut octets)? else {
-            return Ok(None);
-        };
-        link = head.link;
+        match capture.take_packet(&mut reader, &mut octets) {
+            Ok(Some(head)) => link = head.link,
+            Ok(None) => return Ok(None),
+            Err(fault) => {
+                let place = capture.place();
+                return Err(ScriptFault::Capture { fault, place });
+            }
+        }
     }
     if number == 0 {
         return Ok(None);
