@@ -1,5 +1,5 @@
 //! Tests of the book: desks with threads at their seats, replays of whole books, long runs of a node, a client's fetch told by
-//! several kinds of clerk, tallies of actions, and who lets go of a volume. They exercise node_core (`Node`, `run_events`),
+//! several kinds of clerk, tallies of actions, and who lets go of a volume, and when. They exercise node_core (`Node`, `run_events`),
 //! plain_node (`Tally`) and node_book (`Booked`, `Ledgered`, `Desk`, `Seat`, `Lone`, `Seated`) by their public calls. There are no
 //! contracts here but those that the calls require.
 //! Tested by: itself; `rt check --test` runs these tests.
@@ -11,6 +11,8 @@ mod contents;
 mod desks;
 #[cfg(test)]
 mod events;
+#[cfg(test)]
+mod freeing;
 #[cfg(test)]
 mod loads;
 #[cfg(test)]
