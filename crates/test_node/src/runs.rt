@@ -141,9 +141,9 @@ fn a_run_takes_all_events(rt: HostRuntime) -> Result<(), Fail> {
     Ok(())
 }
 
-/// The number of ticks in a long list. The actions of each event have room for 1,344, so a list of a million events would need
-/// some 75 GB.
-const TICKS: u64 = 20_000;
+/// The number of ticks in a long list. The actions of each event have room for 1,344, some 75 KB that are asked for and hardly
+/// touched: this list asks for 15 GB and takes 0.8 GB, and a list of a million events would take 4 GB.
+const TICKS: u64 = 200_000;
 
 /// Ticks, one for each millisecond, and then a query.
 fn ticks_and_query(rt: &HostRuntime) -> Result<Vec<Event>, Fail> {
