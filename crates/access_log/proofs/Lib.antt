@@ -1,0 +1,4 @@
+pub mod Clean
+pub mod Places
+pub mod CleanLine
+pub mod Shape
