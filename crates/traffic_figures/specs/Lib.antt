@@ -1,0 +1,4 @@
+pub mod Buckets
+pub mod Escapes
+pub mod Kinds
+pub mod StatusClass

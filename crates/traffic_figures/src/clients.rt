@@ -1,0 +1,147 @@
+//! The figures of clients and fetches as JSON.
+
+use crate::figures::Snapshot;
+use crate::kinds::{Course, FetchOutcome, StatusClass};
+use crate::lines::seconds_text;
+use crate::page::Page;
+use crate::times::{BOUNDS, Times, total};
+use json::Writer;
+use std::alloc::{AllocError, Global};
+
+/// The figures of clients and fetches as JSON: one line that ends in LF. What isn't known is `null`. Times are in seconds; the
+/// buckets count all times up to their bounds.
+///
+/// It is written token by token, by the writer on which serde_json stands: serde_json gives a float as few digits as it needs, and
+/// sums of times have six decimals here.
+pub fn clients_text(alloc: Global, page: &Page) -> Result<Vec<u8>, AllocError> {
+    let mut json = Writer::new(Vec::new(alloc));
+    json.begin_object()?;
+    json.key("uptime")?;
+    json.u64(page.uptime)?;
+    write_answers(&mut json, &page.figures)?;
+    write_octets(&mut json, &page.figures)?;
+    write_fetches(&mut json, &page.figures)?;
+    write_seconds(alloc, &mut json, &page.figures)?;
+    write_optional(&mut json, "connections", page.connections)?;
+    write_optional(&mut json, "waiting", page.waiting)?;
+    write_optional(&mut json, "fetching", page.fetching)?;
+    write_log(&mut json, page)?;
+    json.end_object()?;
+    let mut text = json.into_inner();
+    text.push(b'\n')?;
+    Ok(text)
+}
+
+// A key and its number.
+fn write_count(json: &mut Writer, key: &str, count: u64) -> Result<(), AllocError> {
+    json.key(key)?;
+    json.u64(count)
+}
+
+// A key, and its number or `null`.
+fn write_optional(json: &mut Writer, key: &str, count: Option<u64>) -> Result<(), AllocError> {
+    json.key(key)?;
+    match count {
+        Some(count) => json.u64(count),
+        None => json.null(),
+    }
+}
+
+fn write_answers(json: &mut Writer, figures: &Snapshot) -> Result<(), AllocError> {
+    json.key("answers")?;
+    json.begin_object()?;
+    for course in &Course::ALL {
+        let counts = &figures.answers[course.place()];
+        write_count(json, course.name(), total(counts))?;
+    }
+    json.end_object()?;
+    write_statuses(json, figures)
+}
+
+fn write_statuses(json: &mut Writer, figures: &Snapshot) -> Result<(), AllocError> {
+    json.key("statuses")?;
+    json.begin_object()?;
+    for class in &StatusClass::ALL {
+        let count = figures.of_class(*class);
+        write_count(json, class.name(), count)?;
+    }
+    json.end_object()
+}
+
+fn write_octets(json: &mut Writer, figures: &Snapshot) -> Result<(), AllocError> {
+    let [origins, neighbours] = figures.bodies;
+    json.key("octets")?;
+    json.begin_object()?;
+    write_count(json, "clients", total(&figures.content))?;
+    write_count(json, "origins", origins)?;
+    write_count(json, "neighbours", neighbours)?;
+    json.end_object()
+}
+
+fn write_fetches(json: &mut Writer, figures: &Snapshot) -> Result<(), AllocError> {
+    let [origins, neighbours] = &figures.fetches;
+    json.key("fetches")?;
+    json.begin_object()?;
+    json.key("origins")?;
+    write_outcomes(json, origins)?;
+    json.key("neighbours")?;
+    write_outcomes(json, neighbours)?;
+    json.end_object()
+}
+
+fn write_outcomes(json: &mut Writer, counts: &[u64; 3]) -> Result<(), AllocError> {
+    json.begin_object()?;
+    for outcome in &FetchOutcome::ALL {
+        write_count(json, outcome.name(), counts[outcome.place()])?;
+    }
+    json.end_object()
+}
+
+fn write_seconds(alloc: Global, json: &mut Writer, figures: &Snapshot) -> Result<(), AllocError> {
+    json.key("seconds")?;
+    json.begin_object()?;
+    json.key("hits")?;
+    write_times(alloc, json, &figures.hits)?;
+    json.key("forwarded")?;
+    write_times(alloc, json, &figures.forwarded)?;
+    json.key("fetches")?;
+    write_times(alloc, json, &figures.fetched)?;
+    json.end_object()
+}
+
+fn write_times(alloc: Global, json: &mut Writer, times: &Times) -> Result<(), AllocError> {
+    json.begin_object()?;
+    json.key("buckets")?;
+    json.begin_array()?;
+    for (bucket, bound) in BOUNDS.iter().enumerate() {
+        json.begin_array()?;
+        write_number(json, bound)?;
+        json.u64(times.up_to(bucket))?;
+        json.end_array()?;
+    }
+    json.end_array()?;
+    json.key("sum")?;
+    write_number(json, seconds_text(alloc, times.micros)?.as_str())?;
+    write_count(json, "count", times.count())?;
+    json.end_object()
+}
+
+// A number in decimals; a text that is none, as "+Inf", as a string.
+fn write_number(json: &mut Writer, text: &str) -> Result<(), AllocError> {
+    if json::is_number(text) {
+        json.number(text)
+    } else {
+        json.string(text)
+    }
+}
+
+fn write_log(json: &mut Writer, page: &Page) -> Result<(), AllocError> {
+    json.key("log")?;
+    let Some(log) = page.log else {
+        return json.null();
+    };
+    json.begin_object()?;
+    write_count(json, "written", log.written)?;
+    write_count(json, "lost", log.lost)?;
+    json.end_object()
+}

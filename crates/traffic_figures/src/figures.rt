@@ -1,0 +1,182 @@
+//! The counters that threads raise, and what they held when they were loaded, one after the other.
+
+use crate::kinds::{Course, FetchOutcome, FetchedFrom, StatusClass, class_of};
+use crate::times::{Histogram, Times, load_into};
+use std::alloc::{AllocError, Global};
+use std::array;
+use std::sync::atomic::{AtomicU64, Ordering};
+
+/// An answer that has ended.
+#[derive(Clone, Copy, Debug, PartialEq, Eq)]
+pub struct AnswerNote {
+    /// How it came to be.
+    pub course: Course,
+    /// Its status; 0 if the connection ended before there was an answer.
+    pub status: u16,
+    /// The octets of content that were handed to the client.
+    pub octets: u64,
+    /// Microseconds from the request to the end of the answer. `None` if a clock could not be read: then it isn't timed.
+    pub micros: Option<u64>,
+}
+
+/// A fetch that has ended.
+#[derive(Clone, Copy, Debug, PartialEq, Eq)]
+pub struct FetchNote {
+    /// Whom it was made from.
+    pub from: FetchedFrom,
+    /// How it ended.
+    pub outcome: FetchOutcome,
+    /// The octets of the body that came.
+    pub octets: u64,
+    /// Microseconds that it took. `None` if a clock could not be read: then it isn't timed.
+    pub micros: Option<u64>,
+}
+
+/// The counters of a proxy since its start. Any thread raises them, without a lock; the threads share them in an `Arc`. A counter
+/// holds a number modulo 2^64.
+///
+/// An atomic counter has no model. The contracts say at which place the counter of each kind stands (`place`, `kind`, `class_of`,
+/// `bucket_of`); that it is raised, and that it is the one shown, is only tested.
+#[derive(Drop)]
+pub struct Figures {
+    // By course and class of status.
+    answers: [[AtomicU64; 6]; 5],
+    // Octets handed to clients, by course.
+    content: [AtomicU64; 5],
+    // By kind of source and outcome.
+    fetches: [[AtomicU64; 3]; 2],
+    // Octets of bodies, by kind of source.
+    bodies: [AtomicU64; 2],
+    hits: Histogram,
+    forwarded: Histogram,
+    fetched: Histogram,
+    // By place of the neighbour and outcome.
+    neighbours: Vec<[AtomicU64; 3]>,
+}
+
+fn zeros<const N: usize>() -> [AtomicU64; N] {
+    array::from_fn(|_| AtomicU64::new(0))
+}
+
+impl Figures {
+    /// All at 0, for so many neighbours.
+    pub fn new(alloc: Global, neighbours: usize) -> Result<Figures, AllocError> {
+        let mut by_neighbour = Vec::with_capacity(alloc, neighbours)?;
+        for _ in 0..neighbours {
+            by_neighbour.push(zeros())?;
+        }
+        Ok(Figures {
+            answers: [zeros(), zeros(), zeros(), zeros(), zeros()],
+            content: zeros(),
+            fetches: [zeros(), zeros()],
+            bodies: zeros(),
+            hits: Histogram::new(),
+            forwarded: Histogram::new(),
+            fetched: Histogram::new(),
+            neighbours: by_neighbour,
+        })
+    }
+
+    /// Counts an answer that has ended. It is timed if it was a hit or forwarded, and had a status.
+    pub fn note_answer(&self, answer: AnswerNote) {
+        let course = answer.course.place();
+        let class = class_of(answer.status).place();
+        let by_class = &self.answers[course];
+        by_class[class].fetch_add(1, Ordering::SeqCst);
+        self.content[course].fetch_add(answer.octets, Ordering::SeqCst);
+        if answer.status == 0 {
+            return;
+        }
+        let Some(micros) = answer.micros else {
+            return;
+        };
+        match answer.course {
+            Course::Hit => self.hits.add(micros),
+            Course::Miss | Course::Collapsed | Course::Bypass => self.forwarded.add(micros),
+            Course::Own => {}
+        }
+    }
+
+    /// Counts a fetch that has ended. It is timed unless it was refused. A neighbour that there is none of is counted among the
+    /// neighbours and nowhere else.
+    pub fn note_fetch(&self, fetch: FetchNote) {
+        let kind = fetch.from.kind();
+        let outcome = fetch.outcome.place();
+        let by_outcome = &self.fetches[kind];
+        by_outcome[outcome].fetch_add(1, Ordering::SeqCst);
+        self.bodies[kind].fetch_add(fetch.octets, Ordering::SeqCst);
+        if let FetchedFrom::Neighbour(n) = fetch.from
+            && let Some(counters) = self.neighbours.get(n)
+        {
+            counters[outcome].fetch_add(1, Ordering::SeqCst);
+        }
+        if fetch.outcome == FetchOutcome::Refused {
+            return;
+        }
+        if let Some(micros) = fetch.micros {
+            self.fetched.add(micros);
+        }
+    }
+
+    /// What the counters hold. They are loaded one after the other: what threads count meanwhile may be in some of them.
+    pub fn snapshot(&self, alloc: Global) -> Result<Snapshot, AllocError> {
+        let mut neighbours = Vec::with_capacity(alloc, self.neighbours.len())?;
+        for counters in &self.neighbours {
+            let mut counts = [0; 3];
+            load_into(counters, &mut counts);
+            neighbours.push(counts)?;
+        }
+        let mut snapshot = Snapshot {
+            answers: [[0; 6]; 5],
+            content: [0; 5],
+            fetches: [[0; 3]; 2],
+            bodies: [0; 2],
+            hits: self.hits.load(),
+            forwarded: self.forwarded.load(),
+            fetched: self.fetched.load(),
+            neighbours,
+        };
+        for (counts, counters) in snapshot.answers.iter_mut().zip(&self.answers) {
+            load_into(counters, counts);
+        }
+        load_into(&self.content, &mut snapshot.content);
+        for (counts, counters) in snapshot.fetches.iter_mut().zip(&self.fetches) {
+            load_into(counters, counts);
+        }
+        load_into(&self.bodies, &mut snapshot.bodies);
+        Ok(snapshot)
+    }
+}
+
+/// What the counters held, each when it was loaded: one after the other, so not all at one moment.
+#[derive(Debug, Drop)]
+pub struct Snapshot {
+    /// Answers, by course (in the order of `Course`) and class of status (in the order of `StatusClass`).
+    pub answers: [[u64; 6]; 5],
+    /// Octets of content handed to clients, by course.
+    pub content: [u64; 5],
+    /// Fetches, of origin servers and of neighbours, by outcome (in the order of `FetchOutcome`).
+    pub fetches: [[u64; 3]; 2],
+    /// Octets of bodies that came from origin servers and from neighbours.
+    pub bodies: [u64; 2],
+    /// To the end of the answers that were hits.
+    pub hits: Times,
+    /// To the end of the answers that were fetched (misses, collapsed ones, bypasses).
+    pub forwarded: Times,
+    /// Of fetches.
+    pub fetched: Times,
+    /// Fetches of each neighbour, by outcome.
+    pub neighbours: Vec<[u64; 3]>,
+}
+
+impl Snapshot {
+    /// Answers with a status of this class, at most 2^64 - 1.
+    pub(crate) fn of_class(&self, class: StatusClass) -> u64 {
+        let place = class.place();
+        let mut sum: u64 = 0;
+        for counts in &self.answers {
+            sum = sum.saturating_add(counts[place]);
+        }
+        sum
+    }
+}

@@ -1,0 +1,97 @@
+//! All that both texts show.
+
+use crate::figures::Snapshot;
+
+/// What the filter of a query socket judged since the start.
+#[derive(Clone, Copy, Debug, PartialEq, Eq)]
+pub struct SocketFigures {
+    /// Datagrams judged.
+    pub judged: u64,
+    /// Of these, those that were dropped.
+    pub rejected: u64,
+    /// Of these, those that were cut.
+    pub cut: u64,
+    /// Datagrams that were no message of the socket's protocol.
+    pub malformed: u64,
+}
+
+/// What the filters of both query sockets judged.
+#[derive(Clone, Copy, Debug, PartialEq, Eq)]
+pub struct Sockets {
+    /// The ICP socket.
+    pub icp: SocketFigures,
+    /// The HTCP socket.
+    pub htcp: SocketFigures,
+}
+
+/// What is known of a neighbour at one moment.
+#[derive(Clone, Copy, Debug, PartialEq, Eq)]
+pub struct NeighbourState {
+    /// Whether it is waited for.
+    pub is_up: bool,
+    /// Its smoothed response time in microseconds. `None` before the first.
+    pub micros: Option<u64>,
+    /// Rounds of queries that it has missed since it was last heard from.
+    pub misses: u64,
+    /// Queries to it that are not answered yet. `None` if that isn't known.
+    pub outstanding: Option<u64>,
+}
+
+/// A neighbour.
+#[derive(Clone, Copy, Debug, PartialEq, Eq)]
+pub struct NeighbourFigures {
+    /// The address at which it is queried.
+    pub address: [u8; 4],
+    /// The port at which it is queried.
+    pub port: u16,
+    /// `None` if that isn't known.
+    pub state: Option<NeighbourState>,
+}
+
+/// The lines of the access log since the start.
+#[derive(Clone, Copy, Debug, PartialEq, Eq)]
+pub struct LogLines {
+    /// Lines written.
+    pub written: u64,
+    /// Lines that were not written, since the log was too slow or failed.
+    pub lost: u64,
+}
+
+/// All that both texts show. What is `None` is left out of the metrics.
+#[derive(Debug, Drop)]
+pub struct Page {
+    /// The counters of answers and fetches.
+    pub figures: Snapshot,
+    /// The version of the program.
+    pub version: &'static str,
+    /// Seconds since the start.
+    pub uptime: u64,
+    /// When the program was started, in seconds since 1970.
+    pub started: Option<u64>,
+    /// Octets of memory that the program holds.
+    pub resident: Option<u64>,
+    /// What the filters of the query sockets judged.
+    pub sockets: Option<Sockets>,
+    /// Each neighbour, in the order of the configuration.
+    pub neighbours: Vec<NeighbourFigures>,
+    /// Open connections of clients.
+    pub connections: Option<u64>,
+    /// Fetches under way.
+    pub fetching: Option<u64>,
+    /// Clients that wait for an answer.
+    pub waiting: Option<u64>,
+    /// Stored objects.
+    pub objects: Option<u64>,
+    /// Octets of the stored objects.
+    pub stored: Option<u64>,
+    /// Objects that were taken out of the store to make room, since the start.
+    pub evictions: Option<u64>,
+    /// Filters installed and removed since the start.
+    pub swaps: Option<u64>,
+    /// Number of the present volume of the log of events.
+    pub book: Option<u64>,
+    /// Events in the present volume of the log of events.
+    pub events: Option<u64>,
+    /// The lines of the access log. `None` if there is none.
+    pub log: Option<LogLines>,
+}
