@@ -1,4 +1,5 @@
 pub mod Addresses
+pub mod Files
 pub mod Group
 pub mod Origins
 pub mod Own

@@ -7,6 +7,7 @@
 #![tactic(auto)]
 
 mod fault;
+mod filters;
 mod group;
 mod own;
 mod place;
@@ -16,4 +17,5 @@ mod token;
 mod value;
 
 pub use fault::Fault;
-pub use settings::Settings;
+pub use filters::FilterFile;
+pub use settings::{LogFormat, Settings};

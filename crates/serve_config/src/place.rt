@@ -1,11 +1,11 @@
 //! The location of a value in a configuration.
 use std::fmt;
 
-/// The location of a value: a key of the configuration, an item of one of its lists, or a key of such an item. It prints as
-/// `key`, `list[0]` or `list[0].key`.
+/// The location of a value: a key of the configuration, an item of one of its lists, a key of such an item, or a key of one of its
+/// objects. It prints as `key`, `list[0]`, `list[0].key` or `object.key`.
 #[derive(Clone, Copy)]
 pub(crate) struct Place<'a> {
-    item: Option<(&'a str, usize)>,
+    item: Option<(&'a str, Option<usize>)>,
     key: &'a str,
 }
 
@@ -21,7 +21,15 @@ impl<'a> Place<'a> {
     /// An item of a list.
     pub(crate) fn item(list: &'a str, index: usize) -> Place<'a> {
         Place {
-            item: Some((list, index)),
+            item: Some((list, Some(index))),
+            key: "",
+        }
+    }
+
+    /// An object, by its keys from that of the configuration on, with dots between them.
+    pub(crate) fn object(name: &'a str) -> Place<'a> {
+        Place {
+            item: Some((name, None)),
             key: "",
         }
     }
@@ -34,7 +42,7 @@ impl<'a> Place<'a> {
         }
     }
 
-    /// The key; empty for the whole configuration or an item of a list.
+    /// The key; empty for the whole configuration, an item of a list or an object.
     pub(crate) fn name(self) -> &'a str {
         self.key
     }
@@ -46,8 +54,10 @@ impl fmt::Display for Place<'_> {
         match self.item {
             None if key.is_empty() => write!(f, "configuration"),
             None => write!(f, "{key}"),
-            Some((list, index)) if key.is_empty() => write!(f, "{list}[{index}]"),
-            Some((list, index)) => write!(f, "{list}[{index}].{key}"),
+            Some((list, Some(index))) if key.is_empty() => write!(f, "{list}[{index}]"),
+            Some((list, Some(index))) => write!(f, "{list}[{index}].{key}"),
+            Some((object, None)) if key.is_empty() => write!(f, "{object}"),
+            Some((object, None)) => write!(f, "{object}.{key}"),
         }
     }
 }

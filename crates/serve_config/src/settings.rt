@@ -1,14 +1,16 @@
 //! The settings of `serve`.
-ghost use Rattle.std.specs.Prelude.{◌≡◌, ◌≤◌, All, IfOk, IfSome, true, false};
+ghost use Rattle.std.specs.Prelude.{◌≡◌, ◌≤◌, All, IfOk, IfSome, length, true, false};
 ghost use Rattle.std.specs.List.{list_any};
 ghost use Rattle.std.specs.String.{string_bytes};
 ghost use Rattle.serve_config.specs.Addresses.{is_host};
+ghost use Rattle.serve_config.specs.Files.{IsThere};
 ghost use Rattle.serve_config.specs.Group.{IsReachable, IsSecret};
 ghost use Rattle.serve_config.specs.Origins.{AreNetworks, ArePorts};
 ghost use Rattle.serve_config.specs.Own.{is_self};
 ghost use Rattle.serve_config.specs.Tokens.{IsToken};
 
 use crate::fault::Fault;
+use crate::filters::{FilterFile, file, filters};
 use crate::group::{keys, neighbours};
 use crate::own::check_apart;
 use crate::place::Place;
@@ -20,6 +22,15 @@ use node_core::{Config, Network};
 use serde_json::Value;
 use std::alloc::{AllocError, Global};
 use std::fmt;
+
+/// The form of the lines about answers to clients.
+#[derive(Clone, Copy, Debug, PartialEq, Eq)]
+pub enum LogFormat {
+    /// The combined form of NCSA, with two more fields. It is the usual one.
+    Common,
+    /// One JSON object a line.
+    Json,
+}
 
 /// The settings of `serve`. `Debug` omits the token.
 #[derive(Drop)]
@@ -51,6 +62,12 @@ pub struct Settings {
     /// What a change over the administration has to be authorized by, if the configuration says it: a token68 (RFC 9110, section
     /// 11.2) of at most 255 octets.
     pub admin_token: Option<String>,
+    /// Where lines about answers to clients go, if the configuration says it: a file's path, not empty, or `-` for standard output.
+    pub access_log: Option<String>,
+    /// The form of these lines.
+    pub access_log_format: LogFormat,
+    /// The files of the filters that are in force from the start.
+    pub filters: Vec<FilterFile>,
     /// The number of answers to clients after which the program ends; 0 means never.
     pub stop_after: u64,
     /// The configuration of the node, including the endpoints of the query sockets.
@@ -76,6 +93,7 @@ impl Settings {
         ensures host { IfOk result (λ s. is_host s.address ≡ true) }
         ensures reachable { IfOk result (λ s. All IsReachable s.node.neighbours.items) }
         ensures secrets { IfOk result (λ s. All IsSecret s.node.keys.items) }
+        ensures filters { IfOk result (λ s. All (IsThere (length s.node.neighbours.items)) s.filters.items) }
         ensures apart { IfOk result (λ s. list_any (is_self s) s.node.neighbours.items ≡ false) }
     {
         let value = json(alloc, text)?;
@@ -101,6 +119,9 @@ impl fmt::Debug for Settings {
             .field("address_connections", &self.address_connections)
             .field("deny_origins", &self.deny_origins)
             .field("origin_ports", &self.origin_ports)
+            .field("access_log", &self.access_log)
+            .field("access_log_format", &self.access_log_format)
+            .field("filters", &self.filters)
             .field("stop_after", &self.stop_after)
             .field("node", &self.node)
             .finish_non_exhaustive()
@@ -122,11 +143,15 @@ fn parse_values(alloc: Global, value: &Value) -> Result<Settings, Fault>
     ensures host { IfOk result (λ s. is_host s.address ≡ true) }
     ensures reachable { IfOk result (λ s. All IsReachable s.node.neighbours.items) }
     ensures secrets { IfOk result (λ s. All IsSecret s.node.keys.items) }
+    ensures filters { IfOk result (λ s. All (IsThere (length s.node.neighbours.items)) s.filters.items) }
 {
     let top = Place::whole();
+    let node = node(alloc, value)?;
+    let filters = filters(alloc, value, node.neighbours.len())?;
     Ok(Settings {
         address: address(alloc, value, top.key("address"))?,
-        node: node(alloc, value)?,
+        node,
+        filters,
         http_port: port(alloc, value, top.key("http_port"))?,
         admin_port: port(alloc, value, top.key("admin_port"))?,
         name: String::from_str(alloc, visible(alloc, value, top.key("name"))?)?,
@@ -139,6 +164,8 @@ fn parse_values(alloc: Global, value: &Value) -> Result<Settings, Fault>
         deny_origins: deny_origins(alloc, value)?,
         origin_ports: origin_ports(alloc, value)?,
         admin_token: admin_token(alloc, value)?,
+        access_log: file(alloc, value.get("access_log"), top.key("access_log"))?,
+        access_log_format: log_format(alloc, value)?,
         stop_after: number(alloc, value, top.key("stop_after"), 0, u64::MAX)?,
     })
 }
@@ -217,6 +244,19 @@ fn admin_token(alloc: Global, value: &Value) -> Result<Option<String>, Fault>
         return Err(Fault::value(alloc, place, "not a token68 (RFC 9110, section 11.2)"));
     }
     Ok(Some(String::from_str(alloc, text)?))
+}
+
+// Parses the form of the lines about answers.
+fn log_format(alloc: Global, value: &Value) -> Result<LogFormat, Fault> {
+    if value.get("access_log_format").is_none() {
+        return Ok(LogFormat::Common);
+    }
+    let place = Place::whole().key("access_log_format");
+    match text(alloc, value, place)? {
+        "common" => Ok(LogFormat::Common),
+        "json" => Ok(LogFormat::Json),
+        given => Err(Fault::text(alloc, place, given, "is neither common nor json")),
+    }
 }
 
 // Parses JSON.

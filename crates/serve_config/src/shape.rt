@@ -11,6 +11,7 @@ pub(crate) enum Kind {
     Number,
     Truth,
     List,
+    Object,
 }
 
 /// A known key and the kind of its value.
@@ -37,7 +38,7 @@ const TOP: [Known; 16] = [
 ];
 
 /// The keys that a configuration may leave out.
-const OPTIONAL: [Known; 7] = [
+const OPTIONAL: [Known; 10] = [
     ("receipt_octets", Kind::Number),
     ("book_octets", Kind::Number),
     ("fetch_octets", Kind::Number),
@@ -45,6 +46,16 @@ const OPTIONAL: [Known; 7] = [
     ("deny_origins", Kind::List),
     ("origin_ports", Kind::List),
     ("admin_token", Kind::Text),
+    ("access_log", Kind::Text),
+    ("access_log_format", Kind::Text),
+    ("filters", Kind::Object),
+];
+
+/// The keys of `filters`, each of which may be left out.
+const FILTERS: [Known; 3] = [
+    ("icp", Kind::Text),
+    ("htcp", Kind::Text),
+    ("neighbours", Kind::Object),
 ];
 
 /// The keys of a signing key.
@@ -69,6 +80,7 @@ impl Kind {
             Kind::Number => is_whole(value),
             Kind::Truth => value.is_boolean(),
             Kind::List => value.is_array(),
+            Kind::Object => value.is_object(),
         }
     }
 
@@ -79,6 +91,7 @@ impl Kind {
             Kind::Number => "not a whole number",
             Kind::Truth => "neither true nor false",
             Kind::List => "not a list",
+            Kind::Object => "not an object",
         }
     }
 }
@@ -88,7 +101,8 @@ fn is_whole(value: &Value) -> bool {
     value.is_u64() || value.is_i64() || value.as_f64().is_some_and(|x| x >= 9.2e18 || x <= -9.2e18)
 }
 
-/// Checks the keys and kinds of a whole configuration. Errors: the first fault, of the top-level keys before those of the lists.
+/// Checks the keys and kinds of a whole configuration. Errors: the first fault, of the top-level keys before those of the lists,
+/// and `filters` last.
 pub(crate) fn check(alloc: Global, value: &Value) -> Result<(), Fault> {
     check_object(alloc, value, Place::whole(), &TOP, &OPTIONAL)?;
     check_items(alloc, value, "allowed", Kind::Text)?;
@@ -105,6 +119,22 @@ pub(crate) fn check(alloc: Global, value: &Value) -> Result<(), Fault> {
             &NEIGHBOUR,
             &[],
         )?;
+    }
+    check_filters(alloc, value)
+}
+
+// Checks the object at `filters`, if there is one. The keys of its neighbours are checked with their values.
+fn check_filters(alloc: Global, value: &Value) -> Result<(), Fault> {
+    let Some(filters) = value.get("filters") else {
+        return Ok(());
+    };
+    check_object(alloc, filters, Place::object("filters"), &[], &FILTERS)?;
+    let Some(files) = filters.get("neighbours").and_then(Value::as_object) else {
+        return Ok(());
+    };
+    for (key, file) in files.iter() {
+        let place = Place::object("filters.neighbours").key(key.as_str());
+        check_kind(alloc, Some(file), place, Kind::Text)?;
     }
     Ok(())
 }
