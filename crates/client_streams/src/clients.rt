@@ -1,7 +1,7 @@
 //! The clients of a listener.
 ghost use Rattle.std.specs.Prelude.{IfSome, IsSomeAnd, box_value};
 ghost use Rattle.futures.specs.Poll.{OnPending};
-ghost use Rattle.futures.specs.Task.{Covers, Keeps};
+ghost use Rattle.futures.specs.Task.{Covers, IsArmed, Keeps};
 
 use crate::patient::SharedStage;
 use crate::seats::{SharedSeats, TakenSeat};
@@ -31,28 +31,6 @@ pub trait Accept: Drop {
         stage: SharedStage,
     ) -> Option<Self::Serving>
         ensures { IfSome result Self.Serving.can_poll };
-}
-
-/// A future with its output dropped.
-#[derive(Drop)]
-pub struct Quiet<F> {
-    /// The future that is polled.
-    pub inner: F,
-}
-
-impl<T: Drop, F: Future<Output = T>> Future for Quiet<F> {
-    type Output = ();
-
-    ghost can_poll = { λ q. F.can_poll q.inner };
-
-    ghost needs = { λ q. F.needs q.inner };
-
-    fn poll(&mut self, cx: &mut Context<'_>) -> Poll<()> {
-        match self.inner.poll(cx) {
-            Poll::Ready(_) => Poll::Ready(()),
-            Poll::Pending => Poll::Pending,
-        }
-    }
 }
 
 /// A client that is being served or refused, and its seat, which is free again when this is dropped. It ends early where its
@@ -116,10 +94,21 @@ enum Opening {
     Done,
 }
 
-/// The clients of a listener, as a stream of futures that ends when `stop` is ready or its sender is dropped. Each future holds a
-/// seat. A client of an address that has as many seats as it may is closed. While all seats are taken, the connection that has
-/// been idle for longest is closed in favour of the next client; while none is idle, that client waits, and further ones wait in
-/// the listener's queue. A client that takes no seat holds one of 64 others, and is closed where none of these is free.
+/// What ends a server.
+#[derive(Drop)]
+pub struct Stops {
+    /// Ends the acceptance of clients, and begins the grace for those that are connected. So does a dropped sender.
+    pub stop: oneshot::Receiver<()>,
+    /// Ends the grace at once. A dropped sender does not.
+    pub hurry: oneshot::Receiver<()>,
+}
+
+/// The clients of a listener, as a stream of futures. It accepts no more of them, and closes its listener, when `stop` is ready or its
+/// sender is dropped, and ends when all clients are gone, when the grace has passed, or when `hurry` is ready, whichever comes first;
+/// whoever runs the futures then drops those that are left. Each future holds a seat. A client of an address that has as many seats as
+/// it may is closed. While all seats are taken, the connection that has been idle for longest is closed in favour of the next client;
+/// while none is idle, that client waits, and further ones wait in the listener's queue. A client that takes no seat holds one of 64
+/// others, and is closed where none of these is free.
 ///
 /// The first futures serve nobody, and end together: one for each seat, so that whoever runs the futures has room for as many as
 /// there may be, and no client is refused for want of memory for that room.
@@ -128,8 +117,13 @@ pub struct AcceptedClients<A, R> {
     rt: R,
     alloc: Global,
     timers: Handle,
-    listener: TcpListener,
+    // None once the server is told to stop.
+    listener: Option<TcpListener>,
     stop: Option<oneshot::Receiver<()>>,
+    hurry: Option<oneshot::Receiver<()>>,
+    grace: Duration,
+    // The end of the grace, once it has begun.
+    ending: Option<Sleep>,
     accept: A,
     seats: SharedSeats,
     opening: Opening,
@@ -140,23 +134,28 @@ pub struct AcceptedClients<A, R> {
 }
 
 impl<A: Accept, R: Clock + Drop> AcceptedClients<A, R> {
-    /// The clients of `listener`, with these limits.
+    /// The clients of `listener`, with these limits, and so much time for them to end once the server is told to stop.
     pub fn new(
         rt: R,
         alloc: Global,
         timers: Handle,
         listener: TcpListener,
-        stop: oneshot::Receiver<()>,
+        stops: Stops,
+        grace: Duration,
         accept: A,
         limits: ClientLimits,
     ) -> Result<AcceptedClients<A, R>, AllocError> {
         let seats = SharedSeats::new(alloc, limits.most, limits.an_address)?;
+        let Stops { stop, hurry } = stops;
         Ok(AcceptedClients {
             rt,
             alloc,
             timers,
-            listener,
+            listener: Some(listener),
             stop: Some(stop),
+            hurry: Some(hurry),
+            grace,
+            ending: None,
             accept,
             seats,
             opening: Opening::Taking,
@@ -195,7 +194,10 @@ impl<A: Accept, R: Clock + Drop> AcceptedClients<A, R> {
         if let Some(arrival) = self.arrival.take() {
             return Poll::Ready(Some(arrival));
         }
-        let Ok((socket, address)) = ready!(self.listener.poll_accept(cx)) else {
+        let Some(listener) = &mut self.listener else {
+            return Poll::Ready(None);
+        };
+        let Ok((socket, address)) = ready!(listener.poll_accept(cx)) else {
             self.rest();
             return Poll::Ready(None);
         };
@@ -232,6 +234,46 @@ impl<A: Accept, R: Clock + Drop> AcceptedClients<A, R> {
         })
     }
 
+    // Whether the server was told to stop. The first time it closes its listener, and begins the grace.
+    fn is_stopped(&mut self, cx: &mut Context<'_>) -> bool
+        ensures { Keeps cx.old cx.new }
+    {
+        let Some(stop) = &mut self.stop else {
+            return true;
+        };
+        if let Poll::Pending = stop.poll(cx) {
+            return false;
+        }
+        self.stop = None;
+        self.listener = None;
+        self.arrival = None;
+        self.seats.open();
+        self.ending = self.timers.sleep(&self.rt, self.grace).ok();
+        true
+    }
+
+    // Waits for the end of a server that was told to stop. Without memory for a timer it is at once.
+    fn poll_end(&mut self, cx: &mut Context<'_>) -> Poll<()>
+        ensures registered { OnPending result (IsArmed cx.new) }
+        ensures kept { Keeps cx.old cx.new }
+    {
+        if let Some(hurry) = &mut self.hurry
+            && let Poll::Ready(end) = hurry.poll(cx)
+        {
+            if end.is_ok() {
+                return Poll::Ready(());
+            }
+            self.hurry = None;
+        }
+        let Some(ending) = &mut self.ending else {
+            return Poll::Ready(());
+        };
+        if let Poll::Ready(_) = ending.poll(cx) {
+            return Poll::Ready(());
+        }
+        self.seats.wait_for_all(cx)
+    }
+
     // Delays the next accept.
     fn rest(&mut self) {
         self.resting = self.timers.sleep(&self.rt, self.rest).ok();
@@ -244,11 +286,8 @@ impl<A: Accept, R: Clock + Drop> Stream for AcceptedClients<A, R> {
     ghost yields = { λ _ _ last. IfSome last (λ s. IfSome s.serving (λ f. A.Serving.can_poll (box_value f))) };
 
     fn poll_next(&mut self, cx: &mut Context<'_>) -> Poll<Option<Seated<A::Serving>>> {
-        let Some(stop) = &mut self.stop else {
-            return Poll::Ready(None);
-        };
-        if let Poll::Ready(_) = stop.poll(cx) {
-            self.stop = None;
+        if self.is_stopped(cx) {
+            ready!(self.poll_end(cx));
             return Poll::Ready(None);
         }
         if let Some(resting) = &mut self.resting {

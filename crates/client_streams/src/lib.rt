@@ -11,6 +11,6 @@ mod patient;
 mod refusal;
 mod seats;
 
-pub use clients::{Accept, AcceptedClients, ClientLimits, Quiet, Seated};
+pub use clients::{Accept, AcceptedClients, ClientLimits, Seated, Stops};
 pub use patient::{Patient, SharedStage, Stage, StreamTimeouts};
 pub use refusal::Refusal;

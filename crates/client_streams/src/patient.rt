@@ -53,6 +53,8 @@ struct Doing {
     is_anew: Cell<bool>,
     // Whether a write waits for the peer to read.
     is_sending: Cell<bool>,
+    // Whether a read failed because the peer was silent for too long.
+    has_timed_out: Cell<bool>,
 }
 
 /// The stage of a connection, set by its HTTP service and read by its socket. Reference-counted within one thread.
@@ -67,6 +69,7 @@ impl SharedStage {
             is_set: Cell::new(false),
             is_anew: Cell::new(false),
             is_sending: Cell::new(false),
+            has_timed_out: Cell::new(false),
         };
         Ok(SharedStage(Rc::new(alloc, doing)?))
     }
@@ -106,6 +109,16 @@ impl SharedStage {
     /// Whether nothing is under way: the last response was sent, and nothing of the next request has come.
     pub fn is_idle(&self) -> bool {
         self.0.stage.get() == Stage::Idle && !self.0.is_sending.get()
+    }
+
+    /// Whether a read has failed because the peer was silent for too long.
+    pub fn has_timed_out(&self) -> bool {
+        self.0.has_timed_out.get()
+    }
+
+    // Notes that a read fails because the peer was silent for too long.
+    fn note_silence(&self) {
+        self.0.has_timed_out.set(true);
     }
 
     // Sets whether a write waits for the peer to read.
@@ -209,7 +222,7 @@ impl<R: Clock + Copy> Patient<R> {
 }
 
 impl<R: Clock + Drop> Patient<R> {
-    // Called after each read that did not block.
+    // Called after each read that brought octets.
     fn note_read(&mut self)
         ensures { self.new.socket ≡ self.old.socket }
     {
@@ -258,11 +271,14 @@ impl<R: Clock + Drop> AsyncRead for Patient<R> {
     fn poll_read(&mut self, cx: &mut Context<'_>, buf: &mut [u8]) -> Poll<io::Result<usize>> {
         match AsyncRead::poll_read(&mut self.socket, cx, buf) {
             Poll::Ready(got) => {
-                self.note_read();
+                if matches!(got, Ok(count) if 0 < count) {
+                    self.note_read();
+                }
                 Poll::Ready(got)
             }
             Poll::Pending => {
                 if self.has_kept_silent(cx) {
+                    self.stage.note_silence();
                     return Poll::Ready(Err(io::Error::from(ErrorKind::TimedOut)));
                 }
                 Poll::Pending

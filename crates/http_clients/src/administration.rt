@@ -1,12 +1,15 @@
 //! The administration server: installs and removes filters, and shows counters.
-use crate::requests::{Answers, Given};
+use crate::account::SharedFacts;
+use crate::requests::{Answers, Given, TextKind};
 use crate::server::{ServeLimits, serve};
-use crate::texts::{not_administrator, text_of};
+use crate::texts::{no_log, not_administrator, stopping, text_of};
+use admin_page::PAGE;
+use client_streams::Stops;
 use crossbeam_channel::Sender;
 use filter_slots::{Slot, Socket};
-use futures::channel::{mpsc, oneshot};
+use futures::channel::mpsc;
 use futures::future::{Ready, ready};
-use http_traffic::{Asked, CaptureFault, Panel, PutFault};
+use http_traffic::{Asked, CaptureFault, Panel, PutFault, Told};
 use std::alloc::{AllocError, AllocGlobal, Global};
 use std::cell::RefCell;
 use std::io;
@@ -76,16 +79,63 @@ fn text(status: u16, text: Vec<u8>) -> Given {
     Given::Text {
         status,
         text,
-        is_json: false,
+        kind: TextKind::Plain,
     }
 }
 
-fn json(text: Vec<u8>) -> Given {
+fn figures(text: Vec<u8>, kind: TextKind) -> Given {
     Given::Text {
         status: 200,
         text,
-        is_json: true,
+        kind,
     }
+}
+
+// The answer to a request to install filters. Errors: out of memory.
+fn installed(alloc: Global, done: Result<(), PutFault>) -> Result<Given, AllocError> {
+    match done {
+        Ok(()) => Ok(text(204, Vec::new(alloc))),
+        Err(PutFault::NoFilter(line)) => Ok(text(400, line)),
+        Err(PutFault::NoMemory) => Err(AllocError),
+    }
+}
+
+// The answer to a request that asks for something to be done. `None` if there is no such path. Errors: out of memory.
+fn done<P: Panel>(alloc: Global, panel: &mut P, path: &str) -> Result<Option<Given>, AllocError> {
+    if let Some(query) = capture_query(path) {
+        return Ok(Some(captured(alloc, panel.capture(query))?));
+    }
+    let given = match path {
+        "/filters/reload" => installed(alloc, panel.reload())?,
+        "/log/reopen" => {
+            if panel.reopen_log() {
+                text(204, Vec::new(alloc))
+            } else {
+                text(404, no_log(alloc)?)
+            }
+        }
+        "/stop" => {
+            // The text comes first, since what follows cannot be taken back.
+            let line = stopping(alloc)?;
+            panel.stop();
+            text(202, line)
+        }
+        _ => return Ok(None),
+    };
+    Ok(Some(given))
+}
+
+// The answer to a request of figures or of the page. `None` if there is no such path. Errors: out of memory.
+fn shown<P: Panel>(alloc: Global, panel: &mut P, path: &str) -> Result<Option<Given>, AllocError> {
+    let given = match path {
+        "/" => Given::Page(PAGE.as_bytes().to_vec(alloc)?),
+        "/metrics" => figures(panel.metrics()?, TextKind::Metrics),
+        "/stats" => figures(panel.stats()?, TextKind::Json),
+        "/stats/clients" => figures(panel.clients()?, TextKind::Json),
+        "/stats/neighbours" => figures(panel.neighbours()?, TextKind::Json),
+        _ => return Ok(None),
+    };
+    Ok(Some(given))
 }
 
 // The answer to a request to capture. Errors: out of memory.
@@ -115,6 +165,17 @@ impl<P: Panel> Administrators<P> {
         self.obey(asked)
     }
 
+    // The answer to the request of these facts. Errors: out of memory.
+    fn answer_to(&self, facts: &SharedFacts) -> Result<Given, AllocError> {
+        let Ok(facts) = facts.0.try_borrow_mut() else {
+            return Err(AllocError);
+        };
+        match &facts.asked {
+            Some(asked) => self.answer(asked),
+            None => Err(AllocError),
+        }
+    }
+
     // Whether the request may change something.
     fn admits_change(&self, asked: &Asked) -> bool {
         match self.office.panel.try_borrow_mut() {
@@ -137,27 +198,25 @@ impl<P: Panel> Administrators<P> {
         let Ok(mut panel) = self.office.panel.try_borrow_mut() else {
             return Err(AllocError);
         };
+        let method = asked.method.as_str();
         let path = path_of(asked.target.as_str());
-        if asked.method.as_str() == "POST"
-            && let Some(query) = capture_query(path)
-        {
-            return captured(alloc, panel.capture(query));
-        }
         let slot = slot_of(path).filter(|slot| panel.has(*slot));
-        match (asked.method.as_str(), slot) {
-            ("PUT", Some(slot)) => match panel.put(slot, asked.content.as_slice()) {
-                Ok(()) => Ok(text(204, Vec::new(alloc))),
-                Err(PutFault::NoFilter(line)) => Ok(text(400, line)),
-                Err(PutFault::NoMemory) => Err(AllocError),
-            },
+        let given = match (method, slot) {
+            ("PUT", Some(slot)) => {
+                Some(installed(alloc, panel.put(slot, asked.content.as_slice()))?)
+            }
             ("DELETE", Some(slot)) => {
                 panel.clear(slot)?;
-                Ok(text(204, Vec::new(alloc)))
+                Some(text(204, Vec::new(alloc)))
             }
-            ("GET", Some(slot)) => Ok(text(200, panel.show(slot)?)),
-            ("GET", None) if path == "/stats" => Ok(json(panel.stats()?)),
-            ("GET", None) if path == "/stats/neighbours" => Ok(json(panel.neighbours()?)),
-            _ => Ok(text(404, text_of(alloc, 404, path.as_bytes())?)),
+            ("GET", Some(slot)) => Some(text(200, panel.show(slot)?)),
+            ("GET", None) => shown(alloc, &mut *panel, path)?,
+            ("POST", None) => done(alloc, &mut *panel, path)?,
+            _ => None,
+        };
+        match given {
+            Some(given) => Ok(given),
+            None => Ok(text(404, text_of(alloc, 404, path.as_bytes())?)),
         }
     }
 }
@@ -185,9 +244,9 @@ impl<P: Panel> Answers for Administrators<P> {
         }
     }
 
-    fn begin(&self, asked: Asked) -> Ready<Given> {
+    fn begin(&self, facts: SharedFacts) -> Ready<Given> {
         let alloc = self.office.alloc;
-        match self.answer(&asked) {
+        match self.answer_to(&facts) {
             Ok(given) => ready(given),
             Err(_) => {
                 let why = text_of(alloc, 503, b"").unwrap_or(Vec::new(alloc));
@@ -197,13 +256,17 @@ impl<P: Panel> Answers for Administrators<P> {
     }
 
     fn note_answer(&self) {}
+
+    fn tell(&self, _told: &Told<'_>) {}
 }
 
-/// Serves administration on the calling thread, on this port of 127.0.0.1 only, until `stop` is ready or its sender is dropped.
-/// Sends the address to `bound` once the socket is bound. Errors: the socket or the event loop failed.
+/// Serves administration on the calling thread, on this port of 127.0.0.1 only, until `stops.stop` is ready or its sender is
+/// dropped; open connections then have `limits.grace` to end, unless `stops.hurry` is ready before. Sends the address to `bound` once
+/// the socket is bound. Errors: the socket or the event loop failed.
 ///
-/// Answers PUT, GET and DELETE of `/filter/icp`, `/filter/htcp` and `/filter/neighbour/<n>` for each neighbour, and GET of
-/// `/stats` and `/stats/neighbours`, and POST of `/capture`, whose answer is sent while the capture goes on. A request that `panel`
+/// Answers PUT, GET and DELETE of `/filter/icp`, `/filter/htcp` and `/filter/neighbour/<n>` for each neighbour; GET of `/stats`,
+/// `/stats/clients`, `/stats/neighbours`, `/metrics` and `/`, which is a page for people; and POST of `/filters/reload`, of
+/// `/log/reopen`, of `/stop`, and of `/capture`, whose answer is sent while the capture goes on. A request that `panel`
 /// does not admit gets 403, and a PUT, DELETE or POST that it does not let change anything gets 401, with
 /// `WWW-Authenticate: Bearer`, whatever its path; every other request gets 404, and content of more than `limits.content` octets
 /// gets 413.
@@ -212,7 +275,7 @@ pub fn serve_admin<R, P>(
     port: u16,
     panel: P,
     bound: Sender<SocketAddr, Global>,
-    stop: oneshot::Receiver<()>,
+    stops: Stops,
     limits: ServeLimits,
 ) -> io::Result<()>
 where
@@ -228,5 +291,5 @@ where
         office: Rc::new(alloc, office)?,
     };
     let address = SocketAddr::V4(SocketAddrV4::new(Ipv4Addr::new(127, 0, 0, 1), port));
-    serve(rt, address, administrators, bound, stop, limits)
+    serve(rt, address, administrators, bound, stops, None, limits)
 }

@@ -6,6 +6,7 @@
 //! Tested by: crates/test_edge; tests/serve, tests/serve_slow and tests/serve_hostile, which run the built program over loopback.
 #![tactic(auto)]
 
+mod account;
 mod administration;
 mod door;
 mod reply;

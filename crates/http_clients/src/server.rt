@@ -1,13 +1,13 @@
 //! An HTTP server that runs on the calling thread.
+use crate::account::{Counted, End, SharedFacts, Watched, Watching, tell_refused};
 use crate::door::Door;
 use crate::reply::Reply;
 use crate::requests::Answers;
-use crate::texts::forbidden;
+use crate::texts::{FORBIDDEN, forbidden};
 use client_streams::{
-    Accept, AcceptedClients, ClientLimits, Patient, Quiet, Refusal, SharedStage, StreamTimeouts,
+    Accept, AcceptedClients, ClientLimits, Patient, Refusal, SharedStage, Stops, StreamTimeouts,
 };
 use crossbeam_channel::Sender;
-use futures::channel::oneshot;
 use futures::future::Either;
 use hyper::rt::TokioTimer;
 use hyper::server::conn::http1;
@@ -15,9 +15,10 @@ use hyper::server::conn::http1::Connection;
 use std::alloc::{AllocGlobal, Global};
 use std::hash::RandomState;
 use std::io;
-use std::net::{Net, SocketAddr};
+use std::net::{IpAddr, Net, SocketAddr};
 use std::random::RandomSource;
-use std::sync::Wait;
+use std::sync::atomic::AtomicUsize;
+use std::sync::{Arc, Wait};
 use std::time::{Clock, Duration};
 use tokio::net::{TcpListener, TcpStream};
 use tokio::runtime::LocalRuntime;
@@ -45,10 +46,15 @@ struct Http<R, H> {
     limits: ServeLimits,
     builder: http1::Builder<TokioTimer<R>>,
     answers: H,
+    // How many connections are open, where that is counted.
+    open: Option<Arc<AtomicUsize>>,
 }
 
 impl<R: Clock + Copy, H: Answers> Accept for Http<R, H> {
-    type Serving = Either<Quiet<Connection<Patient<R>, Door<H>, Reply, TokioTimer<R>>>, Refusal<R>>;
+    type Serving = Either<
+        Watched<Connection<Patient<R>, Door<H>, Reply<H>, TokioTimer<R>>, H>,
+        Refusal<R>,
+    >;
 
     fn has_seat(&self, address: SocketAddr) -> bool {
         self.answers.allows(address.ip())
@@ -73,20 +79,44 @@ impl<R: Clock + Copy, H: Answers> Accept for Http<R, H> {
                 return None;
             };
             self.answers.note_answer();
+            tell_refused(&self.answers, address.ip(), FORBIDDEN.len() as u64);
             return Some(Either::Right(Refusal::new(patient, text)));
         }
-        let Ok(answers) = self.answers.share() else {
-            return None;
-        };
-        let door = Door {
+        let door = self.door(address.ip(), stage)?;
+        let watching = Watching {
             alloc: self.alloc,
-            answers,
+            answers: self.answers.share().ok()?,
+            facts: door.facts.share().ok()?,
+            counted: self.counted(),
+        };
+        Some(Either::Left(Watched {
+            inner: self.builder.serve_connection(patient, door),
+            watching,
+            end: End::Broken,
+        }))
+    }
+}
+
+impl<R: Clock + Copy, H: Answers> Http<R, H> {
+    // The service of a connection from this address. Returns `None` if out of memory.
+    fn door(&self, from: IpAddr, stage: SharedStage) -> Option<Door<H>> {
+        let shared = stage.share().ok()?;
+        Some(Door {
+            alloc: self.alloc,
+            answers: self.answers.share().ok()?,
+            from,
+            facts: SharedFacts::new(self.alloc, from, shared).ok()?,
             stage,
             limit: self.limits.content,
-        };
-        Some(Either::Left(Quiet {
-            inner: self.builder.serve_connection(patient, door),
-        }))
+        })
+    }
+
+    // Counts one more open connection, where these are counted.
+    fn counted(&self) -> Option<Counted> {
+        match &self.open {
+            Some(open) => Counted::new(open),
+            None => None,
+        }
     }
 }
 
@@ -109,6 +139,7 @@ fn http_of<R, H>(
     rt: R,
     runtime: &LocalRuntime,
     answers: H,
+    open: Option<Arc<AtomicUsize>>,
     limits: ServeLimits,
 ) -> io::Result<Http<R, H>>
 where
@@ -127,17 +158,20 @@ where
         limits,
         builder,
         answers,
+        open,
     })
 }
 
-/// Serves until `stop` is ready or its sender is dropped. Open connections then have `limits.grace` to end. Sends the address to
-/// `bound` once the socket is bound. Errors: the socket or the event loop failed, or nothing receives the address.
+/// Serves until `stops.stop` is ready or its sender is dropped. Open connections then have `limits.grace` to end, unless `stops.hurry`
+/// is ready before. Sends the address to `bound` once the socket is bound. Errors: the socket or the event loop failed, or nothing
+/// receives the address.
 pub(crate) fn serve<R, H>(
     rt: R,
     address: SocketAddr,
     answers: H,
     bound: Sender<SocketAddr, Global>,
-    stop: oneshot::Receiver<()>,
+    stops: Stops,
+    open: Option<Arc<AtomicUsize>>,
     limits: ServeLimits,
 ) -> io::Result<()>
 where
@@ -145,11 +179,12 @@ where
     H: Answers,
 {
     let mut runtime = LocalRuntime::new(&rt)?;
-    runtime.set_shutdown_timeout(Some(limits.grace));
+    // The stream of clients ends with the grace.
+    runtime.set_shutdown_timeout(Some(Duration::ZERO));
     let listener = listen(&rt, &runtime, address, bound)?;
-    let http = http_of(rt, &runtime, answers, limits)?;
+    let http = http_of(rt, &runtime, answers, open, limits)?;
     let timers = runtime.handle().time().clone()?;
-    let most = limits.connections;
-    let clients = AcceptedClients::new(rt, rt.alloc(), timers, listener, stop, http, most)?;
+    let (most, grace) = (limits.connections, limits.grace);
+    let clients = AcceptedClients::new(rt, rt.alloc(), timers, listener, stops, grace, http, most)?;
     runtime.run_all(&rt, clients)
 }

@@ -3,14 +3,15 @@ ghost use Rattle.std.specs.Prelude.{◌<◌};
 ghost use Rattle.futures.specs.Poll.{OnPending};
 ghost use Rattle.futures.specs.Task.{Covers, Keeps};
 
-use crate::requests::{Answers, Given};
+use crate::account::SharedFacts;
+use crate::requests::{Answers, Given, TextKind};
 use crate::server::{ServeLimits, serve};
-use crate::texts::text_of;
+use client_streams::Stops;
 use crossbeam_channel::Sender;
 use futures::channel::oneshot;
 use futures::task::{Context, Poll};
 use futures::{Future, ready};
-use http_traffic::{Asked, Asking, Forward, Front, Outcome};
+use http_traffic::{Asking, Forward, Front, Outcome, Told};
 use object_store::SharedObject;
 use std::alloc::{AllocError, AllocGlobal, Global};
 use std::cell::RefCell;
@@ -18,7 +19,8 @@ use std::io;
 use std::net::{IpAddr, Ipv4Addr, Net, SocketAddr};
 use std::random::RandomSource;
 use std::rc::Rc;
-use std::sync::Wait;
+use std::sync::atomic::AtomicUsize;
+use std::sync::{Arc, Wait};
 use std::time::Clock;
 
 // State shared by all connections.
@@ -36,16 +38,22 @@ struct FrontAnswers<F> {
     context: Rc<ClientContext<F>>,
 }
 
-// Passes a request to the front, with `is_alone` by `Front::ask_alone`. Errors: the status to answer.
+// Passes the request of these facts to the front, with `is_alone` by `Front::ask_alone`. Errors: the status to answer.
 fn submit<F: Front>(
     context: &Rc<ClientContext<F>>,
-    asked: &Asked,
+    facts: &SharedFacts,
     is_alone: bool,
 ) -> Result<Waits<F>, u16> {
     let Ok(owner) = context.clone() else {
         return Err(503);
     };
     let Ok(mut front) = context.front.try_borrow_mut() else {
+        return Err(503);
+    };
+    let Ok(mut facts) = facts.0.try_borrow_mut() else {
+        return Err(503);
+    };
+    let Some(asked) = &facts.asked else {
         return Err(503);
     };
     let accepted = if is_alone {
@@ -56,8 +64,10 @@ fn submit<F: Front>(
     let Asking {
         client,
         forward,
+        began,
         answer,
     } = accepted?;
+    facts.note_accepted(forward, began);
     Ok(Waits {
         forward,
         answer,
@@ -95,17 +105,17 @@ impl<F: Front> Answers for FrontAnswers<F> {
         if method == "GET" { None } else { Some(501) }
     }
 
-    fn begin(&self, asked: Asked) -> Waiting<F> {
+    fn begin(&self, facts: SharedFacts) -> Waiting<F> {
         let alloc = self.context.alloc;
-        let mut asked = asked;
-        let (status, waits) = match submit(&self.context, &asked, false) {
+        let (status, waits) = match submit(&self.context, &facts, false) {
             Ok(waits) => (503, Some(waits)),
             Err(status) => (status, None),
         };
-        asked.content = Vec::new(alloc);
+        // The content is not forwarded.
+        let _ = facts.put_content(Vec::new(alloc));
         Waiting {
             alloc,
-            asked,
+            facts,
             status,
             waits,
         }
@@ -114,6 +124,12 @@ impl<F: Front> Answers for FrontAnswers<F> {
     fn note_answer(&self) {
         if let Ok(mut front) = self.context.front.try_borrow_mut() {
             front.answered();
+        }
+    }
+
+    fn tell(&self, told: &Told<'_>) {
+        if let Ok(mut front) = self.context.front.try_borrow_mut() {
+            front.tell(told);
         }
     }
 }
@@ -150,8 +166,7 @@ struct Waits<F: Front> {
 #[derive(Drop)]
 struct Waiting<F: Front> {
     alloc: Global,
-    // The request without its content, which is not forwarded.
-    asked: Asked,
+    facts: SharedFacts,
     // The status if the request was refused or its answer never comes.
     status: u16,
     waits: Option<Waits<F>>,
@@ -177,7 +192,7 @@ impl<F: Front> Waiting<F> {
     fn is_for_another(&self, answer: &Option<Outcome>) -> bool {
         if let Some(waits) = &self.waits
             && waits.forward == Forward::Collapsed
-            && let Some(Outcome::Got(object)) = answer
+            && let Some(Outcome::Got { object, .. }) = answer
         {
             return object.get().life() == 0;
         }
@@ -189,7 +204,7 @@ impl<F: Front> Waiting<F> {
         let Some(waits) = &self.waits else {
             return;
         };
-        let accepted = submit(&waits.guard.context, &self.asked, true);
+        let accepted = submit(&waits.guard.context, &self.facts, true);
         match accepted {
             Ok(waits) => self.waits = Some(waits),
             Err(status) => {
@@ -207,8 +222,20 @@ impl<F: Front> Waiting<F> {
         let Some(answer) = answer else {
             return Err(self.status);
         };
+        if let Ok(mut facts) = self.facts.0.try_borrow_mut() {
+            facts.note_outcome(&answer);
+        }
         let label = waits.guard.context.label.as_slice();
         given_of(self.alloc, label, waits.forward, answer)
+    }
+
+    // The content of a failure: its reason, and the target of the request.
+    fn failure(&self, status: u16) -> Given {
+        Given::Text {
+            status,
+            text: self.facts.failure(self.alloc, status),
+            kind: TextKind::Plain,
+        }
     }
 }
 
@@ -221,16 +248,10 @@ impl<F: Front> Future for Waiting<F> {
             self.ask_alone();
             answer = ready!(self.poll_front(cx));
         }
-        let status = match self.content(answer) {
-            Ok(given) => return Poll::Ready(given),
-            Err(status) => status,
-        };
-        let text = text_of(self.alloc, status, self.asked.target.as_bytes());
-        Poll::Ready(Given::Text {
-            status,
-            text: text.unwrap_or(Vec::new(self.alloc)),
-            is_json: false,
-        })
+        match self.content(answer) {
+            Ok(given) => Poll::Ready(given),
+            Err(status) => Poll::Ready(self.failure(status)),
+        }
     }
 }
 
@@ -238,7 +259,7 @@ impl<F: Front> Future for Waiting<F> {
 fn given_of(alloc: Global, label: &[u8], forward: Forward, answer: Outcome) -> Result<Given, u16> {
     let (object, age) = match answer {
         Outcome::Hit { object, age } => (object, Some(age)),
-        Outcome::Got(object) => (object, None),
+        Outcome::Got { object, .. } => (object, None),
         Outcome::Fail(status) => return Err(status),
     };
     let told = match age {
@@ -310,21 +331,28 @@ fn is_token_octet(octet: u8) -> bool {
     octet.is_ascii_alphanumeric() || b"!#$%&'*+-.^_`|~:/".contains(&octet)
 }
 
-/// Serves clients on the calling thread, as many concurrently as `limits.connections` says, until `stop` is ready or its sender is
-/// dropped; open connections then have `limits.grace` to end. Sends the address to `bound` once the socket is bound. Errors: the
-/// socket or the event loop failed.
+/// Serves clients on the calling thread, as many concurrently as `limits.connections` says, until `stops.stop` is ready or its sender
+/// is dropped; open connections then have `limits.grace` to end, unless `stops.hurry` is ready before. Sends the address to `bound`
+/// once the socket is bound, and keeps in `open` how many connections of clients are open that are admitted. Errors: the socket or the
+/// event loop failed.
 ///
 /// Only GET is served. A client that is not admitted gets 403 before its head is read, and a client that stays silent for too
 /// long is disconnected. If a client disconnects while it waits, `Front::gone` is called. A client that joined a fetch whose
 /// object may not be stored is not given it: its request is passed on once more, by `Front::ask_alone`. Responses with an object
 /// carry Cache-Status, and stored ones their Age; errors carry a line with the reason and a line with the URL.
+///
+/// `Front::tell` is called once for each request, once for each client that is not admitted, and once for each connection that ends
+/// within a request's head: with the status of the library's answer where the head could not be read, and otherwise without an answer.
+/// The status is then 408 if the client was silent for too long. A connection that ends between two requests, or without an octet, is
+/// not told.
 pub fn serve_clients<R, F>(
     rt: R,
     address: SocketAddr,
     name: &str,
     front: F,
     bound: Sender<SocketAddr, Global>,
-    stop: oneshot::Receiver<()>,
+    stops: Stops,
+    open: Arc<AtomicUsize>,
     limits: ServeLimits,
 ) -> io::Result<()>
 where
@@ -340,5 +368,5 @@ where
     let clients = FrontAnswers {
         context: Rc::new(alloc, context)?,
     };
-    serve(rt, address, clients, bound, stop, limits)
+    serve(rt, address, clients, bound, stops, Some(open), limits)
 }

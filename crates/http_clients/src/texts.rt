@@ -36,6 +36,18 @@ pub(crate) fn text_of(alloc: Global, status: u16, target: &[u8]) -> Result<Vec<u
     Ok(text)
 }
 
+/// Why a log is not opened anew.
+pub(crate) fn no_log(alloc: Global) -> Result<Vec<u8>, AllocError> {
+    b"404 Not Found: the configuration names no access log\n".to_vec(alloc)
+}
+
+/// What follows a request to stop.
+pub(crate) fn stopping(alloc: Global) -> Result<Vec<u8>, AllocError> {
+    b"202 Accepted: no more clients are accepted, and those connected have the grace to end; a second stop ends it at once\n".to_vec(
+        alloc,
+    )
+}
+
 /// Why a request to the administration is not answered.
 pub(crate) fn not_administrator(alloc: Global) -> Result<Vec<u8>, AllocError> {
     b"403 Forbidden: Host has to be 127.0.0.1 or localhost with this port, without Via and without an Origin of elsewhere\n".to_vec(
@@ -43,9 +55,12 @@ pub(crate) fn not_administrator(alloc: Global) -> Result<Vec<u8>, AllocError> {
     )
 }
 
+/// What a client is told that is not admitted.
+pub(crate) const FORBIDDEN: &str = "403 Forbidden: this address may not use this proxy\n";
+
 /// A complete 403 response, for a client that is not admitted.
 pub(crate) fn forbidden(alloc: Global) -> Result<Vec<u8>, AllocError> {
-    let body = "403 Forbidden: this address may not use this proxy\n";
+    let body = FORBIDDEN;
     let text = format!(in alloc;
         "HTTP/1.1 403 Forbidden\r\ncontent-type: text/plain\r\ncontent-length: {}\r\nconnection: close\r\n\r\n{}",
         body.len(),

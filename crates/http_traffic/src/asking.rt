@@ -2,7 +2,8 @@
 use futures::channel::oneshot;
 use http_header::HeaderMap;
 use object_store::SharedObject;
-use std::net::Ipv4Addr;
+use std::net::{IpAddr, Ipv4Addr};
+use std::time::Instant;
 
 /// A request with its complete content.
 #[derive(Drop)]
@@ -15,15 +16,32 @@ pub struct Asked {
     pub head: HeaderMap,
     /// The content.
     pub content: Vec<u8>,
+    /// The address of who sent it.
+    pub from: IpAddr,
+}
+
+/// Whom an object was fetched from.
+#[derive(Clone, Copy, Debug, PartialEq, Eq)]
+pub enum Supplier {
+    /// An origin server.
+    Origin,
+    /// The neighbour at this place of the configuration, which is asked only for what it has stored if it is a sibling.
+    Neighbour(usize),
 }
 
 /// The answer to a client.
 #[derive(Drop)]
 pub enum Outcome {
     /// A stored object, and its age in seconds.
-    Hit { object: SharedObject, age: u32 },
-    /// An object fetched for this request.
-    Got(SharedObject),
+    Hit {
+        object: SharedObject,
+        age: u32,
+    },
+    /// A fetched object, and whom it was fetched from.
+    Got {
+        object: SharedObject,
+        supplier: Option<Supplier>,
+    },
     /// No object; answer with this status.
     Fail(u16),
 }
@@ -46,8 +64,42 @@ pub struct Asking {
     pub client: u64,
     /// How it is forwarded, unless it is a hit.
     pub forward: Forward,
+    /// When it was accepted. `None` if the clock could not be read.
+    pub began: Option<Instant>,
     /// Receives the answer.
     pub answer: oneshot::Receiver<Outcome>,
+}
+
+/// How a request was answered.
+#[derive(Clone, Copy, Debug, PartialEq, Eq)]
+pub enum How {
+    /// By a stored object.
+    Hit,
+    /// By a fetch; the request was forwarded like this.
+    Fetch(Forward),
+    /// By the proxy itself: nothing was stored, and nothing fetched.
+    Own,
+}
+
+/// What became of a request, or of a connection that brought none.
+#[derive(Drop)]
+pub struct Told<'a> {
+    /// The address of the client.
+    pub from: IpAddr,
+    /// The request. `None` if none was read.
+    pub asked: Option<&'a Asked>,
+    /// When it was accepted. `None` if it was not, or if the clock could not be read.
+    pub began: Option<Instant>,
+    /// The status of its answer. `None` if the connection ended before there was one.
+    pub status: Option<u16>,
+    /// How it was answered, or would have been.
+    pub how: How,
+    /// Whom the object of the answer was fetched from.
+    pub supplier: Option<Supplier>,
+    /// The octets of the answer's content that were handed to the connection.
+    pub octets: u64,
+    /// Whether that was all of it.
+    pub is_whole: bool,
 }
 
 /// Accepts requests and has them answered. Called on the thread that serves.
@@ -66,6 +118,10 @@ pub trait Front: Drop {
     /// The client closed its connection before it was answered.
     fn gone(&mut self, client: u64);
 
-    /// Called once for each response, whatever its status.
+    /// Called once for each response, whatever its status, as it begins.
     fn answered(&mut self);
+
+    /// Called once for each request, when its answer has been handed to the connection or the connection has ended; and once for
+    /// each connection that was refused, broken or closed before it brought a request.
+    fn tell(&mut self, told: &Told<'_>);
 }

@@ -8,6 +8,6 @@ mod asking;
 mod orders;
 mod panel;
 
-pub use asking::{Asked, Asking, Forward, Front, Outcome};
+pub use asking::{Asked, Asking, Forward, Front, How, Outcome, Supplier, Told};
 pub use orders::{Admit, FetchEnd, Fetched, Job, Order, Page, Server};
 pub use panel::{CaptureFault, Panel, PutFault};

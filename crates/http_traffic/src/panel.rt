@@ -29,8 +29,8 @@ pub trait Panel: Drop {
     /// Whether the request is the administrator's. The other functions are called only for requests that are.
     fn admits(&mut self, asked: &Asked) -> bool;
 
-    /// Whether a request of the administrator may change anything. `put`, `clear` and `capture` are called only for
-    /// requests that may.
+    /// Whether a request of the administrator may change anything. `put`, `clear`, `reload`, `reopen_log`, `stop` and `capture` are
+    /// called only for requests that may.
     fn admits_change(&mut self, asked: &Asked) -> bool;
 
     /// Whether the slot exists. `put`, `clear` and `show` are called only for slots that exist.
@@ -50,6 +50,22 @@ pub trait Panel: Drop {
 
     /// The state of each neighbour, as JSON.
     fn neighbours(&mut self) -> Result<Vec<u8>, AllocError>;
+
+    /// Reads the files of the configuration's filters anew and installs them, all or none.
+    fn reload(&mut self) -> Result<(), PutFault>;
+
+    /// Opens the file of the access log anew. Returns whether there is one.
+    fn reopen_log(&mut self) -> bool;
+
+    /// Ends the proxy: no more clients are accepted, and those that are connected have some time to end. The second call ends that
+    /// time.
+    fn stop(&mut self);
+
+    /// All figures, in the text format of Prometheus.
+    fn metrics(&mut self) -> Result<Vec<u8>, AllocError>;
+
+    /// The figures of clients and fetches, as JSON.
+    fn clients(&mut self) -> Result<Vec<u8>, AllocError>;
 
     /// Begins to capture datagrams, within the limits of this query of a request target, if there is one. The file's octets come
     /// in pieces until the capture ends, which it does also where the receiver is dropped.

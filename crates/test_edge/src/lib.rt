@@ -1,7 +1,7 @@
 //! Tests of the network edge over loopback: `client_streams`, `object_body`, `fetch_chain`, `http_clients`, `http_fetches` and
 //! `name_lookup`, against clients and origin servers on plain sockets. Nothing here has a contract that another crate uses.
 //!
-//! Tested by: src/budget.rt, src/fetches.rt, src/names.rt, src/path.rt, src/seats.rt, src/servers.rt.
+//! Tested by: src/budget.rt, src/fetches.rt, src/names.rt, src/path.rt, src/seats.rt, src/servers.rt, src/told.rt.
 #![tactic(auto)]
 
 #[cfg(test)]
@@ -22,3 +22,5 @@ mod path;
 mod seats;
 #[cfg(test)]
 mod servers;
+#[cfg(test)]
+mod told;

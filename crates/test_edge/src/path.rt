@@ -4,13 +4,16 @@ ghost use Rattle.std.specs.Prelude.{◌<◌};
 use crate::clients::{exchange, has};
 use crate::limits::{fetch_limits, fetch_rules, serve_limits};
 use crate::origin;
+use crate::servers::{new_stops, uncounted};
 use crossbeam_channel::unbounded;
 use fetch_chain::Submit;
 use futures::channel::mpsc::UnboundedSender;
 use futures::channel::{mpsc, oneshot};
 use http_clients::serve_clients;
 use http_fetches::{FetchLimits, run_fetches};
-use http_traffic::{Asked, Asking, FetchEnd, Fetched, Forward, Front, Job, Order, Outcome};
+use http_traffic::{
+    Asked, Asking, FetchEnd, Fetched, Forward, Front, Job, Order, Outcome, Supplier, Told,
+};
 use name_lookup::{NameDesk, NameLimits, hand_over, open_names};
 use object_store::{Object, SharedObject};
 use std::alloc::Global;
@@ -85,6 +88,7 @@ impl<R: Wait + Clock + Copy> Asks<R> {
         Some(Asking {
             client: self.next,
             forward: Forward::Miss,
+            began: None,
             answer,
         })
     }
@@ -113,6 +117,8 @@ impl<R: Wait + Clock + Copy> Front for Asks<R> {
             let _ = stop.send(());
         }
     }
+
+    fn tell(&mut self, _told: &Told<'_>) {}
 }
 
 // Stores the fetched object in the table, and answers the client.
@@ -134,7 +140,10 @@ impl<R: Wait + Copy> Submit<Fetched> for Puts<R> {
             let _ = match answer {
                 Some(object) => {
                     table.object = object.share().ok();
-                    waiting.send(Outcome::Got(object))
+                    waiting.send(Outcome::Got {
+                        object,
+                        supplier: Some(Supplier::Origin),
+                    })
                 }
                 None => waiting.send(Outcome::Fail(502)),
             };
@@ -159,7 +168,8 @@ fn a_miss_and_a_hit(rt: HostRuntime) -> Result<(), Fail> {
     let listener = TcpListener::bind(&rt, "127.0.0.1:0")?;
     let port = listener.local_addr()?.port();
     let (bound, told) = unbounded(alloc)?;
-    let (stop, stopped) = oneshot::channel(alloc)?;
+    let (stop, _hurry, stopped) = new_stops(alloc)?;
+    let open = uncounted(alloc)?;
     let (names, _clerk) = open_names(alloc, NameLimits::usual())?;
     let rules = fetch_rules(alloc, 1000)?;
     let (jobs, work) = mpsc::unbounded(alloc)?;
@@ -195,7 +205,16 @@ fn a_miss_and_a_hit(rt: HostRuntime) -> Result<(), Fail> {
     let address = SocketAddr::V4(SocketAddrV4::new(Ipv4Addr::new(127, 0, 0, 1), 0));
     let server = thread::spawn(
         &rt,
-        move || serve_clients(rt, address, "edge", asks, bound, stopped, serve_limits()),
+        move || serve_clients(
+            rt,
+            address,
+            "edge",
+            asks,
+            bound,
+            stopped,
+            open,
+            serve_limits(),
+        ),
     )?;
     let address = told.recv(&rt)?;
     let sent = b"GET http://127.0.0.1/minute HTTP/1.1\r\nHost: o\r\n\r\n";

@@ -2,10 +2,9 @@
 use crate::clients::Seen::{Answered, Closed, Silent};
 use crate::clients::{Seen, seen_after};
 use crate::limits::{client_limits, serve_limits};
-use crate::servers::Script;
+use crate::servers::{Script, new_stops, uncounted};
 use client_streams::ClientLimits;
 use crossbeam_channel::unbounded;
-use futures::channel::oneshot;
 use http_clients::{ServeLimits, serve_clients};
 use std::alloc::{AllocGlobal, Global};
 use std::net::{Ipv4Addr, Net, SocketAddr, SocketAddrV4, TcpStream};
@@ -112,12 +111,13 @@ fn seats_are_given_and_taken(rt: HostRuntime) -> Result<(), Fail> {
         (client_limits(2, 64), NOBODY_IDLE.as_slice()),
     ] {
         let (bound, told) = unbounded(alloc)?;
-        let (stop, stopped) = oneshot::channel(alloc)?;
-        let script = Script::new(alloc)?;
+        let (stop, _hurry, stopped) = new_stops(alloc)?;
+        let open = uncounted(alloc)?;
+        let script = Script::new(rt)?;
         let limits = patient_limits(connections);
         let server = thread::spawn(
             &rt,
-            move || serve_clients(rt, address, "edge", script, bound, stopped, limits),
+            move || serve_clients(rt, address, "edge", script, bound, stopped, open, limits),
         )?;
         let seen = take_steps(&rt, alloc, told.recv(&rt)?, steps);
         let _ = stop.send(());

@@ -1,17 +1,19 @@
 //! Tests of the servers for clients and for administration.
 use crate::clients::{exchange, has, is_ended_after};
 use crate::limits::{client_limits, serve_limits};
-use client_streams::{Accept, AcceptedClients, Patient, Refusal, SharedStage};
-use crossbeam_channel::unbounded;
+use client_streams::{Accept, AcceptedClients, Patient, Refusal, SharedStage, Stops};
+use crossbeam_channel::{Sender, unbounded};
 use filter_slots::Slot;
 use futures::channel::{mpsc, oneshot};
 use http_clients::{serve_admin, serve_clients};
-use http_traffic::{Asked, Asking, CaptureFault, Forward, Front, Outcome, Panel, PutFault};
+use http_traffic::{
+    Asked, Asking, CaptureFault, Forward, Front, How, Outcome, Panel, PutFault, Supplier, Told,
+};
 use object_store::{Object, SharedObject};
 use std::alloc::{AllocError, AllocGlobal, Global};
 use std::net::{Ipv4Addr, Net, SocketAddr, SocketAddrV4};
 use std::random::RandomSource;
-use std::sync::atomic::{AtomicU64, Ordering};
+use std::sync::atomic::{AtomicU64, AtomicUsize, Ordering};
 use std::sync::{Arc, Wait};
 use std::test::Fail;
 use std::time::{Clock, Duration};
@@ -22,7 +24,8 @@ use tokio::time::Handle;
 
 // Answers by the request target alone, and counts its answers.
 #[derive(Drop)]
-pub(crate) struct Script {
+pub(crate) struct Script<R> {
+    rt: R,
     alloc: Global,
     next: u64,
     // Senders of answers that are never sent.
@@ -31,19 +34,46 @@ pub(crate) struct Script {
     gone: Arc<AtomicU64>,
     answered: Option<oneshot::Sender<()>>,
     left: u32,
+    // Receives what it is told.
+    told: Option<Sender<Line, Global>>,
 }
 
-impl Script {
+/// What a front is told of a request.
+#[derive(Clone, Copy, Debug, PartialEq, Eq)]
+pub(crate) struct Line {
+    /// Whether there is a request.
+    pub(crate) is_asked: bool,
+    pub(crate) status: Option<u16>,
+    pub(crate) how: How,
+    pub(crate) supplier: Option<Supplier>,
+    pub(crate) octets: u64,
+    pub(crate) is_whole: bool,
+}
+
+/// The octets of the answer for http://o/huge, which are more than the buffers of a connection take.
+pub(crate) const HUGE: usize = 8 * 1024 * 1024;
+
+impl<R: AllocGlobal + Copy> Script<R> {
     /// A front that nobody watches.
-    pub(crate) fn new(alloc: Global) -> Result<Script, AllocError> {
+    pub(crate) fn new(rt: R) -> Result<Script<R>, AllocError> {
+        let alloc = rt.alloc();
         Ok(Script {
+            rt,
             alloc,
             next: 0,
             kept: Vec::new(alloc),
             gone: Arc::new(alloc, AtomicU64::new(0))?,
             answered: None,
             left: 0,
+            told: None,
         })
+    }
+
+    /// A front that passes on what it is told.
+    pub(crate) fn telling(rt: R, told: Sender<Line, Global>) -> Result<Script<R>, AllocError> {
+        let mut script = Script::new(rt)?;
+        script.told = Some(told);
+        Ok(script)
     }
 
     fn answer(&self, target: &str) -> Result<Outcome, AllocError> {
@@ -54,10 +84,11 @@ impl Script {
             b"content-length".to_vec(self.alloc)?,
             b"99".to_vec(self.alloc)?,
         ))?;
-        let body = if target == "http://o/big" {
-            vec![in self.alloc; b'b'; 200_000]?
-        } else {
-            b"hi".to_vec(self.alloc)?
+        let body = match target {
+            "http://o/big" => vec![in self.alloc; b'b'; 200_000]?,
+            "http://o/huge" => vec![in self.alloc; b'b'; HUGE]?,
+            "http://o/nothing" => Vec::new(self.alloc),
+            _ => b"hi".to_vec(self.alloc)?,
         };
         let life = if target == "http://o/anothers" || target == "http://o/full" {
             0
@@ -68,7 +99,10 @@ impl Script {
         match target {
             "http://o/hit" => Ok(Outcome::Hit { object, age: 17 }),
             "http://o/fail" => Ok(Outcome::Fail(502)),
-            _ => Ok(Outcome::Got(object)),
+            _ => Ok(Outcome::Got {
+                object,
+                supplier: Some(Supplier::Neighbour(3)),
+            }),
         }
     }
 
@@ -89,12 +123,13 @@ impl Script {
         Ok(Asking {
             client: self.next,
             forward,
+            began: None,
             answer,
         })
     }
 }
 
-impl Front for Script {
+impl<R: Wait + AllocGlobal + Copy> Front for Script<R> {
     fn allows(&mut self, address: Ipv4Addr) -> bool {
         false
     }
@@ -131,6 +166,38 @@ impl Front for Script {
             let _ = stop.send(());
         }
     }
+
+    fn tell(&mut self, told: &Told<'_>) {
+        if let Some(lines) = &self.told {
+            let line = Line {
+                is_asked: matches!(told.asked, Some(asked) if asked.from == told.from),
+                status: told.status,
+                how: told.how,
+                supplier: told.supplier,
+                octets: told.octets,
+                is_whole: told.is_whole,
+            };
+            let _ = lines.send(&self.rt, line);
+        }
+    }
+}
+
+/// What ends a server, and the two senders of it.
+pub(crate) fn new_stops(
+    alloc: Global,
+) -> Result<(oneshot::Sender<()>, oneshot::Sender<()>, Stops), AllocError> {
+    let (stop, stopped) = oneshot::channel(alloc)?;
+    let (hurry, hurried) = oneshot::channel(alloc)?;
+    let stops = Stops {
+        stop: stopped,
+        hurry: hurried,
+    };
+    Ok((stop, hurry, stops))
+}
+
+/// A count of connections that nobody reads.
+pub(crate) fn uncounted(alloc: Global) -> Result<Arc<AtomicUsize>, AllocError> {
+    Ok(Arc::new(alloc, AtomicUsize::new(0))?)
 }
 
 // What is sent, the parts that the response must contain, and the part that it must not contain.
@@ -332,19 +399,25 @@ fn clients_are_answered(rt: HostRuntime) -> Result<(), Fail> {
     let (bound, told) = unbounded(alloc)?;
     let left = Arc::new(alloc, AtomicU64::new(0))?;
     let gone = Arc::try_clone(&left)?;
-    let (stop, stopped) = oneshot::channel(alloc)?;
-    let script = Script {
-        alloc,
-        next: 0,
-        kept: Vec::new(alloc),
-        gone,
-        answered: Some(stop),
-        left: 16,
-    };
+    let (stop, _hurry, stopped) = new_stops(alloc)?;
+    let open = uncounted(alloc)?;
+    let mut script = Script::new(rt)?;
+    script.gone = gone;
+    script.answered = Some(stop);
+    script.left = 16;
     let address = SocketAddr::V4(SocketAddrV4::new(Ipv4Addr::new(127, 0, 0, 1), 0));
     let server = thread::spawn(
         &rt,
-        move || serve_clients(rt, address, "edge", script, bound, stopped, serve_limits()),
+        move || serve_clients(
+            rt,
+            address,
+            "edge",
+            script,
+            bound,
+            stopped,
+            open,
+            serve_limits(),
+        ),
     )?;
     let server_address = told.recv(&rt)?;
     for (sent, wanted, unwanted) in CASES {
@@ -367,6 +440,8 @@ fn clients_are_answered(rt: HostRuntime) -> Result<(), Fail> {
 struct Board {
     alloc: Global,
     filter: Option<Vec<u8>>,
+    stop: Option<oneshot::Sender<()>>,
+    hurry: Option<oneshot::Sender<()>>,
 }
 
 impl Panel for Board {
@@ -416,6 +491,37 @@ impl Panel for Board {
         b"[]".to_vec(self.alloc)
     }
 
+    fn reload(&mut self) -> Result<(), PutFault> {
+        match &self.filter {
+            Some(text) if has(text.as_slice(), b"#8") => Err(PutFault::NoMemory),
+            Some(_) => match b"icp.txt:1: no\n".to_vec(self.alloc) {
+                Ok(line) => Err(PutFault::NoFilter(line)),
+                Err(_) => Err(PutFault::NoMemory),
+            },
+            None => Ok(()),
+        }
+    }
+
+    fn reopen_log(&mut self) -> bool {
+        self.filter.is_none()
+    }
+
+    fn stop(&mut self) {
+        if let Some(stop) = self.stop.take() {
+            let _ = stop.send(());
+        } else if let Some(hurry) = self.hurry.take() {
+            let _ = hurry.send(());
+        }
+    }
+
+    fn metrics(&mut self) -> Result<Vec<u8>, AllocError> {
+        b"wabretos_hits_total 1\n".to_vec(self.alloc)
+    }
+
+    fn clients(&mut self) -> Result<Vec<u8>, AllocError> {
+        b"{\"clients\":1}".to_vec(self.alloc)
+    }
+
     fn capture(&mut self, query: Option<&str>) -> Result<mpsc::Receiver<Vec<u8>>, CaptureFault> {
         match query {
             None => match two_pieces(self.alloc) {
@@ -440,7 +546,61 @@ fn two_pieces(alloc: Global) -> Result<mpsc::Receiver<Vec<u8>>, AllocError> {
 }
 
 // Requests in order, and the parts that each response must contain.
-const ADMINISTRATION: [(&[u8], [&[u8]; 2]); 30] = [
+const ADMINISTRATION: [(&[u8], [&[u8]; 2]); 43] = [
+    (
+        b"POST /filters/reload HTTP/1.1\r\nHost: o\r\nConnection: close\r\n\r\n",
+        [b"HTTP/1.1 204 No Content", b""],
+    ),
+    (
+        b"POST /log/reopen HTTP/1.1\r\nHost: o\r\nConnection: close\r\n\r\n",
+        [b"HTTP/1.1 204 No Content", b""],
+    ),
+    (
+        b"GET /metrics HTTP/1.1\r\nHost: o\r\nConnection: close\r\n\r\n",
+        [
+            b"\r\ncontent-type: text/plain; version=0.0.4; charset=utf-8\r\n",
+            b"\r\n\r\nwabretos_hits_total 1\n",
+        ],
+    ),
+    (
+        b"GET /stats/clients HTTP/1.1\r\nHost: o\r\nConnection: close\r\n\r\n",
+        [
+            b"\r\ncontent-type: application/json\r\n",
+            b"\r\n\r\n{\"clients\":1}",
+        ],
+    ),
+    (
+        b"GET / HTTP/1.1\r\nHost: o\r\nConnection: close\r\n\r\n",
+        [
+            b"\r\ncontent-type: text/html; charset=utf-8\r\ncontent-security-policy: default-src 'none'",
+            b"\r\nx-content-type-options: nosniff\r\ncache-control: no-store\r\nreferrer-policy: no-referrer\r\n",
+        ],
+    ),
+    (
+        b"GET http://elsewhere/ HTTP/1.1\r\nHost: o\r\nConnection: close\r\n\r\n",
+        [
+            b"HTTP/1.1 403 Forbidden",
+            b"\r\n\r\n403 Forbidden: Host has to be ",
+        ],
+    ),
+    (
+        b"GET /stop HTTP/1.1\r\nHost: o\r\nConnection: close\r\n\r\n",
+        [b"HTTP/1.1 404 Not Found", b"/stop\n"],
+    ),
+    (
+        b"POST /stop HTTP/1.1\r\nHost: o\r\nX-Forged: 1\r\nConnection: close\r\n\r\n",
+        [
+            b"HTTP/1.1 401 Unauthorized",
+            b"\r\nwww-authenticate: Bearer\r\n",
+        ],
+    ),
+    (
+        b"POST /filters/reload HTTP/1.1\r\nHost: o\r\nX-Forged: 1\r\nConnection: close\r\n\r\n",
+        [
+            b"HTTP/1.1 401 Unauthorized",
+            b"\r\nwww-authenticate: Bearer\r\n",
+        ],
+    ),
     (
         b"PUT /filter/icp HTTP/1.1\r\nHost: o\r\nContent-Length: 6\r\n\r\nret #0",
         [b"HTTP/1.1 204 No Content", b""],
@@ -483,6 +643,17 @@ const ADMINISTRATION: [(&[u8], [&[u8]; 2]); 30] = [
         [b"HTTP/1.1 403 Forbidden", b""],
     ),
     (
+        b"POST /filters/reload HTTP/1.1\r\nHost: o\r\nConnection: close\r\n\r\n",
+        [b"HTTP/1.1 400 Bad Request", b"\r\n\r\nicp.txt:1: no\n"],
+    ),
+    (
+        b"POST /log/reopen HTTP/1.1\r\nHost: o\r\nConnection: close\r\n\r\n",
+        [
+            b"HTTP/1.1 404 Not Found",
+            b"\r\n\r\n404 Not Found: the configuration names no access log\n",
+        ],
+    ),
+    (
         b"GET /filter/icp HTTP/1.1\r\nHost: o\r\nX-Forged: 1\r\n\r\n",
         [b"HTTP/1.1 200 OK", b"\r\n\r\nret #0"],
     ),
@@ -501,6 +672,13 @@ const ADMINISTRATION: [(&[u8], [&[u8]; 2]); 30] = [
     (
         b"GET /filter/neighbour/0 HTTP/1.1\r\nHost: o\r\n\r\n",
         [b"HTTP/1.1 200 OK", b"\r\n\r\nret #8"],
+    ),
+    (
+        b"POST /filters/reload HTTP/1.1\r\nHost: o\r\nConnection: close\r\n\r\n",
+        [
+            b"HTTP/1.1 503 Service Unavailable",
+            b"\r\n\r\n503 Service Unavailable",
+        ],
     ),
     (
         b"GET /filter/neighbour/2 HTTP/1.1\r\nHost: o\r\n\r\n",
@@ -576,20 +754,31 @@ const ADMINISTRATION: [(&[u8], [&[u8]; 2]); 30] = [
         b"PUT /filter/icp HTTP/1.1\r\nHost: o\r\nTransfer-Encoding: chunked\r\n\r\nzz\r\n",
         [b"HTTP/1.1 400 ", b"\r\nconnection: close\r\n"],
     ),
+    (
+        b"POST /stop HTTP/1.1\r\nHost: o\r\n\r\nPOST /stop HTTP/1.1\r\nHost: o\r\n\r\n",
+        [
+            b"HTTP/1.1 202 Accepted",
+            b"\r\n\r\n202 Accepted: no more clients are accepted",
+        ],
+    ),
 ];
 
 #[test]
 fn administrators_are_answered(rt: HostRuntime) -> Result<(), Fail> {
     let alloc = rt.alloc();
     let (bound, told) = unbounded(alloc)?;
-    let (stop, stopped) = oneshot::channel(alloc)?;
+    let (stop, hurry, stopped) = new_stops(alloc)?;
     let board = Board {
         alloc,
         filter: None,
+        stop: Some(stop),
+        hurry: Some(hurry),
     };
+    let mut limits = serve_limits();
+    limits.grace = Duration::from_secs(3_600);
     let server = thread::spawn(
         &rt,
-        move || serve_admin(rt, 0, board, bound, stopped, serve_limits()),
+        move || serve_admin(rt, 0, board, bound, stopped, limits),
     )?;
     let address = told.recv(&rt)?;
     for (sent, wanted) in ADMINISTRATION {
@@ -602,7 +791,7 @@ fn administrators_are_answered(rt: HostRuntime) -> Result<(), Fail> {
             }
         }
     }
-    let _ = stop.send(());
+    // The last request has stopped it, and ended the grace.
     server.join(&rt)?;
     Ok(())
 }
@@ -635,17 +824,13 @@ impl<R: Clock + Copy> Accept for Refusing<R> {
 }
 
 // Runs a server that refuses clients, until it is told to stop.
-fn refuse<R>(
-    rt: R,
-    bound: crossbeam_channel::Sender<SocketAddr, Global>,
-    stop: oneshot::Receiver<()>,
-) -> io::Result<()>
+fn refuse<R>(rt: R, bound: Sender<SocketAddr, Global>, stops: Stops) -> io::Result<()>
 where
     R: Wait + Clock + RandomSource + AllocGlobal + Net + Copy,
 {
     let alloc = rt.alloc();
     let mut runtime = LocalRuntime::new(&rt)?;
-    runtime.set_shutdown_timeout(Some(Duration::from_millis(200)));
+    runtime.set_shutdown_timeout(Some(Duration::ZERO));
     let address = SocketAddr::V4(SocketAddrV4::new(Ipv4Addr::new(127, 0, 0, 1), 0));
     let listener = TcpListener::bind(&rt, address, runtime.handle().reactor())?;
     let _ = bound.send(&rt, listener.local_addr()?);
@@ -656,7 +841,8 @@ where
         timers: runtime.handle().time().clone()?,
     };
     let limits = client_limits(64, 64);
-    let clients = AcceptedClients::new(rt, alloc, timers, listener, stop, accept, limits)?;
+    let grace = Duration::from_millis(200);
+    let clients = AcceptedClients::new(rt, alloc, timers, listener, stops, grace, accept, limits)?;
     runtime.run_all(&rt, clients)
 }
 
@@ -664,7 +850,7 @@ where
 fn clients_are_refused(rt: HostRuntime) -> Result<(), Fail> {
     let alloc = rt.alloc();
     let (bound, told) = unbounded(alloc)?;
-    let (stop, stopped) = oneshot::channel(alloc)?;
+    let (stop, _hurry, stopped) = new_stops(alloc)?;
     let server = thread::spawn(&rt, move || refuse(rt, bound, stopped))?;
     let address = told.recv(&rt)?;
     let got = exchange(
