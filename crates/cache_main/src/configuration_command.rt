@@ -1,7 +1,7 @@
 //! The command `serve --check`: reads a configuration, tells what is wrong or odd in it, and binds no socket.
 
 use crate::NO_OUTPUT;
-use crate::serve_command::settings_in;
+use crate::serve_command::{filters_of, settings_in};
 use node_core::Network;
 use std::fs;
 use std::net::Ipv4Addr;
@@ -23,6 +23,9 @@ pub fn check_configuration(rt: &HostRuntime, file: &str) -> ExitCode {
     warn_of(rt, "allowed", settings.node.allowed.as_slice());
     if let Some(networks) = &settings.deny_origins {
         warn_of(rt, "deny_origins", networks.as_slice());
+    }
+    if filters_of(rt, &settings).is_none() {
+        return ExitCode::FAILURE;
     }
     if println!(rt; "ok").is_err() {
         let _ = eprintln!(rt; "{NO_OUTPUT}");

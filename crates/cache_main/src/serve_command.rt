@@ -1,12 +1,17 @@
 //! The command `serve`: runs the proxy until it has given its last answer.
 ghost use Rattle.std.specs.Prelude.{◌≡◌};
 
-use cache_serve::{Port, ProxyLimits, SEATS, ServeFault, start};
-use serve_config::Settings;
+use access_log::Form;
+use cache_serve::{Equipment, Finish, Port, ProxyLimits, SEATS, ServeFault, Site, start};
+use command_line::VERSION;
+use filter_files::{FilesFault, Filter, read_filters};
+use log_writer::{LogPlace, open_log};
+use proxy_node::AccessLog;
+use serve_config::{LogFormat, Settings};
 use std::alloc::AllocGlobal;
 use std::fs;
 use std::fs::Files;
-use std::io::{Eprint, Print};
+use std::io::{Eprint, ErrorKind, Print};
 use std::net::Net;
 use std::random::RandomSource;
 use std::sync::Wait;
@@ -16,11 +21,13 @@ use std::time::Clock;
 
 /// Reads the settings from a configuration file. On a fault prints its line on standard error and returns `None`.
 pub fn settings_of<R: Files + AllocGlobal + Eprint>(rt: &R, file: &str) -> Option<Settings> {
-    let Ok(text) = fs::read(rt, file) else {
-        let _ = eprintln!(rt; "file fault");
-        return None;
-    };
-    settings_in(rt, text.as_slice())
+    match fs::read(rt, file) {
+        Ok(text) => settings_in(rt, text.as_slice()),
+        Err(fault) => {
+            let _ = eprintln!(rt; "file fault\n{file}: {fault}");
+            None
+        }
+    }
 }
 
 /// Parses the settings in a text. On a fault prints its line on standard error and returns `None`.
@@ -45,6 +52,7 @@ where
         + Clock
         + RandomSource
         + AllocGlobal
+        + Files
         + Print
         + Eprint
         + Copy
@@ -52,15 +60,22 @@ where
         + 'static,
     R::Stream: Send + 'static,
     R::Listener: Send + 'static,
+    R::File: Send + 'static,
+    R::Dir: Send + 'static,
     requires name { blank.name ≡ L.name }
     requires parts { blank.parts ≡ L.parts }
     requires seats { blank.parts ≡ SEATS }
 {
-    match start::<L, R>(rt, blank, settings, ProxyLimits::usual()) {
+    let Some(equipment) = equipment_of(&rt, &settings) else {
+        return false;
+    };
+    let asked = AskedPorts::of(&settings);
+    match start::<L, R>(rt, blank, settings, equipment, ProxyLimits::usual()) {
         Ok(site) => {
             let _ = println!(rt; "ready");
+            tell_ports(&rt, &site, &asked);
             match site.finish(rt) {
-                Ok(_) => true,
+                Ok(finish) => tell_finish(&rt, &finish),
                 Err(fault) => tell_end(&rt, fault),
             }
         }
@@ -68,20 +83,152 @@ where
     }
 }
 
+/// The filters and the access log that a configuration names. On a fault prints its line on standard error and returns `None`.
+fn equipment_of<R: Files + AllocGlobal + Eprint>(
+    rt: &R,
+    settings: &Settings,
+) -> Option<Equipment<R::File>> {
+    let filters = filters_of(rt, settings)?;
+    let Some(place) = &settings.access_log else {
+        return Some(Equipment {
+            filters,
+            log: None,
+            version: VERSION,
+        });
+    };
+    let form = match settings.access_log_format {
+        LogFormat::Common => Form::Common,
+        LogFormat::Json => Form::Json,
+    };
+    match open_log(rt, rt.alloc(), place_of(rt, place)?) {
+        Ok((desk, task)) => Some(Equipment {
+            filters,
+            log: Some((AccessLog { desk, form }, task)),
+            version: VERSION,
+        }),
+        Err(fault) => {
+            let _ = eprintln!(rt; "config fault 6\naccess_log: {place}: {fault}");
+            None
+        }
+    }
+}
+
+/// Where the access log is written. On a fault prints its line on standard error and returns `None`.
+fn place_of<R: AllocGlobal + Eprint>(rt: &R, place: &String) -> Option<LogPlace> {
+    if place.as_str() == "-" {
+        return Some(LogPlace::Output);
+    }
+    match String::from_str(rt.alloc(), place.as_str()) {
+        Ok(path) => Some(LogPlace::File(path)),
+        Err(_) => {
+            let _ = eprintln!(rt; "config fault 5");
+            None
+        }
+    }
+}
+
+/// The filters in the files that a configuration names. On a fault prints its line on standard error and returns `None`.
+pub fn filters_of<R: Files + AllocGlobal + Eprint>(
+    rt: &R,
+    settings: &Settings,
+) -> Option<Vec<Filter>> {
+    match read_filters(rt, settings.filters.as_slice()) {
+        Ok(filters) => Some(filters),
+        Err(FilesFault::NoMemory) => {
+            let _ = eprintln!(rt; "config fault 5");
+            None
+        }
+        Err(fault) => {
+            let _ = eprintln!(rt; "config fault 6\n{fault}");
+            None
+        }
+    }
+}
+
+/// The ports that a configuration asks for.
+#[derive(Clone, Copy)]
+struct AskedPorts {
+    icp: u16,
+    htcp: u16,
+    clients: u16,
+    administration: u16,
+}
+
+impl AskedPorts {
+    fn of(settings: &Settings) -> AskedPorts {
+        AskedPorts {
+            icp: settings.node.icp.port,
+            htcp: settings.node.htcp.port,
+            clients: settings.http_port,
+            administration: settings.admin_port,
+        }
+    }
+}
+
+/// Prints the port that the system chose for each that was asked for as 0.
+fn tell_ports<R: Eprint, L: Ledger + Send + Sync + 'static>(
+    rt: &R,
+    site: &Site<L>,
+    asked: &AskedPorts,
+) {
+    let Some(chosen) = site.addresses() else {
+        return;
+    };
+    tell_port(rt, "icp_port", asked.icp, chosen.icp.port);
+    tell_port(rt, "htcp_port", asked.htcp, chosen.htcp.port);
+    tell_port(rt, "http_port", asked.clients, chosen.clients.port());
+    tell_port(
+        rt,
+        "admin_port",
+        asked.administration,
+        chosen.administration.port(),
+    );
+}
+
+/// Prints a port that was asked for as 0.
+fn tell_port<R: Eprint>(rt: &R, key: &str, asked: u16, chosen: u16) {
+    if asked == 0 {
+        let _ = eprintln!(rt; "{key}: {chosen}");
+    }
+}
+
+/// Prints whether lines of the access log are lost, and how many events were settled if an administrator ended the proxy. Returns
+/// `true`.
+fn tell_finish<R: Eprint>(rt: &R, finish: &Finish) -> bool {
+    if !finish.is_logged {
+        let _ = eprintln!(rt; "access log: the last lines are lost: nothing takes them");
+    }
+    if finish.was_asked {
+        let count = finish.report.count;
+        let _ = eprintln!(rt; "stopped, {count} events settled");
+    }
+    true
+}
+
 /// Prints why the proxy did not start. Returns `false`.
 fn tell_start<R: Eprint>(rt: &R, fault: ServeFault) -> bool {
     let _ = match fault {
         ServeFault::Node(fault) => eprintln!(rt; "config fault 3\n{fault}"),
         ServeFault::Volume => eprintln!(rt; "config fault 3\nvolume: not 1 to 1048576"),
-        ServeFault::Bind(port) => {
-            let key = key_of(port);
-            eprintln!(rt; "config fault 4\n{key}: no socket can be bound there")
+        ServeFault::Bind(port, kind) => {
+            let (key, why) = (key_of(port), reason_of(kind));
+            eprintln!(rt; "config fault 4\n{key}: no socket can be bound there{why}")
         }
         ServeFault::NoMemory => eprintln!(rt; "config fault 5"),
         ServeFault::Settle => eprintln!(rt; "serve fault 2"),
         ServeFault::QuerySocket => eprintln!(rt; "serve fault 3"),
     };
     false
+}
+
+/// Why a socket was not bound, as the end of a line.
+fn reason_of(kind: ErrorKind) -> &'static str {
+    match kind {
+        ErrorKind::AddrInUse => ": another program has it",
+        ErrorKind::AddrNotAvailable => ": the address is none of this host",
+        ErrorKind::PermissionDenied => ": not permitted, as ports below 1024 are not to every user",
+        _ => "",
+    }
 }
 
 /// Prints why a running proxy stopped. Returns `false`.

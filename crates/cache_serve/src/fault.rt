@@ -1,5 +1,6 @@
 //! Errors of starting and of running a proxy.
 use node_core::NodeFault;
+use std::io::ErrorKind;
 
 /// A port that the configuration sets.
 #[derive(Clone, Copy, Debug, PartialEq, Eq)]
@@ -22,7 +23,7 @@ pub enum ServeFault {
     /// The size of a volume of the event log is out of range.
     Volume,
     /// A socket cannot be bound, or its server failed.
-    Bind(Port),
+    Bind(Port, ErrorKind),
     /// Out of memory in some thread.
     NoMemory,
     /// The receipts of the seats do not agree with the event log.

@@ -17,4 +17,4 @@ mod tasks;
 
 pub use fault::{Port, ServeFault};
 pub use limits::{ProxyLimits, SEATS};
-pub use site::{Addresses, Site, start};
+pub use site::{Addresses, Equipment, Finish, Site, start};

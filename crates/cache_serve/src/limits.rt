@@ -21,9 +21,9 @@ pub const SEATS: u64 = FETCHERS as u64 + 3;
 /// The threads that are joined: all but those that look up names.
 pub const THREADS: usize = SEATS as usize;
 
-/// The capacity of the channel that asks the proxy to end. Each thread sends at most two such messages, and one audit sends one,
-/// so that sending never waits and never allocates.
-pub const ENDS: usize = 2 * THREADS + 1;
+/// The capacity of the channel that asks the proxy to end. Each thread sends at most two such messages, one audit sends one, and the
+/// administration one, so that sending never waits and never allocates.
+pub const ENDS: usize = 2 * THREADS + 2;
 
 /// The most datagrams of other threads that the query thread sends before it receives again.
 pub const SENDS_A_TURN: u32 = 64;
@@ -36,6 +36,9 @@ const CLIENT_CONTENT: usize = 65_536;
 
 /// The most octets of the content of an administrator's request.
 const ADMINISTRATION_CONTENT: usize = 262_144;
+
+/// How many seconds the end waits for what the access log is written to.
+pub const LOG_GRACE: u64 = 5;
 
 /// Limits on the sockets and fetches of a proxy.
 #[derive(Clone, Copy)]
@@ -57,7 +60,10 @@ impl ProxyLimits {
         ProxyLimits {
             clients: serve_limits(4_096, ADDRESS_CONNECTIONS, CLIENT_CONTENT),
             // (no limit of an address, so that where all 64 are taken the longest idle one gives way)
-            administration: serve_limits(64, 65, ADMINISTRATION_CONTENT),
+            administration: ServeLimits {
+                grace: Duration::from_secs(1),
+                ..serve_limits(64, 65, ADMINISTRATION_CONTENT)
+            },
             connecting: Duration::from_secs(5),
             fetching: Duration::from_secs(30),
         }
@@ -65,7 +71,8 @@ impl ProxyLimits {
 }
 
 /// What both servers have in common: 60 s for an idle connection and for a client that does not read its answer, 30 s for a head
-/// and between two pieces of content, 100 ms without an accept after one that failed, and 5 s for open connections to end.
+/// and between two pieces of content, 100 ms without an accept after one that failed, and 5 s for open connections to end (1 s for
+/// those of administrators, who are served until then).
 fn serve_limits(connections: usize, an_address: u32, content: usize) -> ServeLimits {
     ServeLimits {
         still: StreamTimeouts {

@@ -4,7 +4,8 @@ ghost use Rattle.node_book.specs.Book.{count_of};
 
 use crate::fault::{Port, ServeFault};
 use crate::limits::{
-    ADDRESS_CONNECTIONS, ENDS, FETCH_OCTETS, FETCHERS, LOOK_UPS, ProxyLimits, SEATS, THREADS,
+    ADDRESS_CONNECTIONS, ENDS, FETCH_OCTETS, FETCHERS, LOG_GRACE, LOOK_UPS, ProxyLimits, SEATS,
+    THREADS,
 };
 use crate::tasks::{
     AdministrationTask, BoundQueries, ClientTask, Ending, FetchTask, QueryTask, Task, ThreadConfig,
@@ -12,27 +13,34 @@ use crate::tasks::{
 };
 use capture_tap::Tap;
 use crossbeam_channel::{Receiver, Sender, bounded, unbounded};
+use filter_files::Filter;
 use filter_slots::End;
 use forwarding::{Mailbox, Peer};
 use futures::channel::{mpsc, oneshot};
 use http_fetches::Budget;
 use http_rules::{OriginRules, loop_mark, usual_denials};
 use http_traffic::Job;
+use log_writer::{LogTask, run_log};
 use mio_queries::{Bell, Timeline};
 use name_lookup::{NameDesk, NameLimits, look_up, open_names};
 use node_book::{BOOK_OCTETS, BookFault, Booked, Desk, RECEIPT_OCTETS, Report, Seat};
-use node_core::{Config, Network, Node};
-use proxy_node::{Lanes, Outbox, Outgoing, ProxyState, ThreadSeat, no_failures};
-use serve_config::Settings;
+use node_core::{Config, Event, Network, Node};
+use proxy_node::{
+    AccessLog, Lanes, NodeHandle, Outbox, Outgoing, ProxyState, ThreadSeat, no_failures,
+};
+use serve_config::{FilterFile, Settings};
 use std::alloc::{AllocError, AllocGlobal, Global};
+use std::fs::Files;
+use std::io::{Eprint, ErrorKind, Print};
 use std::net::{IpAddr, Ipv4Addr, Net, SocketAddr, SocketAddrV4};
 use std::random::RandomSource;
-use std::sync::atomic::{AtomicBool, AtomicU16, Ordering};
+use std::sync::atomic::{AtomicBool, AtomicU16, AtomicUsize, Ordering};
 use std::sync::ledger::{Blank, Ledger};
 use std::sync::{Arc, Mutex, Wait};
-use std::thread;
 use std::thread::{JoinHandle, Threads};
-use std::time::{Clock, Duration};
+use std::time::{Clock, Duration, Instant};
+use std::{mem, thread};
+use traffic_figures::Figures;
 
 /// The addresses that a proxy listens on, with the ports that the system chose.
 #[derive(Clone, Copy)]
@@ -49,14 +57,54 @@ pub struct Site<L: Ledger> {
     proxy: Arc<ProxyState<L>>,
     addresses: Option<Addresses>,
     threads: Vec<JoinHandle<Ending<L>>>,
+    // The thread that serves clients, which ends before the others.
+    clients: Option<JoinHandle<Ending<L>>>,
+    // What writes the access log, which ends last.
+    log: Option<Writing>,
     // Seats of threads that were not started.
     spare: Vec<Seat<L>>,
     is_ended: Arc<AtomicBool>,
     bell: Option<Bell>,
-    stops: Vec<oneshot::Sender<()>>,
+    stop_clients: Option<oneshot::Sender<()>>,
+    stop_administration: Option<oneshot::Sender<()>>,
     // Receives a message when the proxy is to end: after the last answer, or from a thread that ends.
     ends: Receiver<(), Global>,
     end: Sender<(), Global>,
+}
+
+/// The thread that writes the access log.
+#[derive(Drop)]
+struct Writing {
+    thread: JoinHandle<()>,
+    // Receives a message once all is written.
+    written: Receiver<(), Global>,
+}
+
+impl Writing {
+    /// Waits until all lines are written, for a while. Returns whether they are. A thread that still waits for what it writes to ends
+    /// with the program.
+    fn is_done<R: Threads + Wait + Clock>(self, rt: &R) -> bool {
+        let Writing { thread, written } = self;
+        if written
+            .recv_timeout(rt, Duration::from_secs(LOG_GRACE))
+            .is_err()
+        {
+            return false;
+        }
+        thread.join(rt);
+        true
+    }
+}
+
+/// What a proxy is given at its start beside its settings. `F` is a file.
+#[derive(Drop)]
+pub struct Equipment<F> {
+    /// The filters that are in force from the first datagram on.
+    pub filters: Vec<Filter>,
+    /// The access log, if there is one: where lines go, and what writes them.
+    pub log: Option<(AccessLog, LogTask<F>)>,
+    /// The version of the program.
+    pub version: &'static str,
 }
 
 /// Starts a proxy. When this returns `Ok`, all sockets are bound; after an error all threads have ended. The ledger behind
@@ -65,13 +113,27 @@ pub fn start<L, R>(
     rt: R,
     blank: Blank,
     settings: Settings,
+    equipment: Equipment<R::File>,
     limits: ProxyLimits,
 ) -> Result<Site<L>, ServeFault>
 where
     L: Ledger + Send + Sync + 'static,
-    R: Threads + Wait + Net + Clock + RandomSource + AllocGlobal + Copy + Send + 'static,
+    R: Threads
+        + Wait
+        + Net
+        + Clock
+        + RandomSource
+        + AllocGlobal
+        + Files
+        + Print
+        + Eprint
+        + Copy
+        + Send
+        + 'static,
     R::Stream: Send + 'static,
     R::Listener: Send + 'static,
+    R::File: Send + 'static,
+    R::Dir: Send + 'static,
     requires name { blank.name ≡ L.name }
     requires parts { blank.parts ≡ L.parts }
     requires seats { blank.parts ≡ SEATS }
@@ -80,25 +142,43 @@ where
     let mut settings = settings;
     let allowed = networks_of(alloc, &settings.node).map_err(no_memory)?;
     let config = thread_config(&settings, limits);
-    let token = settings.admin_token.take();
+    let keeping = Keeping {
+        token: settings.admin_token.take(),
+        files: mem::replace(&mut settings.filters, Vec::new(alloc)),
+    };
+    let Equipment {
+        filters,
+        log,
+        version,
+    } = equipment;
+    let (log, writing) = split(log);
     let (end, ends) = bounded(alloc, ENDS).map_err(no_memory)?;
-    let told = end.clone().map_err(no_memory)?;
-    let mark = random_mark(&rt, alloc, settings.name.as_bytes())?;
-    let (proxy, seats) = proxy_of(alloc, blank, settings, limits.fetching, told, mark)?;
+    let (hurry, hurried) = oneshot::channel(alloc).map_err(no_memory)?;
+    let parts = Parts {
+        fetching: limits.fetching,
+        end: end.clone().map_err(no_memory)?,
+        loop_mark: random_mark(&rt, alloc, settings.name.as_bytes())?,
+        log,
+        version,
+        started: Instant::now(&rt).ok(),
+        hurry,
+    };
+    let (proxy, seats) = proxy_of(alloc, blank, settings, parts)?;
     let mut opening = Opening {
         rt,
         alloc,
         config,
         site: Site::of(alloc, proxy, seats, (end, ends)).map_err(no_memory)?,
     };
-    let opened = opening.open(allowed, token);
+    let opened = opening.open(filters, writing, allowed, keeping, hurried);
     let Opening { site, .. } = opening;
     match opened {
         Ok(()) => Ok(site),
-        Err(fault) => {
-            let _ = site.shut(rt);
-            Err(fault)
-        }
+        // A server's thread tells more of why its socket was not bound.
+        Err(fault) => match site.shut(rt) {
+            Err(told) => Err(told),
+            Ok(_) => Err(fault),
+        },
     }
 }
 
@@ -120,14 +200,39 @@ fn thread_config(settings: &Settings, limits: ProxyLimits) -> ThreadConfig {
     }
 }
 
+/// What the administration keeps of the settings.
+#[derive(Drop)]
+struct Keeping {
+    token: Option<String>,
+    files: Vec<FilterFile>,
+}
+
+/// What the shared state of a proxy has that is not of the settings.
+#[derive(Drop)]
+struct Parts {
+    fetching: Duration,
+    end: Sender<(), Global>,
+    loop_mark: Vec<u8>,
+    log: Option<AccessLog>,
+    version: &'static str,
+    started: Option<Instant>,
+    hurry: oneshot::Sender<()>,
+}
+
+/// The two parts of an access log, if there is one.
+fn split<F: Drop>(log: Option<(AccessLog, LogTask<F>)>) -> (Option<AccessLog>, Option<LogTask<F>>) {
+    match log {
+        Some((log, writing)) => (Some(log), Some(writing)),
+        None => (None, None),
+    }
+}
+
 /// The shared state of a proxy, with a new node, and the seats of its threads.
 fn proxy_of<L: Ledger>(
     alloc: Global,
     blank: Blank,
     mut settings: Settings,
-    fetching: Duration,
-    end: Sender<(), Global>,
-    loop_mark: Vec<u8>,
+    parts: Parts,
 ) -> Result<(ProxyState<L>, Vec<Seat<L>>), ServeFault>
     requires name { blank.name ≡ L.name }
     requires parts { blank.parts ≡ L.parts }
@@ -137,6 +242,10 @@ fn proxy_of<L: Ledger>(
     let origins = origins_of(alloc, &mut settings).map_err(no_memory)?;
     let failed = no_failures(alloc).map_err(no_memory)?;
     let timeline = Timeline::new(alloc).map_err(no_memory)?;
+    let figures = Figures::new(alloc, peers.len()).map_err(no_memory)?;
+    let Ok(connections) = Arc::new(alloc, AtomicUsize::new(0)) else {
+        return Err(ServeFault::NoMemory);
+    };
     let Settings {
         name,
         volume,
@@ -151,6 +260,15 @@ fn proxy_of<L: Ledger>(
     let booked = book_of(alloc, node, volume as usize, book_octets)?;
     let room = receipt_octets.unwrap_or(RECEIPT_OCTETS);
     let (desk, seats) = desk_of(alloc, blank, booked, room)?;
+    let Parts {
+        fetching,
+        end,
+        loop_mark,
+        log,
+        version,
+        started,
+        hurry,
+    } = parts;
     let proxy = ProxyState {
         desk,
         mailbox: Mutex::new(Mailbox::new(alloc)),
@@ -164,6 +282,13 @@ fn proxy_of<L: Ledger>(
         fetching,
         admin_port: AtomicU16::new(admin_port),
         tap: Tap::new(),
+        figures,
+        connections,
+        log,
+        version,
+        started,
+        is_stopping: AtomicBool::new(false),
+        hurry: Mutex::new(Some(hurry)),
         is_astray: AtomicBool::new(false),
         end,
     };
@@ -250,10 +375,13 @@ impl<L: Ledger + Send + Sync + 'static> Site<L> {
             proxy: Arc::new(alloc, proxy)?,
             addresses: None,
             threads: Vec::with_capacity(alloc, THREADS)?,
+            clients: None,
+            log: None,
             spare: seats,
             is_ended: Arc::new(alloc, AtomicBool::new(false))?,
             bell: None,
-            stops: Vec::with_capacity(alloc, 2)?,
+            stop_clients: None,
+            stop_administration: None,
             ends,
             end,
         })
@@ -264,45 +392,101 @@ impl<L: Ledger + Send + Sync + 'static> Site<L> {
         self.addresses
     }
 
-    /// Waits until the last answer is given or a thread ends, then shuts the proxy down. Returns the report of the event log.
-    pub fn finish<R: Threads + Wait + Copy>(self, rt: R) -> Result<Report, ServeFault> {
+    /// Waits until the last answer is given, an administrator ends the proxy or a thread ends, then shuts the proxy down.
+    pub fn finish<R: Threads + Wait + Clock + Copy>(self, rt: R) -> Result<Finish, ServeFault> {
         let _ = self.ends.recv(&rt);
-        self.shut(rt)
+        let was_asked = self.proxy.is_stopping.load(Ordering::SeqCst);
+        if !was_asked {
+            self.proxy.close(&rt);
+        }
+        let (report, is_logged) = self.shut(rt)?;
+        Ok(Finish {
+            report,
+            was_asked,
+            is_logged,
+        })
     }
 
-    /// Stops and joins all threads but those that look up names, and settles the event log.
-    fn shut<R: Threads + Wait + Copy>(self, rt: R) -> Result<Report, ServeFault> {
+    /// Stops and joins all threads but those that look up names, and settles the event log. The clients' thread goes first, so that
+    /// fetches that are still under way have its grace. Returns the report, and whether all lines of the access log are written.
+    fn shut<R: Threads + Wait + Clock + Copy>(self, rt: R) -> Result<(Report, bool), ServeFault> {
         let Site {
             proxy,
             addresses: _,
             threads,
+            clients,
+            log,
             spare,
             is_ended,
             bell,
-            stops,
+            stop_clients,
+            stop_administration,
             ends: _,
             end: _,
         } = self;
+        let mut endings = Endings {
+            seats: spare,
+            fault: None,
+        };
+        tell_stop(stop_clients);
+        if let Some(clients) = clients {
+            endings.add(clients.join(&rt));
+        }
         is_ended.store(true, Ordering::SeqCst);
         if let Some(bell) = &bell {
             bell.ring();
         }
-        for stop in stops {
-            let _ = stop.send(());
-        }
+        tell_stop(stop_administration);
         proxy.close(&rt);
-        let mut seats = spare;
-        let mut fault = None;
         for thread in threads {
-            let ending = thread.join(&rt);
-            fault = fault.or(ending.fault);
-            if let Some(seat) = ending.seat
-                && seats.push(seat).is_err()
-            {
-                fault = Some(ServeFault::NoMemory);
-            }
+            endings.add(thread.join(&rt));
         }
-        settled(proxy, seats, fault)
+        let settled = settled(proxy, endings);
+        let is_logged = match log {
+            Some(log) => log.is_done(&rt),
+            None => true,
+        };
+        Ok((settled?, is_logged))
+    }
+}
+
+/// How a proxy ended.
+#[derive(Drop)]
+pub struct Finish {
+    /// The report of the event log.
+    pub report: Report,
+    /// Whether an administrator ended it.
+    pub was_asked: bool,
+    /// Whether all lines of the access log are written. They are not where what it is written to takes nothing.
+    pub is_logged: bool,
+}
+
+/// What the threads that have ended gave back.
+#[derive(Drop)]
+struct Endings<L: Ledger> {
+    seats: Vec<Seat<L>>,
+    fault: Option<ServeFault>,
+}
+
+impl<L: Ledger> Endings<L> {
+    /// Adds what one more thread gave back. The first fault counts.
+    fn add(&mut self, ending: Ending<L>) {
+        let Ending { seat, fault } = ending;
+        if self.fault.is_none() {
+            self.fault = fault;
+        }
+        if let Some(seat) = seat
+            && self.seats.push(seat).is_err()
+        {
+            self.fault = Some(ServeFault::NoMemory);
+        }
+    }
+}
+
+/// Tells a server to stop.
+fn tell_stop(stop: Option<oneshot::Sender<()>>) {
+    if let Some(stop) = stop {
+        let _ = stop.send(());
     }
 }
 
@@ -318,9 +502,22 @@ struct Opening<R, L: Ledger> {
 impl<R, L> Opening<R, L>
 where
     L: Ledger + Send + Sync + 'static,
-    R: Threads + Wait + Net + Clock + RandomSource + AllocGlobal + Copy + Send + 'static,
+    R: Threads
+        + Wait
+        + Net
+        + Clock
+        + RandomSource
+        + AllocGlobal
+        + Files
+        + Print
+        + Eprint
+        + Copy
+        + Send
+        + 'static,
     R::Stream: Send + 'static,
     R::Listener: Send + 'static,
+    R::File: Send + 'static,
+    R::Dir: Send + 'static,
 {
     /// The next free seat, with the shared state.
     fn seat(&mut self) -> Result<ThreadSeat<L>, ServeFault> {
@@ -340,28 +537,70 @@ where
         self.site.end.clone().map_err(no_memory)
     }
 
-    /// Starts a thread and keeps its handle.
-    fn begin(&mut self, work: Work<L>) -> Result<(), ServeFault> {
+    /// Starts a thread.
+    fn begin(&mut self, work: Work<L>) -> Result<JoinHandle<Ending<L>>, ServeFault> {
         let (rt, task) = (self.rt, Task { work });
         let Ok(thread) = thread::spawn(&rt, move || run_task(rt, task)) else {
             return Err(ServeFault::NoMemory);
         };
+        Ok(thread)
+    }
+
+    /// Starts a thread and keeps its handle.
+    fn keep(&mut self, work: Work<L>) -> Result<(), ServeFault> {
+        let thread = self.begin(work)?;
         match self.site.threads.push(thread) {
             Ok(()) => Ok(()),
             Err(_) => Err(ServeFault::NoMemory),
         }
     }
 
-    fn open(&mut self, allowed: Vec<Network>, token: Option<String>) -> Result<(), ServeFault> {
+    /// Starts the thread that writes the access log.
+    fn open_log(&mut self, writing: LogTask<R::File>) -> Result<(), ServeFault> {
+        let rt = self.rt;
+        let (end, written) = bounded(self.alloc, 1).map_err(no_memory)?;
+        let write = move || {
+            run_log(&rt, writing);
+            let _ = end.send(&rt, ());
+        };
+        let Ok(thread) = thread::spawn(&rt, write) else {
+            return Err(ServeFault::NoMemory);
+        };
+        self.site.log = Some(Writing { thread, written });
+        Ok(())
+    }
+
+    /// Installs filters, as events of the node.
+    fn install(&mut self, filters: Vec<Filter>) -> Result<(), ServeFault> {
+        let mut node = NodeHandle::new(self.rt, self.alloc, self.seat()?, None);
+        let installed = install_all(&mut node, filters);
+        match self.site.spare.push(node.into_seat()) {
+            Ok(()) => installed,
+            Err(_) => Err(ServeFault::NoMemory),
+        }
+    }
+
+    fn open(
+        &mut self,
+        filters: Vec<Filter>,
+        writing: Option<LogTask<R::File>>,
+        allowed: Vec<Network>,
+        keeping: Keeping,
+        hurried: oneshot::Receiver<()>,
+    ) -> Result<(), ServeFault> {
+        if let Some(writing) = writing {
+            self.open_log(writing)?;
+        }
+        self.install(filters)?;
         self.open_fetchers()?;
         let (outgoing, incoming) = unbounded(self.alloc).map_err(no_memory)?;
         let queries = self.open_queries(incoming)?;
         let bell = queries.bell.share().map_err(no_memory)?;
         self.site.bell = Some(queries.bell);
         let outbox = Outbox { to: outgoing, bell };
-        let clients = self.open_clients(allowed, outbox)?;
+        let clients = self.open_clients(allowed, outbox, hurried)?;
         self.add_own(clients)?;
-        let administration = self.open_administration(token)?;
+        let administration = self.open_administration(keeping)?;
         self.add_own(administration)?;
         self.site.addresses = Some(Addresses {
             icp: queries.icp,
@@ -421,7 +660,7 @@ where
             connecting: self.config.limits.connecting,
             end,
         };
-        self.begin(Work::Fetches(fetches))
+        self.keep(Work::Fetches(fetches))
     }
 
     /// Starts the threads that look up names. They are not joined, since the system's resolver may hold each for as long as it
@@ -455,7 +694,7 @@ where
             is_ended,
             end,
         };
-        self.begin(Work::Queries(queries))?;
+        self.keep(Work::Queries(queries))?;
         match heard.recv(&self.rt) {
             Ok(bound) => bound,
             Err(_) => Err(ServeFault::NoMemory),
@@ -466,6 +705,7 @@ where
         &mut self,
         allowed: Vec<Network>,
         outbox: Outbox,
+        hurried: oneshot::Receiver<()>,
     ) -> Result<SocketAddr, ServeFault> {
         let (stop, stopped) = oneshot::channel(self.alloc).map_err(no_memory)?;
         let (bound, heard) = unbounded(self.alloc).map_err(no_memory)?;
@@ -481,31 +721,37 @@ where
             name,
             bound,
             stopped,
+            hurried,
             end,
         };
-        self.begin(Work::Clients(clients))?;
-        let _ = self.site.stops.push(stop);
+        self.site.clients = Some(self.begin(Work::Clients(clients))?);
+        self.site.stop_clients = Some(stop);
         heard
             .recv(&self.rt)
-            .map_err(|_| ServeFault::Bind(Port::Clients))
+            .map_err(|_| ServeFault::Bind(Port::Clients, ErrorKind::Other))
     }
 
-    fn open_administration(&mut self, token: Option<String>) -> Result<SocketAddr, ServeFault> {
+    fn open_administration(&mut self, keeping: Keeping) -> Result<SocketAddr, ServeFault> {
+        let Keeping { token, files } = keeping;
         let (stop, stopped) = oneshot::channel(self.alloc).map_err(no_memory)?;
+        // Nothing ends the grace of administrators early: its sender is dropped here.
+        let (_, hurried) = oneshot::channel(self.alloc).map_err(no_memory)?;
         let (bound, heard) = unbounded(self.alloc).map_err(no_memory)?;
         let end = self.end()?;
         let administration = AdministrationTask {
             seat: self.seat()?,
             config: self.config,
             token,
+            files,
             bound,
             stopped,
+            hurried,
             end,
         };
-        self.begin(Work::Administration(administration))?;
-        let _ = self.site.stops.push(stop);
+        self.keep(Work::Administration(administration))?;
+        self.site.stop_administration = Some(stop);
         let Ok(address) = heard.recv(&self.rt) else {
-            return Err(ServeFault::Bind(Port::Administration));
+            return Err(ServeFault::Bind(Port::Administration, ErrorKind::Other));
         };
         let port = &self.site.proxy.admin_port;
         port.store(address.port(), Ordering::SeqCst);
@@ -513,12 +759,30 @@ where
     }
 }
 
+/// Submits the swap of each filter. Errors: out of memory.
+fn install_all<R: Wait + Clock + Drop, L: Ledger>(
+    node: &mut NodeHandle<R, L>,
+    filters: Vec<Filter>,
+) -> Result<(), ServeFault> {
+    for filter in filters {
+        let Filter { slot, program } = filter;
+        let event = Event::Swap {
+            slot,
+            program: Some(program),
+        };
+        if node.take(event).is_err() {
+            return Err(ServeFault::NoMemory);
+        }
+    }
+    Ok(())
+}
+
 /// Settles the event log, unless a thread ended with a fault.
 fn settled<L: Ledger>(
     proxy: Arc<ProxyState<L>>,
-    seats: Vec<Seat<L>>,
-    fault: Option<ServeFault>,
+    endings: Endings<L>,
 ) -> Result<Report, ServeFault> {
+    let Endings { seats, fault } = endings;
     if let Some(fault) = fault {
         return Err(fault);
     }

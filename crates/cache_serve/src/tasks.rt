@@ -4,6 +4,7 @@ ghost use Rattle.std.specs.Prelude.{◌<◌};
 use crate::fault::{Port, ServeFault};
 use crate::limits::{FREE_OCTETS, ProxyLimits};
 use crate::queries::carry;
+use client_streams::Stops;
 use crossbeam_channel::{Receiver, Sender};
 use filter_slots::{End, Socket};
 use futures::channel::{mpsc, oneshot};
@@ -17,7 +18,9 @@ use plain_node::MAX_PENDING_FETCHES;
 use proxy_node::{
     NodeFront, NodeHandle, NodePanel, Origins, Outbox, Outgoing, ProxyState, Results, ThreadSeat,
 };
+use serve_config::FilterFile;
 use std::alloc::{AllocError, AllocGlobal, Global};
+use std::fs::Files;
 use std::io;
 use std::net::{Net, SocketAddr};
 use std::random::RandomSource;
@@ -99,6 +102,7 @@ pub struct ClientTask<L: Ledger> {
     pub name: String,
     pub bound: Sender<SocketAddr, Global>,
     pub stopped: oneshot::Receiver<()>,
+    pub hurried: oneshot::Receiver<()>,
     pub end: Sender<(), Global>,
 }
 
@@ -108,8 +112,10 @@ pub struct AdministrationTask<L: Ledger> {
     pub seat: ThreadSeat<L>,
     pub config: ThreadConfig,
     pub token: Option<String>,
+    pub files: Vec<FilterFile>,
     pub bound: Sender<SocketAddr, Global>,
     pub stopped: oneshot::Receiver<()>,
+    pub hurried: oneshot::Receiver<()>,
     pub end: Sender<(), Global>,
 }
 
@@ -128,7 +134,7 @@ pub struct FetchTask<L: Ledger> {
 /// The life of one thread of a proxy.
 pub fn run_task<R, L>(rt: R, task: Task<L>) -> Ending<L>
 where
-    R: Wait + Net + Clock + RandomSource + AllocGlobal + Copy,
+    R: Wait + Net + Clock + RandomSource + AllocGlobal + Files + Copy,
     L: Ledger,
 {
     match task.work {
@@ -236,8 +242,8 @@ where
 {
     let wire = match MioWire::bind(rt, timeline, icp, htcp) {
         Ok(wire) => wire,
-        Err(BindFault::End(Socket::Icp)) => return Err(ServeFault::Bind(Port::Icp)),
-        Err(BindFault::End(Socket::Htcp)) => return Err(ServeFault::Bind(Port::Htcp)),
+        Err(BindFault::End(Socket::Icp, kind)) => return Err(ServeFault::Bind(Port::Icp, kind)),
+        Err(BindFault::End(Socket::Htcp, kind)) => return Err(ServeFault::Bind(Port::Htcp, kind)),
         Err(BindFault::Io) => return Err(ServeFault::QuerySocket),
         Err(BindFault::NoMemory) => return Err(ServeFault::NoMemory),
     };
@@ -264,6 +270,7 @@ where
         name,
         bound,
         stopped,
+        hurried,
         end,
     } = clients;
     let alloc = rt.alloc();
@@ -272,6 +279,9 @@ where
         return lost(&rt, &end);
     };
     let Ok(stop) = end.clone() else {
+        return lost(&rt, &end);
+    };
+    let Ok(connections) = Arc::try_clone(&proxy.connections) else {
         return lost(&rt, &end);
     };
     let front = NodeFront {
@@ -290,7 +300,11 @@ where
         name.as_str(),
         front,
         bound,
-        stopped,
+        Stops {
+            stop: stopped,
+            hurry: hurried,
+        },
+        connections,
         config.limits.clients,
     );
     end_of(&rt, kept, ran, Port::Clients, &end)
@@ -299,15 +313,17 @@ where
 /// Runs the thread that serves administration.
 fn administer<R, L>(rt: R, administration: AdministrationTask<L>) -> Ending<L>
 where
-    R: Wait + Net + Clock + RandomSource + AllocGlobal + Copy,
+    R: Wait + Net + Clock + RandomSource + AllocGlobal + Files + Copy,
     L: Ledger,
 {
     let AdministrationTask {
         seat,
         config,
         token,
+        files,
         bound,
         stopped,
+        hurried,
         end,
     } = administration;
     let alloc = rt.alloc();
@@ -320,9 +336,14 @@ where
         alloc,
         node: shared,
         token,
+        files,
     };
     let limits = config.limits.administration;
-    let ran = serve_admin(rt, config.admin_port, panel, bound, stopped, limits);
+    let stops = Stops {
+        stop: stopped,
+        hurry: hurried,
+    };
+    let ran = serve_admin(rt, config.admin_port, panel, bound, stops, limits);
     end_of(&rt, kept, ran, Port::Administration, &end)
 }
 
@@ -355,7 +376,7 @@ where
         seat: Arc::into_inner(kept).map(|node| node.into_inner().into_seat()),
         fault: match ran {
             Ok(()) => None,
-            Err(_) => Some(ServeFault::Bind(port)),
+            Err(error) => Some(ServeFault::Bind(port, error.kind())),
         },
     }
 }

@@ -1,10 +1,11 @@
 //! Waiting clients and in-flight fetches.
 use futures::channel::oneshot;
-use http_traffic::Outcome;
+use http_traffic::{Outcome, Supplier};
 use node_core::Mode;
 use object_store::CacheKey;
 use std::alloc::{AllocError, Global};
 use std::collections::{BTreeMap, BTreeSet};
+use std::time::Instant;
 
 /// A header field: its name in lower case, and its value.
 pub type Field = (Vec<u8>, Vec<u8>);
@@ -28,8 +29,17 @@ pub struct Waiting {
 pub struct Flight {
     /// Private, or shared between clients.
     pub mode: Mode,
+    /// Who is asked.
+    pub supplier: Supplier,
+    /// When it began. `None` if the clock could not be read.
+    pub began: Option<Instant>,
+}
+
+impl Flight {
     /// Whether the origin is asked, and not a neighbour.
-    pub is_origin: bool,
+    pub fn is_origin(&self) -> bool {
+        self.supplier == Supplier::Origin
+    }
 }
 
 /// An in-flight fetch.
@@ -174,9 +184,20 @@ impl Mailbox {
             Some(fetching) => fetching.flight,
             None => Flight {
                 mode: Mode::Private,
-                is_origin: true,
+                supplier: Supplier::Origin,
+                began: None,
             },
         }
+    }
+
+    /// The number of waiting clients.
+    pub fn waiting(&self) -> usize {
+        self.clients.len()
+    }
+
+    /// The number of in-flight fetches.
+    pub fn fetching(&self) -> usize {
+        self.fetches.len()
     }
 
     /// Cancels all fetches and drops all clients without an answer.

@@ -31,7 +31,7 @@ const ROOM: usize = 65_536;
 pub enum BindFault {
     /// The address of this socket can't be bound.
     #[error("the end of a query socket can't be bound")]
-    End(Socket),
+    End(Socket, ErrorKind),
     /// The sockets can't be polled, or the system's clock can't be read.
     #[error("the query sockets can't be waited for")]
     Io,
@@ -247,8 +247,9 @@ impl<R: Net + Clock + AllocGlobal + Drop> Sockets<R> {
 
 // Binds a socket and registers it for polling.
 fn bound(rt: &impl Net, poll: &Poll, socket: Socket, end: End) -> Result<UdpSocket, BindFault> {
-    let Ok(mut bound) = UdpSocket::bind(rt, address(end)) else {
-        return Err(BindFault::End(socket));
+    let mut bound = match UdpSocket::bind(rt, address(end)) {
+        Ok(bound) => bound,
+        Err(error) => return Err(BindFault::End(socket, error.kind())),
     };
     let token = match socket {
         Socket::Icp => ICP,

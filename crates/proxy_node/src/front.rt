@@ -1,19 +1,20 @@
 //! Client requests on their way to the node.
-use crate::clock::now;
+use crate::clock::{micros_since, now};
 use crate::node_handle::NodeHandle;
 use crate::proxy_state::ProxyState;
 use crossbeam_channel::Sender;
 use forwarding::{Field, Waiting, end_in_digits};
 use futures::channel::oneshot;
 use http_rules::{PassFault, TargetFault, classify, end_to_end, has_come_back, key_of};
-use http_traffic::{Asked, Asking, Forward, Front, Outcome};
+use http_traffic::{Asked, Asking, Forward, Front, How, Outcome, Told};
 use node_core::{Event, Mode, Network};
 use object_store::CacheKey;
 use std::alloc::{AllocError, Global};
 use std::net::Ipv4Addr;
 use std::sync::ledger::Ledger;
 use std::sync::{Arc, Mutex, Wait};
-use std::time::Clock;
+use std::time::{Clock, Instant};
+use traffic_figures::{AnswerNote, Course};
 
 /// Submits client requests to the node and counts the answers. Owned by the client thread.
 #[derive(Drop)]
@@ -158,6 +159,7 @@ impl<R: Wait + Clock + Drop, L: Ledger> NodeFront<R, L> {
             looped,
         } = request_of(self.alloc, asked, mode)?;
         self.check(asked, &key)?;
+        let began = Instant::now(&self.rt).ok();
         self.last = self.last.saturating_add(1);
         let client = self.last;
         let Ok(answer) = self.expect(client, fields, looped) else {
@@ -176,6 +178,7 @@ impl<R: Wait + Clock + Drop, L: Ledger> NodeFront<R, L> {
         Ok(Asking {
             client,
             forward: forward_of(mode, actions),
+            began,
             answer,
         })
     }
@@ -206,5 +209,41 @@ impl<R: Wait + Clock + Drop, L: Ledger> Front for NodeFront<R, L> {
             let _ = self.stop.send(&self.rt, ());
         }
         self.left = self.left.saturating_sub(1);
+    }
+
+    fn tell(&mut self, told: &Told<'_>) {
+        let how = how_of(told);
+        let micros = micros_since(&self.rt, told.began);
+        self.proxy.figures.note_answer(note_of(told, how, micros));
+        if let Some(log) = &self.proxy.log {
+            let millis = micros.unwrap_or(0) / 1_000;
+            log.write(&self.rt, self.alloc, told, how, millis);
+        }
+    }
+}
+
+/// How a request was answered. It was by the proxy itself where nothing was fetched for it: what is not stored and was to come from
+/// the store alone (504), a fetch that nobody could be asked for, or for which there was no room (503), or one from a server that may
+/// not be fetched from (403).
+fn how_of(told: &Told<'_>) -> How {
+    match (told.how, told.supplier, told.status) {
+        (How::Fetch(_), None, Some(403 | 503 | 504)) => How::Own,
+        (how, _, _) => how,
+    }
+}
+
+/// What became of a request, for the figures.
+fn note_of(told: &Told<'_>, how: How, micros: Option<u64>) -> AnswerNote {
+    AnswerNote {
+        course: match how {
+            How::Hit => Course::Hit,
+            How::Fetch(Forward::Miss) => Course::Miss,
+            How::Fetch(Forward::Collapsed) => Course::Collapsed,
+            How::Fetch(Forward::Bypass) => Course::Bypass,
+            How::Own => Course::Own,
+        },
+        status: told.status.unwrap_or(0),
+        octets: told.octets,
+        micros,
     }
 }

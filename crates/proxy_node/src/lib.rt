@@ -8,13 +8,16 @@
 mod clock;
 mod front;
 mod limits;
+mod log;
 mod node_handle;
+mod overview;
 mod panel;
 mod proxy_state;
 mod results;
 
 pub use front::NodeFront;
 pub use limits::{RETRIES, RETRY_MILLIS};
+pub use log::AccessLog;
 pub use node_handle::{NodeHandle, Outbox, Outgoing, ThreadSeat};
 pub use panel::NodePanel;
 pub use proxy_state::{Lanes, Origins, ProxyState, no_failures};

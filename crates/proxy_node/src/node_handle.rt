@@ -7,6 +7,7 @@ use crate::proxy_state::{Attempt, ProxyState};
 use capture_tap::Recorder;
 use crossbeam_channel::Sender;
 use filter_slots::{Datagram, End, Judged, Moment, Socket};
+use http_traffic::Supplier;
 use mio_queries::Bell;
 use node_book::{Clerk, Programs, Seat, SubmitFault};
 use node_core::{Action, Event, NoMemory, Out, Outcome};
@@ -62,6 +63,8 @@ pub struct NodeHandle<R, L: Ledger> {
     // Where datagrams go; `None` in the query thread, which sends them itself, and in threads whose events send none.
     outbox: Option<Outbox>,
     programs: Programs,
+    // Whom the object of the fetch was fetched from whose result is being submitted.
+    supplier: Option<Supplier>,
     // Events submitted, modulo 2^32.
     submitted: u32,
     // Records datagrams for the administration. Only in the query thread, whose events come through `Clerk`.
@@ -85,6 +88,7 @@ impl<R: Wait + Clock + Drop, L: Ledger> NodeHandle<R, L> {
             out: None,
             outbox,
             programs: Programs::new(),
+            supplier: None,
             submitted: 0,
             recorder: Recorder::new(),
         }
@@ -106,6 +110,21 @@ impl<R: Wait + Clock + Drop, L: Ledger> NodeHandle<R, L> {
         let count = self.hand_in(event)?;
         self.report_failures();
         Ok(count)
+    }
+
+    /// As `take`, for the result of a fetch, and whom its object came from.
+    pub fn take_fetched(
+        &mut self,
+        event: Event,
+        supplier: Option<Supplier>,
+    ) -> Result<usize, SubmitFault> {
+        self.supplier = supplier;
+        let count = self.hand_in(event);
+        self.supplier = None;
+        if count.is_ok() {
+            self.report_failures();
+        }
+        count
     }
 
     /// Reports to the node the fetches that no thread could start. If a report is refused, the attempt stays recorded for a later
@@ -180,7 +199,8 @@ impl<R: Wait + Clock + Drop, L: Ledger> NodeHandle<R, L> {
 
     // Carries out an action other than `Send`. A fetch that cannot be started is recorded.
     fn perform_or_record(&self, action: &Action) {
-        if self.proxy.pass(&self.rt, self.alloc, action).is_err()
+        let passed = self.proxy.pass(&self.rt, self.alloc, action, self.supplier);
+        if passed.is_err()
             && let Action::Fetch { fetch, attempt, .. } = action
         {
             let failed = Attempt {

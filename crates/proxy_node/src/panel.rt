@@ -1,8 +1,11 @@
 //! Administration of the node: filters, counters and captures.
+use crate::limits::{RETRIES, RETRY_MILLIS};
 use crate::node_handle::NodeHandle;
+use crate::overview::page_of;
 use bpf_asm::to_text;
 use bpf_check::Checked;
 use capture_tap::{CaptureLimits, QUERY_LINE, TapFault};
+use filter_files::{FilesFault, Filter, read_filters};
 use filter_slots::Slot;
 use filter_text::{ProgramFault, read_program};
 use futures::channel::mpsc;
@@ -10,11 +13,15 @@ use http_rules::{is_administrator, is_authorized};
 use http_traffic::{Asked, CaptureFault, Panel, PutFault};
 use node_core::Event;
 use node_figures::{neighbours_text, stats_text};
-use std::alloc::{AllocError, Global};
+use serve_config::FilterFile;
+use std::alloc::{AllocError, AllocGlobal, Global};
+use std::fs::Files;
 use std::sync::atomic::Ordering;
 use std::sync::ledger::Ledger;
 use std::sync::{Arc, Mutex, Wait};
-use std::time::Clock;
+use std::time::{Clock, Duration};
+use std::{mem, thread};
+use traffic_figures::{Page, clients_text, metrics_text};
 
 /// Installs and removes filters, reads counters, and begins captures. Owned by the administration thread, the only one that swaps filters.
 #[derive(Drop)]
@@ -25,9 +32,11 @@ pub struct NodePanel<R, L: Ledger> {
     pub node: Arc<Mutex<NodeHandle<R, L>>>,
     /// What a request has to show to change anything. `None` lets every administrator.
     pub token: Option<String>,
+    /// The files of the configuration's filters.
+    pub files: Vec<FilterFile>,
 }
 
-impl<R: Wait + Clock + Drop, L: Ledger> NodePanel<R, L> {
+impl<R: Wait + Clock + Files + AllocGlobal + Drop, L: Ledger> NodePanel<R, L> {
     // The port that administration is served on.
     fn port(&self) -> u16 {
         let node = self.node.lock(&self.rt);
@@ -40,6 +49,41 @@ impl<R: Wait + Clock + Drop, L: Ledger> NodePanel<R, L> {
             Ok(_) => Ok(()),
             Err(_) => Err(AllocError),
         }
+    }
+
+    // Installs a filter; where memory is short, it is tried again for some seconds.
+    fn swap_at_last(&mut self, slot: Slot, program: &Arc<Checked>) -> Result<(), AllocError> {
+        for _ in 0..RETRIES {
+            if let Ok(program) = Arc::try_clone(program)
+                && self.swap(slot, Some(program)).is_ok()
+            {
+                return Ok(());
+            }
+            thread::sleep(&self.rt, Duration::from_millis(RETRY_MILLIS));
+        }
+        Err(AllocError)
+    }
+
+    // All that the texts of figures show.
+    fn page(&mut self) -> Result<Page, AllocError> {
+        let node = self.node.lock(&self.rt);
+        page_of(&self.rt, self.alloc, node.proxy())
+    }
+}
+
+/// The filters in the files of the configuration.
+fn filters_in<R: Files + AllocGlobal>(
+    rt: &R,
+    alloc: Global,
+    files: &[FilterFile],
+) -> Result<Vec<Filter>, PutFault> {
+    match read_filters(rt, files) {
+        Ok(filters) => Ok(filters),
+        Err(FilesFault::NoMemory) => Err(PutFault::NoMemory),
+        Err(fault) => match format!(in alloc; "{fault}\n") {
+            Ok(line) => Err(PutFault::NoFilter(line.into_bytes())),
+            Err(_) => Err(PutFault::NoMemory),
+        },
     }
 }
 
@@ -54,7 +98,7 @@ fn put_fault(alloc: Global, fault: ProgramFault) -> PutFault {
     }
 }
 
-impl<R: Wait + Clock + Drop, L: Ledger> Panel for NodePanel<R, L> {
+impl<R: Wait + Clock + Files + AllocGlobal + Drop, L: Ledger> Panel for NodePanel<R, L> {
     fn admits(&mut self, asked: &Asked) -> bool {
         let port = self.port();
         is_administrator(&asked.head, asked.target.as_bytes(), port)
@@ -117,6 +161,43 @@ impl<R: Wait + Clock + Drop, L: Ledger> Panel for NodePanel<R, L> {
             Some(text) => Ok(text.into_bytes()),
             None => Err(AllocError),
         }
+    }
+
+    fn reload(&mut self) -> Result<(), PutFault> {
+        let files = mem::replace(&mut self.files, Vec::new(self.alloc));
+        let read = filters_in(&self.rt, self.alloc, files.as_slice());
+        self.files = files;
+        for filter in read? {
+            if self.swap_at_last(filter.slot, &filter.program).is_err() {
+                return Err(PutFault::NoMemory);
+            }
+        }
+        Ok(())
+    }
+
+    fn reopen_log(&mut self) -> bool {
+        let node = self.node.lock(&self.rt);
+        match &node.proxy().log {
+            Some(log) => {
+                log.desk.reopen(&self.rt);
+                true
+            }
+            None => false,
+        }
+    }
+
+    fn stop(&mut self) {
+        self.node.lock(&self.rt).proxy().stop(&self.rt);
+    }
+
+    fn metrics(&mut self) -> Result<Vec<u8>, AllocError> {
+        let page = self.page()?;
+        metrics_text(self.alloc, &page)
+    }
+
+    fn clients(&mut self) -> Result<Vec<u8>, AllocError> {
+        let page = self.page()?;
+        clients_text(self.alloc, &page)
     }
 
     fn capture(&mut self, query: Option<&str>) -> Result<mpsc::Receiver<Vec<u8>>, CaptureFault> {

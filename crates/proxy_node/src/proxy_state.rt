@@ -1,4 +1,5 @@
 //! State shared by the threads of a proxy.
+use crate::log::AccessLog;
 use capture_tap::Tap;
 use crossbeam_channel::Sender;
 use filter_slots::End;
@@ -7,7 +8,7 @@ use futures::channel::mpsc::UnboundedSender;
 use futures::channel::oneshot;
 use http_rules::OriginRules;
 use http_traffic as serving;
-use http_traffic::{Admit, Job, Order};
+use http_traffic::{Admit, Job, Order, Supplier};
 use mio_queries::Timeline;
 use name_lookup::{NameDesk, hand_over};
 use node_book::Desk;
@@ -16,10 +17,11 @@ use peer_select::Source;
 use plain_node::MAX_PENDING_FETCHES;
 use std::alloc::{AllocError, Global};
 use std::net::{IpAddr, SocketAddr};
-use std::sync::atomic::{AtomicBool, AtomicU16};
+use std::sync::atomic::{AtomicBool, AtomicU16, AtomicUsize, Ordering};
 use std::sync::ledger::Ledger;
 use std::sync::{Arc, Mutex, Wait};
 use std::time::{Clock, Duration, Instant};
+use traffic_figures::Figures;
 
 /// Senders to the threads that fetch.
 #[derive(Drop)]
@@ -65,9 +67,23 @@ pub struct ProxyState<L: Ledger> {
     pub admin_port: AtomicU16,
     /// Where the administration hands a capture to the query thread.
     pub tap: Tap,
+    /// Counts answers and fetches.
+    pub figures: Figures,
+    /// The number of open connections of clients.
+    pub connections: Arc<AtomicUsize>,
+    /// Where lines about answers go, if anywhere, and their form.
+    pub log: Option<AccessLog>,
+    /// The version of the program.
+    pub version: &'static str,
+    /// When the proxy started, for its uptime. `None` if the clock could not be read.
+    pub started: Option<Instant>,
+    /// Whether an administrator has asked the proxy to end.
+    pub is_stopping: AtomicBool,
+    /// Ends the time that open connections have to end, once the proxy is ending. `None` once it was used.
+    pub hurry: Mutex<Option<oneshot::Sender<()>>>,
     /// Whether an audit found a receipt that does not agree with the event log.
     pub is_astray: AtomicBool,
-    /// Receives a message when that happens, so that the proxy ends.
+    /// Receives a message when that happens, or when an administrator asks for it, so that the proxy ends.
     pub end: Sender<(), Global>,
 }
 
@@ -88,29 +104,35 @@ struct Wanted {
 
 impl Wanted {
     /// What is to be known of the fetch while it is in flight.
-    fn flight(&self) -> Flight {
+    fn flight(&self, began: Option<Instant>) -> Flight {
         Flight {
             mode: match self.owner {
                 Some(_) => Mode::Private,
                 None => Mode::Shared,
             },
-            is_origin: matches!(self.source, Source::Origin),
+            supplier: match self.source {
+                Source::Origin => Supplier::Origin,
+                Source::Peer(place) => Supplier::Neighbour(place),
+            },
+            began,
         }
     }
 }
 
 impl<L: Ledger> ProxyState<L> {
-    /// Carries out an action other than `Send`, which it ignores. Errors: a fetch could not be started.
+    /// Carries out an action other than `Send`, which it ignores. If it gives a client a fetched object, that came from `supplier`.
+    /// Errors: a fetch could not be started.
     pub fn pass<R: Wait + Clock>(
         &self,
         rt: &R,
         alloc: Global,
         action: &Action,
+        supplier: Option<Supplier>,
     ) -> Result<(), NoMemory> {
         match action {
             Action::Send { .. } => Ok(()),
             Action::Serve { client, answer } => {
-                let answer = outcome_of(answer);
+                let answer = outcome_of(answer, supplier);
                 self.mailbox.lock(rt).answer(*client, answer);
                 Ok(())
             }
@@ -148,8 +170,10 @@ impl<L: Ledger> ProxyState<L> {
         let destination = destination.ok_or(AllocError)?;
         let fields = self.fields(rt, alloc, wanted, key.as_slice())?;
         let (sender, receiver) = oneshot::channel(alloc)?;
-        let flight = wanted.flight();
-        let deadline = self.deadline(rt).ok_or(AllocError)?;
+        let now = Instant::now(rt).ok();
+        let flight = wanted.flight(now);
+        let deadline = now.and_then(|now| now.checked_add(self.fetching));
+        let deadline = deadline.ok_or(AllocError)?;
         self.mailbox.lock(rt).begin(wanted.fetch, flight, sender)?;
         let Destination {
             name,
@@ -163,16 +187,11 @@ impl<L: Ledger> ProxyState<L> {
             host,
             target,
             fields,
-            is_origin: flight.is_origin,
+            is_origin: flight.is_origin(),
             deadline,
             wanted: receiver,
         };
         self.send(rt, alloc, name, port, order)
-    }
-
-    /// The deadline of a fetch that starts now. Returns `None` if the clock cannot be read.
-    fn deadline<R: Clock>(&self, rt: &R) -> Option<Instant> {
-        Instant::now(rt).ok()?.checked_add(self.fetching)
     }
 
     /// Sends an order to a fetch thread. Errors: it was not accepted; the fetch is no longer in flight.
@@ -262,6 +281,18 @@ impl<L: Ledger> ProxyState<L> {
         self.failed.lock(rt).pop()
     }
 
+    /// Asks the proxy to end; the second time, ends the time that open connections have for that.
+    pub fn stop<R: Wait>(&self, rt: &R) {
+        if !self.is_stopping.swap(true, Ordering::SeqCst) {
+            let _ = self.end.send(rt, ());
+            return;
+        }
+        let hurry = self.hurry.lock(rt).take();
+        if let Some(hurry) = hurry {
+            let _ = hurry.send(());
+        }
+    }
+
     /// Shuts down: accepts no more orders, cancels in-flight fetches, and drops waiting clients without an answer.
     pub fn close<R: Wait>(&self, rt: &R) {
         let lanes = self.lanes.lock(rt).take();
@@ -293,14 +324,14 @@ impl<R: Wait + Drop, L: Ledger> Admit for Origins<R, L> {
 }
 
 /// An answer of the node as the HTTP server takes it; status 503 if the object cannot get one more owner.
-fn outcome_of(answer: &Answer) -> serving::Outcome {
+fn outcome_of(answer: &Answer, supplier: Option<Supplier>) -> serving::Outcome {
     match answer {
         Answer::Hit { object, age } => match object.share() {
             Ok(object) => serving::Outcome::Hit { object, age: *age },
             Err(_) => serving::Outcome::Fail(503),
         },
         Answer::Got(object) => match object.share() {
-            Ok(object) => serving::Outcome::Got(object),
+            Ok(object) => serving::Outcome::Got { object, supplier },
             Err(_) => serving::Outcome::Fail(503),
         },
         Answer::Fail(status) => serving::Outcome::Fail(*status),

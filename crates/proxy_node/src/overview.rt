@@ -1,0 +1,126 @@
+//! All that the texts of figures show, gathered from the node and the threads.
+use crate::clock::date_seconds;
+use crate::log::AccessLog;
+use crate::proxy_state::ProxyState;
+use node_book::NeighbourView;
+use node_core::Counters;
+use std::alloc::{AllocError, AllocGlobal, Global};
+use std::fs;
+use std::fs::Files;
+use std::sync::Wait;
+use std::sync::atomic::Ordering;
+use std::sync::ledger::Ledger;
+use std::time::{Clock, Instant};
+use traffic_figures::{LogLines, NeighbourFigures, NeighbourState, Page, SocketFigures, Sockets};
+
+/// The octets of a page of memory, as the system's counts of them have it.
+const PAGE_OCTETS: u64 = 4096;
+
+/// What there is to show now. Errors: out of memory.
+pub fn page_of<R: Wait + Clock + Files + AllocGlobal, L: Ledger>(
+    rt: &R,
+    alloc: Global,
+    proxy: &ProxyState<L>,
+) -> Result<Page, AllocError> {
+    let uptime = uptime_of(rt, proxy.started);
+    let stats = proxy.desk.stats(rt);
+    let (waiting, fetching) = waiting_in(rt, proxy);
+    Ok(Page {
+        figures: proxy.figures.snapshot(alloc)?,
+        version: proxy.version,
+        uptime,
+        started: date_seconds(rt).checked_sub(uptime),
+        resident: resident_octets(rt),
+        sockets: Some(Sockets {
+            icp: socket_figures(stats.icp),
+            htcp: socket_figures(stats.htcp),
+        }),
+        neighbours: neighbours_of(rt, alloc, proxy)?,
+        connections: Some(proxy.connections.load(Ordering::SeqCst) as u64),
+        fetching: Some(fetching),
+        waiting: Some(waiting),
+        objects: None,
+        stored: None,
+        evictions: None,
+        swaps: Some(proxy.desk.swaps()),
+        book: None,
+        events: None,
+        log: proxy.log.as_ref().map(log_lines),
+    })
+}
+
+// Seconds since an instant; 0 if the clock could not be read.
+fn uptime_of<R: Clock>(rt: &R, started: Option<Instant>) -> u64 {
+    let (Some(started), Ok(now)) = (started, Instant::now(rt)) else {
+        return 0;
+    };
+    match now.checked_duration_since(started) {
+        Some(since) => since.as_secs(),
+        None => 0,
+    }
+}
+
+// The numbers of waiting clients and of fetches in flight.
+fn waiting_in<R: Wait, L: Ledger>(rt: &R, proxy: &ProxyState<L>) -> (u64, u64) {
+    let mailbox = proxy.mailbox.lock(rt);
+    (mailbox.waiting() as u64, mailbox.fetching() as u64)
+}
+
+// The octets of memory that are resident, by the second number of Linux's /proc/self/statm. `None` if it can't be read.
+fn resident_octets<R: Files + AllocGlobal>(rt: &R) -> Option<u64> {
+    let text = fs::read(rt, "/proc/self/statm").ok()?;
+    let text = str::from_utf8(text.as_slice()).ok()?;
+    let pages: u64 = text.split(' ').nth(1)?.parse().ok()?;
+    pages.checked_mul(PAGE_OCTETS)
+}
+
+fn socket_figures(counters: Counters) -> SocketFigures {
+    let Counters {
+        judged,
+        rejected,
+        cut,
+        malformed,
+    } = counters;
+    SocketFigures {
+        judged,
+        rejected,
+        cut,
+        malformed,
+    }
+}
+
+fn log_lines(log: &AccessLog) -> LogLines {
+    let counts = log.desk.counts();
+    LogLines {
+        written: counts.written,
+        lost: counts.lost,
+    }
+}
+
+// What is known of each neighbour, in the order of the configuration. Errors: out of memory.
+fn neighbours_of<R: Wait, L: Ledger>(
+    rt: &R,
+    alloc: Global,
+    proxy: &ProxyState<L>,
+) -> Result<Vec<NeighbourFigures>, AllocError> {
+    let views = proxy.desk.neighbours(rt, alloc)?;
+    let mut neighbours = Vec::with_capacity(alloc, views.len())?;
+    for view in &views {
+        neighbours.push(neighbour_of(view))?;
+    }
+    Ok(neighbours)
+}
+
+fn neighbour_of(view: &NeighbourView) -> NeighbourFigures {
+    NeighbourFigures {
+        address: view.end.addr,
+        port: view.end.port,
+        state: Some(NeighbourState {
+            is_up: view.is_up,
+            // (its unit is an eighth of a millisecond)
+            micros: view.time.map(|eighths| u64::from(eighths) * 125),
+            misses: u64::from(view.misses),
+            outstanding: None,
+        }),
+    }
+}
