@@ -3,6 +3,10 @@
 #   make serve   runs the proxy on examples/serve.json, proved or unproved likewise
 #   make group   runs the built program as three proxies that ask one another; if it is not built, it says what to do
 #   make build   proves and builds the program and all crates below it
+#   make install PREFIX=/usr/local DESTDIR=   installs the built program with its unit, manual and examples
+#   make deb     makes a Debian package of the built program, build/wabretos_VERSION_ARCHITECTURE.deb
+#   make package tests both, and what the unit runs (needs dpkg, systemd-analyze, curl and jq; says what it leaves out without)
+#   make page    looks at the administration's page in a Chromium, with pictures in build/page/ (says so where there is none)
 #   make test    proves every crate from nothing, tries the must-fail edits, runs all tests, script cases and documents
 #   make format  lays out the files of all crates as rt fmt does; the gate refuses a crate with a file that is laid out otherwise
 #   make edits   tries every must-fail edit, also those in more-edits/
@@ -21,7 +25,10 @@ SCRIPT ?= examples/first_path.script
 
 CONFIG ?= examples/serve.json
 
-.PHONY: serve group feed build test format cases documents loopback attacks open hostile slow interop load large edits bench sweep storm
+PREFIX ?= /usr/local
+DESTDIR ?=
+
+.PHONY: serve group feed build install deb package page test format cases documents loopback attacks open hostile slow interop load large edits bench sweep storm
 
 feed:
 	@tools/feed $(SCRIPT)
@@ -34,6 +41,19 @@ group:
 
 build:
 	@tools/build
+
+install:
+	@tools/install --prefix "$(PREFIX)" --destdir "$(DESTDIR)" $(PROGRAM)
+
+deb:
+	@tools/deb $(PROGRAM)
+
+package:
+	@tests/package $(PROGRAM)
+
+page:
+	@tools/page --check
+	@tests/page $(if $(wildcard $(PROGRAM)),--program $(PROGRAM))
 
 test:
 	@tools/gate
