@@ -14,6 +14,7 @@ mod limits;
 mod queries;
 mod site;
 mod tasks;
+mod writing;
 
 pub use fault::{Port, ServeFault};
 pub use limits::{ProxyLimits, SEATS};

@@ -4,13 +4,13 @@ ghost use Rattle.node_book.specs.Book.{count_of};
 
 use crate::fault::{Port, ServeFault};
 use crate::limits::{
-    ADDRESS_CONNECTIONS, ENDS, FETCH_OCTETS, FETCHERS, LOG_GRACE, LOOK_UPS, ProxyLimits, SEATS,
-    THREADS,
+    ADDRESS_CONNECTIONS, ENDS, FETCH_OCTETS, FETCHERS, LOOK_UPS, ProxyLimits, SEATS, THREADS,
 };
 use crate::tasks::{
     AdministrationTask, BoundQueries, ClientTask, Ending, FetchTask, QueryTask, Task, ThreadConfig,
     Work, no_memory, run_task,
 };
+use crate::writing::Writing;
 use capture_tap::Tap;
 use crossbeam_channel::{Receiver, Sender, bounded, unbounded};
 use filter_files::Filter;
@@ -70,30 +70,6 @@ pub struct Site<L: Ledger> {
     // Receives a message when the proxy is to end: after the last answer, or from a thread that ends.
     ends: Receiver<(), Global>,
     end: Sender<(), Global>,
-}
-
-/// The thread that writes the access log.
-#[derive(Drop)]
-struct Writing {
-    thread: JoinHandle<()>,
-    // Receives a message once all is written.
-    written: Receiver<(), Global>,
-}
-
-impl Writing {
-    /// Waits until all lines are written, for a while. Returns whether they are. A thread that still waits for what it writes to ends
-    /// with the program.
-    fn is_done<R: Threads + Wait + Clock>(self, rt: &R) -> bool {
-        let Writing { thread, written } = self;
-        if written
-            .recv_timeout(rt, Duration::from_secs(LOG_GRACE))
-            .is_err()
-        {
-            return false;
-        }
-        thread.join(rt);
-        true
-    }
 }
 
 /// What a proxy is given at its start beside its settings. `F` is a file.
@@ -397,6 +373,7 @@ impl<L: Ledger + Send + Sync + 'static> Site<L> {
         let _ = self.ends.recv(&rt);
         let was_asked = self.proxy.is_stopping.load(Ordering::SeqCst);
         if !was_asked {
+            self.end_queries();
             self.proxy.close(&rt);
         }
         let (report, is_logged) = self.shut(rt)?;
@@ -405,6 +382,14 @@ impl<L: Ledger + Send + Sync + 'static> Site<L> {
             was_asked,
             is_logged,
         })
+    }
+
+    // Ends the thread of the query sockets.
+    fn end_queries(&self) {
+        self.is_ended.store(true, Ordering::SeqCst);
+        if let Some(bell) = &self.bell {
+            bell.ring();
+        }
     }
 
     /// Stops and joins all threads but those that look up names, and settles the event log. The clients' thread goes first, so that
