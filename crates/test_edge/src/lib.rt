@@ -1,9 +1,11 @@
 //! Tests of the network edge over loopback: `client_streams`, `object_body`, `fetch_chain`, `http_clients`, `http_fetches` and
 //! `name_lookup`, against clients and origin servers on plain sockets. Nothing here has a contract that another crate uses.
 //!
-//! Tested by: src/budget.rt, src/fetches.rt, src/names.rt, src/path.rt, src/seats.rt, src/servers.rt, src/told.rt.
+//! Tested by: src/administration.rt, src/budget.rt, src/fetches.rt, src/names.rt, src/path.rt, src/seats.rt, src/servers.rt, src/told.rt.
 #![tactic(auto)]
 
+#[cfg(test)]
+mod administration;
 #[cfg(test)]
 mod budget;
 #[cfg(test)]
