@@ -9,9 +9,12 @@
 #   make page    looks at the administration's page in a Chromium, with pictures in build/page/ (says so where there is none)
 #   make test    proves every crate from nothing, tries the must-fail edits, runs all tests, script cases and documents
 #   make format  lays out the files of all crates as rt fmt does; the gate refuses a crate with a file that is laid out otherwise
+#   make fuzz    gives the proxy 100,000 mutated requests and answers to pass on (some 5 minutes); `make test` does 3,000
+#   make limits  runs 100 streams of 1 GiB, silent streams and tunnels, and streams beside nginx (10 minutes and more; needs nginx)
 #   make edits   tries every must-fail edit, also those in more-edits/
 #   make slow    tests the proxy with clients and origins that are silent for a minute (80 s)
 #   make interop tests the proxy beside a real squid (needs squid and curl)
+#   make clients runs curl, wget, git, pip, apt and a Chromium through it, and says what each fetched of the origin, beside squid (needs nginx and openssl)
 #   make attacks tests the proxy against clients, origins, neighbours and strangers that mean harm (100 s)
 #   make open    tries the attacks that still succeed; docs/SECURITY.md has them under what does not hold
 #   make load    runs a mixed load for 15 minutes, for eleven of them with a hostile mix beside it (needs curl, a C compiler and unshare)
@@ -28,7 +31,7 @@ CONFIG ?= examples/serve.json
 PREFIX ?= /usr/local
 DESTDIR ?=
 
-.PHONY: serve group feed build install deb package page test format cases documents loopback attacks open hostile slow interop load large edits bench sweep storm
+.PHONY: serve group feed build install deb package page test format cases documents loopback attacks open hostile slow interop clients load large fuzz limits edits bench sweep storm
 
 feed:
 	@tools/feed $(SCRIPT)
@@ -77,6 +80,10 @@ slow:
 interop:
 	@tests/interop $(PROGRAM)
 
+# The clients of a site through the proxy, and through squid.
+clients:
+	@tests/clients $(PROGRAM)
+
 attacks:
 	@tests/serve_attacks $(PROGRAM)
 
@@ -85,6 +92,13 @@ open:
 
 load:
 	@tests/load $(PROGRAM)
+
+# What is passed on: mutated messages, and limits of streams and tunnels.
+fuzz:
+	@tests/passage_fuzz $(PROGRAM)
+
+limits:
+	@tests/passage_limits $(PROGRAM)
 
 large:
 	@tests/large_answers $(PROGRAM)

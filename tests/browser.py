@@ -3,11 +3,13 @@
 `Browser()` raises `NoBrowser` where there is none. Its profile is a temporary folder; `end` ends it.
 """
 import base64
+import fcntl
 import json
 import os
 import select
 import shutil
 import subprocess
+import sys
 import tempfile
 import time
 import zlib
@@ -20,6 +22,10 @@ STEPS = """(() => {
   performance.now = () => moment;
   window.setTimeout = (call) => { moment += %(step)s * 1000; return later(call, 5); };
 })();"""
+
+
+# Becomes the program that the third argument names, with the descriptors of the first two as 3 and 4 (sh knows none above 9).
+LAUNCH = "import os, sys; os.dup2(int(sys.argv[1]), 3); os.dup2(int(sys.argv[2]), 4); os.execv(sys.argv[3], sys.argv[3:])"
 
 
 class NoBrowser(Exception):
@@ -38,11 +44,13 @@ class Browser:
         words = [program, "--headless=new", "--no-sandbox", "--disable-gpu", "--disable-dev-shm-usage", "--no-first-run", "--disable-extensions",
                  "--disable-background-networking", "--disable-component-update", "--no-default-browser-check", "--mute-audio", "--no-proxy-server",
                  f"--user-data-dir={self.folder.name}", "--remote-debugging-pipe", "about:blank"]
-        # The browser reads from descriptor 3 and writes to 4.
-        shell = ["sh", "-c", f'exec "$@" 3<&{ours[0]} 4>&{theirs[1]}', "sh", *words]
         environment = {**os.environ, "HOME": self.folder.name}
-        self.process = subprocess.Popen(shell, stdin=subprocess.DEVNULL, stdout=subprocess.DEVNULL, stderr=subprocess.DEVNULL,
-                                        pass_fds=(ours[0], theirs[1]), env=environment)
+        # The browser reads from descriptor 3 and writes to 4; ends above them are not overwritten by one another.
+        ends = [fcntl.fcntl(it, fcntl.F_DUPFD_CLOEXEC, 10) for it in (ours[0], theirs[1])]
+        self.process = subprocess.Popen([sys.executable, "-c", LAUNCH, *map(str, ends), *words], stdin=subprocess.DEVNULL,
+                                        stdout=subprocess.DEVNULL, stderr=subprocess.DEVNULL, pass_fds=ends, env=environment)
+        for it in ends:
+            os.close(it)
         os.close(ours[0])
         os.close(theirs[1])
 

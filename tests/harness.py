@@ -43,7 +43,7 @@ def holds(truth, what):
         raise AssertionError(what)
 
 
-def until(truth, seconds=10.0, what="it did not come about"):
+def until(truth, seconds=30.0, what="it did not come about"):
     """Waits until a condition holds. Returns after how many seconds it did."""
     began = time.monotonic()
     while not truth():
@@ -57,7 +57,7 @@ def settled(number, seconds=0.5):
     began = since = time.monotonic()
     seen = number()
     while time.monotonic() - since < seconds:
-        holds(time.monotonic() - began < 20, "a number goes on changing")
+        holds(time.monotonic() - began < 60, "a number goes on changing")
         time.sleep(0.02)
         now = number()
         if now != seen:
@@ -177,7 +177,8 @@ class Proxy:
             said = self.start(files)
             if said is None:
                 return
-            if "config fault 4" not in said or "http_port" in settings:
+            is_taken = "config fault 4" in said or "is the same port" in said
+            if not is_taken or "http_port" in settings:
                 break
         raise AssertionError(f"not ready: {said!r}")
 
@@ -325,6 +326,184 @@ def closed(s):
     return time.monotonic() - began
 
 
+# ---- servers that read contents, and octets that go both ways
+
+class Server:
+    """Calls a function with each connection that it accepts, on a thread of its own, and closes the connection then."""
+
+    def __init__(self, serve, address="127.0.0.1"):
+        self.serve, self.accepted = serve, 0
+        self.socket = socket.create_server((address, 0), backlog=512)
+        self.port = self.socket.getsockname()[1]
+        threading.Thread(target=self.run, daemon=True).start()
+
+    def run(self):
+        while True:
+            try:
+                connection, _ = self.socket.accept()
+            except OSError:
+                return
+            self.accepted += 1
+            threading.Thread(target=self.one, args=(connection,), daemon=True).start()
+
+    def one(self, connection):
+        with connection:
+            try:
+                self.serve(connection)
+            except OSError:
+                pass
+
+    def url(self, path):
+        return f"http://127.0.0.1:{self.port}{path}"
+
+
+class Received:
+    """A request as a server receives it. `content` grows as it is read; `is_whole` is whether all of it came, `is_over` that no more
+    will come. `fault` says what was no HTTP/1.1."""
+
+    def __init__(self, head, connection, file):
+        self.head, self.connection, self.file = head, connection, file
+        self.content, self.is_whole, self.is_over, self.fault = bytearray(), False, threading.Event(), None
+        lines = head.decode("latin1").split("\r\n")
+        self.method, self.target, self.version = (lines[0].split(" ") + ["", ""])[:3]
+        self.fields = fields_of(lines[1:])
+
+    def field(self, name):
+        return ", ".join(self.fields[name]) if name in self.fields else None
+
+    def reset(self):
+        """Ends the connection so that the other side is told of a reset."""
+        self.file.close()
+        reset(self.connection)
+
+    def read(self, most=1 << 62):
+        """Reads what there is still to come of the content, or about so many octets of it."""
+        try:
+            if "transfer-encoding" in self.fields:
+                self.read_chunks()
+            else:
+                self.read_length(int(self.field("content-length") or 0), most)
+        except (ValueError, OSError) as fault:
+            self.fault = fault
+        finally:
+            if self.is_whole or most == 1 << 62:
+                self.is_over.set()
+        return bytes(self.content)
+
+    def read_length(self, length, most):
+        wanted = min(length, len(self.content) + most)
+        while len(self.content) < wanted:
+            piece = self.file.read1(min(65536, wanted - len(self.content)))
+            if not piece:
+                return
+            self.content += piece
+        self.is_whole = len(self.content) == length
+
+    def read_chunks(self):
+        while True:
+            size = int(self.file.readline().split(b";")[0].strip() or b"-", 16)
+            left = size
+            while left:
+                piece = self.file.read1(min(65536, left))
+                if not piece:
+                    return
+                self.content += piece
+                left -= len(piece)
+            if not size:
+                while self.file.readline().strip():
+                    pass
+                self.is_whole = True
+                return
+            if self.file.readline() != b"\r\n":
+                raise ValueError("no end of a chunk")
+
+
+class Recorder(Server):
+    """A server that reads each request with its content, and answers with what `answer(request)` returns; where that is None it has
+    answered by itself. It reads on behind its answer, so a second request on the connection is seen. With `is_early` the answer is
+    asked for before the content is read."""
+
+    def __init__(self, answer, address="127.0.0.1", is_early=False):
+        self.answer, self.is_early, self.requests = answer, is_early, []
+        super().__init__(self.requests_of, address)
+
+    def requests_of(self, connection):
+        with connection.makefile("rb") as file:
+            while (head := self.head_of(file)) and self.one_request(Received(head, connection, file)):
+                pass
+
+    def head_of(self, file):
+        head = b""
+        while not head.endswith(b"\r\n\r\n"):
+            line = file.readline()
+            if not line:
+                return None
+            head += line
+        return head[:-4]
+
+    def one_request(self, request):
+        """Reads and answers a request. Returns whether another one may follow."""
+        self.requests.append(request)
+        if not self.is_early and request.read() is not None and not request.is_whole:
+            return False
+        given = self.answer(request)
+        if given is not None:
+            request.connection.sendall(given)
+        return b"\r\nconnection: close\r\n" not in (given or b"").lower() and not request.file.closed
+
+    def targets(self):
+        return [it.target for it in self.requests]
+
+
+def fields_of(lines):
+    """The values of the fields of a head, by their names in lower case."""
+    fields = {}
+    for line in lines:
+        name, _, value = line.partition(":")
+        fields.setdefault(name.lower(), []).append(value.strip())
+    return fields
+
+
+def in_chunks(octets, size=10_000, extension=b""):
+    """Octets in the chunked coding (RFC 9112, section 7.1), with the last chunk."""
+    pieces = [octets[at:at + size] for at in range(0, len(octets), size)]
+    return b"".join(b"%x%s\r\n%s\r\n" % (len(it), extension, it) for it in pieces) + b"0\r\n\r\n"
+
+
+def content_of(octets):
+    """The content of an answer with a head, and whether it is complete by its framing."""
+    head, _, rest_of_it = octets.partition(b"\r\n\r\n")
+    fields = fields_of(head.decode("latin1").split("\r\n")[1:])
+    if "transfer-encoding" not in fields:
+        return rest_of_it, "content-length" not in fields or len(rest_of_it) == int(fields["content-length"][0])
+    content = b""
+    while True:
+        line, _, rest_of_it = rest_of_it.partition(b"\r\n")
+        if not line:
+            return content, False
+        size = int(line.split(b";")[0], 16)
+        if not size:
+            return content, rest_of_it.endswith(b"\r\n")
+        content, rest_of_it = content + rest_of_it[:size], rest_of_it[size + 2:]
+
+
+def read_head(s):
+    """Reads from a connection until a head has come. Returns it as an answer, with what came behind it as its body."""
+    octets = b""
+    while b"\r\n\r\n" not in octets:
+        piece = s.recv(65536)
+        if not piece:
+            raise AssertionError(f"closed after {octets!r}")
+        octets += piece
+    return Answer(octets)
+
+
+def reset(s):
+    """Closes a connection so that the other side is told of a reset."""
+    s.setsockopt(socket.SOL_SOCKET, socket.SO_LINGER, struct.pack("ii", 1, 0))
+    s.close()
+
+
 # ---- datagrams
 
 def icp(opcode, number, url, front=b""):
@@ -426,8 +605,8 @@ def run_one(function):
             proxy.kill()
 
 
-def run_tests(side_by_side=False):
-    """Runs the file's tests, or those that are named, one by one or all at the same time. The last line has the counts."""
+def run_tests(side_by_side=False, most=64):
+    """Runs the file's tests, or those that are named, one by one or so many at the same time. The last line has the counts."""
     names = sys.argv[2:]
     chosen = [it for it in TESTS if not names or it.__name__ in names]
     verdicts = []
@@ -441,7 +620,8 @@ def run_tests(side_by_side=False):
         print(line, flush=True)
 
     if side_by_side:
-        at_once(len(chosen), lambda n: run(chosen[n]))
+        left = iter(chosen)
+        at_once(min(most, len(chosen)), lambda _: [run(function) for function in left])
     else:
         for function in chosen:
             run(function)

@@ -3,7 +3,7 @@
 //! `specs/Line.antt` defines the line of an entry, in two forms, `specs/Escaped.antt` what stands in it for what a client wrote, and
 //! `specs/Reading.antt` how a reader understands that. Contracts say that exactly this line is given, that it is one line of printable
 //! ASCII whatever the client wrote, and that what the client wrote reads back from it.
-//! Tested by: src/tests.rt, must-fail edits.
+//! Tested by: crates/test_operator, must-fail edits.
 #![tactic(auto)]
 
 mod common;
@@ -17,6 +17,3 @@ mod stamp;
 pub use entry::{Course, Entry, Form, Supplier};
 pub use laws::{a_text_reads_one_way, escaped_texts_read_back};
 pub use line::line_of;
-
-#[cfg(test)]
-mod tests;

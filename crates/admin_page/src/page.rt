@@ -56,7 +56,7 @@ figure svg { display: block; width: 100%; height: 180px; overflow: visible; }
 .key li.dashed::before { border-top-style: dashed; }
 .hit { --colour: var(--hit); } .miss { --colour: var(--miss); } .collapsed { --colour: var(--collapsed); }
 .bypass { --colour: var(--bypass); } .refused { --colour: var(--refused); }
-svg .area { fill: var(--colour); stroke: var(--ground); stroke-width: .75; }
+svg .area { fill: var(--colour); }
 svg .curve { fill: none; stroke: var(--colour); stroke-width: 2; stroke-linejoin: round; }
 svg .dashed { stroke-dasharray: 5 4; }
 svg .rule { stroke: var(--rule); stroke-width: 1; }
@@ -80,6 +80,12 @@ footer { padding-bottom: 2rem; }
   button { order: 0; padding: .25rem .5rem; }
   table { font-size: .875rem; }
   th, td { padding: .25rem .1875rem; }
+  th[scope=row] { white-space: normal; }
+  .words th[scope=row] { overflow-wrap: anywhere; }
+}
+@media (max-width: 22rem) {
+  table, thead th { font-size: .75rem; }
+  th, td { padding: .25rem .125rem; }
 }
 </style>
 </head>

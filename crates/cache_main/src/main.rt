@@ -9,7 +9,9 @@
 
 mod check_command;
 mod configuration_command;
+mod ending;
 mod serve_command;
+mod standard_files;
 
 use cache_serve::SEATS;
 use check_command::run_check;
@@ -18,6 +20,7 @@ use configuration_command::check_configuration;
 use feed_script::feed;
 use filter_replay::{run_explain, run_replay};
 use serve_command::{run_serve, settings_of};
+use standard_files::take_closed;
 use std::env::Env;
 use std::marker::Brand;
 use std::process::ExitCode;
@@ -46,6 +49,7 @@ enum Command<'a> {
 }
 
 fn main(rt: HostRuntime) -> ExitCode {
+    take_closed(&rt);
     let Ok(words) = words_of(&rt) else {
         return refuse_words(&rt);
     };

@@ -1,13 +1,16 @@
 //! The command `serve`: runs the proxy until it has given its last answer.
 ghost use Rattle.std.specs.Prelude.{◌≡◌};
 
+use crate::ending::tell_finish;
 use access_log::Form;
-use cache_serve::{Equipment, Finish, Port, ProxyLimits, SEATS, ServeFault, Site, start};
+use cache_serve::{
+    Equipment, MethodsFault, Port, ProxyLimits, SEATS, ServeFault, Site, methods_fault, start,
+};
 use command_line::VERSION;
 use filter_files::{FilesFault, Filter, read_filters};
-use log_writer::{LogPlace, open_log};
-use proxy_node::AccessLog;
-use serve_config::{LogFormat, Settings};
+use log_writer::{LogPlace, LogTask, open_log};
+use proxy_node::{AccessLog, Notices};
+use serve_config::{LogFormat, LogLevel, Settings};
 use std::alloc::AllocGlobal;
 use std::fs;
 use std::fs::Files;
@@ -32,11 +35,28 @@ pub fn settings_of<R: Files + AllocGlobal + Eprint>(rt: &R, file: &str) -> Optio
 
 /// Parses the settings in a text. On a fault prints its line on standard error and returns `None`.
 pub fn settings_in<R: AllocGlobal + Eprint>(rt: &R, text: &[u8]) -> Option<Settings> {
-    match Settings::read(rt.alloc(), text) {
-        Ok(settings) => Some(settings),
+    let settings = match Settings::read(rt.alloc(), text) {
+        Ok(settings) => settings,
         Err(fault) => {
             let _ = eprintln!(rt; "{fault}");
-            None
+            return None;
+        }
+    };
+    if let Some(fault) = methods_fault(&settings) {
+        let _ = eprintln!(rt; "config fault 3\nmethods: {}", lack_of(fault));
+        return None;
+    }
+    Some(settings)
+}
+
+/// What a configuration lacks that passes on methods which change what they ask for.
+fn lack_of(fault: MethodsFault) -> &'static str {
+    match fault {
+        MethodsFault::NoKey => {
+            "needs a key in keys, to sign the cache's requests to itself by which it takes out of the store what such a method changes"
+        }
+        MethodsFault::NotAllowed => {
+            "needs the address of the HTCP socket in allowed, for the cache's requests to itself by which it takes out of the store what such a method changes"
         }
     }
 }
@@ -75,7 +95,10 @@ where
             let _ = println!(rt; "ready");
             tell_ports(&rt, &site, &asked);
             match site.finish(rt) {
-                Ok(finish) => tell_finish(&rt, &finish),
+                Ok(finish) => {
+                    tell_finish(rt, &finish);
+                    true
+                }
                 Err(fault) => tell_end(&rt, fault),
             }
         }
@@ -83,31 +106,55 @@ where
     }
 }
 
-/// The filters and the access log that a configuration names. On a fault prints its line on standard error and returns `None`.
+/// The filters and the logs that a configuration names. On a fault prints its line on standard error and returns `None`.
 fn equipment_of<R: Files + AllocGlobal + Eprint>(
     rt: &R,
     settings: &Settings,
 ) -> Option<Equipment<R::File>> {
     let filters = filters_of(rt, settings)?;
-    let Some(place) = &settings.access_log else {
-        return Some(Equipment {
-            filters,
-            log: None,
-            version: VERSION,
-        });
+    let log = match &settings.access_log {
+        Some(place) => Some(access_log_at(rt, place, settings.access_log_format)?),
+        None => None,
     };
-    let form = match settings.access_log_format {
+    let notices = match settings.log_level {
+        LogLevel::Quiet => None,
+        LogLevel::Info => Some(notices_on_errors(rt)?),
+    };
+    Some(Equipment {
+        filters,
+        log,
+        notices,
+        version: VERSION,
+    })
+}
+
+/// The access log at a place, and what writes it. On a fault prints its line on standard error and returns `None`.
+fn access_log_at<R: Files + AllocGlobal + Eprint>(
+    rt: &R,
+    place: &String,
+    format: LogFormat,
+) -> Option<(AccessLog, LogTask<R::File>)> {
+    let form = match format {
         LogFormat::Common => Form::Common,
         LogFormat::Json => Form::Json,
     };
     match open_log(rt, rt.alloc(), place_of(rt, place)?) {
-        Ok((desk, task)) => Some(Equipment {
-            filters,
-            log: Some((AccessLog { desk, form }, task)),
-            version: VERSION,
-        }),
+        Ok((desk, task)) => Some((AccessLog { desk, form }, task)),
         Err(fault) => {
             let _ = eprintln!(rt; "config fault 6\naccess_log: {place}: {fault}");
+            None
+        }
+    }
+}
+
+/// Notices on standard error, and what writes them. If memory runs out prints the fault's line and returns `None`.
+fn notices_on_errors<R: Files + AllocGlobal + Eprint>(
+    rt: &R,
+) -> Option<(Notices, LogTask<R::File>)> {
+    match open_log(rt, rt.alloc(), LogPlace::Errors) {
+        Ok((desk, task)) => Some((Notices::new(desk), task)),
+        Err(_) => {
+            let _ = eprintln!(rt; "config fault 5");
             None
         }
     }
@@ -190,19 +237,6 @@ fn tell_port<R: Eprint>(rt: &R, key: &str, asked: u16, chosen: u16) {
     if asked == 0 {
         let _ = eprintln!(rt; "{key}: {chosen}");
     }
-}
-
-/// Prints whether lines of the access log are lost, and how many events were settled if an administrator ended the proxy. Returns
-/// `true`.
-fn tell_finish<R: Eprint>(rt: &R, finish: &Finish) -> bool {
-    if !finish.is_logged {
-        let _ = eprintln!(rt; "access log: the last lines are lost: nothing takes them");
-    }
-    if finish.was_asked {
-        let count = finish.report.count;
-        let _ = eprintln!(rt; "stopped, {count} events settled");
-    }
-    true
 }
 
 /// Prints why the proxy did not start. Returns `false`.

@@ -11,11 +11,17 @@
 
 mod fault;
 mod limits;
+mod opening;
+mod passing;
 mod queries;
+mod shutdown;
 mod site;
+mod state;
 mod tasks;
 mod writing;
 
 pub use fault::{Port, ServeFault};
 pub use limits::{ProxyLimits, SEATS};
-pub use site::{Addresses, Equipment, Finish, Site, start};
+pub use passing::{MethodsFault, methods_fault};
+pub use shutdown::Finish;
+pub use site::{Addresses, Equipment, Site, start};

@@ -37,7 +37,7 @@ const CLIENT_CONTENT: usize = 65_536;
 /// The most octets of the content of an administrator's request.
 const ADMINISTRATION_CONTENT: usize = 262_144;
 
-/// How many seconds the end waits for what the access log is written to.
+/// How many seconds the end waits for what the access log is written to, and then for what the notices are written to.
 pub const LOG_GRACE: u64 = 5;
 
 /// Limits on the sockets and fetches of a proxy.

@@ -4,7 +4,7 @@ use crate::limits::SENDS_A_TURN;
 use crossbeam_channel::Receiver;
 use mio_queries::{MioWire, PumpFault, Wire, pump_with};
 use node_core::Out;
-use proxy_node::{NodeHandle, Outgoing, RETRIES, RETRY_MILLIS};
+use proxy_node::{MalformedWatch, NodeHandle, Outgoing, RETRIES, RETRY_MILLIS};
 use std::alloc::{AllocGlobal, Global};
 use std::net::Net;
 use std::sync::Wait;
@@ -26,12 +26,10 @@ where
     R: Wait + Net + Clock + AllocGlobal + Drop,
     L: Ledger,
 {
-    let Ok(mut out) = Out::new(alloc) else {
+    let (Ok(mut out), Ok(bell)) = (Out::new(alloc), wire.bell()) else {
         return Err(ServeFault::NoMemory);
     };
-    let Ok(bell) = wire.bell() else {
-        return Err(ServeFault::NoMemory);
-    };
+    let mut watch = MalformedWatch::new();
     let mut failures = 0u32;
     for _ in rt.forever() {
         if is_ended.load(Ordering::SeqCst) {
@@ -41,6 +39,7 @@ where
             bell.ring();
         }
         node.report_failures();
+        watch.look(rt, alloc, node.proxy());
         out.clear();
         match pump_with(alloc, wire, node, &mut out, 1) {
             Ok(_) => failures = 0,

@@ -10,21 +10,22 @@ use filter_slots::{End, Socket};
 use futures::channel::{mpsc, oneshot};
 use http_clients::{serve_admin, serve_clients};
 use http_fetches::{Budget, FetchLimits, FetchRules, run_fetches};
-use http_traffic::Job;
+use http_traffic::{FollowUp, Front, Job, Panel, PassOn};
 use mio_queries::{Bell, BindFault, MioWire, Timeline};
 use node_book::Seat;
-use node_core::Network;
 use plain_node::MAX_PENDING_FETCHES;
 use proxy_node::{
-    NodeFront, NodeHandle, NodePanel, Origins, Outbox, Outgoing, ProxyState, Results, ThreadSeat,
+    FrontRules, NodeFront, NodeHandle, NodePanel, Origins, Outbox, Outgoing, ProxyState, Purger,
+    Results, ServeFront, ServePanel, ThreadSeat,
 };
 use serve_config::FilterFile;
 use std::alloc::{AllocError, AllocGlobal, Global};
 use std::fs::Files;
 use std::io;
+use std::io::ErrorKind;
 use std::net::{Net, SocketAddr};
 use std::random::RandomSource;
-use std::sync::atomic::AtomicBool;
+use std::sync::atomic::{AtomicBool, AtomicUsize};
 use std::sync::ledger::Ledger;
 use std::sync::{Arc, Mutex, Wait};
 use std::time::{Clock, Duration};
@@ -55,6 +56,7 @@ pub struct ThreadConfig {
     pub admin_port: u16,
     pub body_limit: usize,
     pub fetch_octets: usize,
+    pub streams: u32,
     pub stop_after: u64,
     pub limits: ProxyLimits,
 }
@@ -98,7 +100,7 @@ pub struct ClientTask<L: Ledger> {
     pub seat: ThreadSeat<L>,
     pub outbox: Outbox,
     pub config: ThreadConfig,
-    pub allowed: Vec<Network>,
+    pub rules: FrontRules,
     pub name: String,
     pub bound: Sender<SocketAddr, Global>,
     pub stopped: oneshot::Receiver<()>,
@@ -113,6 +115,7 @@ pub struct AdministrationTask<L: Ledger> {
     pub config: ThreadConfig,
     pub token: Option<String>,
     pub files: Vec<FilterFile>,
+    pub purger: Purger,
     pub bound: Sender<SocketAddr, Global>,
     pub stopped: oneshot::Receiver<()>,
     pub hurried: oneshot::Receiver<()>,
@@ -128,6 +131,8 @@ pub struct FetchTask<L: Ledger> {
     pub budget: Arc<Budget>,
     pub octets: usize,
     pub connecting: Duration,
+    /// The most requests that are passed on at a time.
+    pub streams: u32,
     pub end: Sender<(), Global>,
 }
 
@@ -145,6 +150,14 @@ where
     }
 }
 
+/// The most jobs of a fetch thread at a time: the fetches that a node has pending and all requests that are passed on, so that none
+/// waits for another of its thread.
+fn at_once(streams: u32) -> usize
+    ensures { 0 < result }
+{
+    MAX_PENDING_FETCHES.saturating_add(streams as usize)
+}
+
 /// Runs a fetch thread, until all senders of its jobs are gone and its last fetch has ended.
 fn fetch<R, L>(rt: R, fetches: FetchTask<L>) -> Ending<L>
 where
@@ -158,6 +171,7 @@ where
         budget,
         octets,
         connecting,
+        streams,
         end,
     } = fetches;
     let alloc = rt.alloc();
@@ -165,8 +179,7 @@ where
         octets,
         free: FREE_OCTETS,
         connecting,
-        // As many as a node has pending, so that none waits for another of its thread.
-        at_once: MAX_PENDING_FETCHES,
+        at_once: at_once(streams),
     };
     let mut results = Results {
         rt,
@@ -266,7 +279,7 @@ where
         seat,
         outbox,
         config,
-        allowed,
+        rules,
         name,
         bound,
         stopped,
@@ -289,25 +302,61 @@ where
         alloc,
         proxy,
         node: shared,
-        allowed,
+        rules,
         last: 0,
         left: config.stop_after,
         stop,
     };
-    let ran = serve_clients(
+    let stops = Stops {
+        stop: stopped,
+        hurry: hurried,
+    };
+    let ran = front.served_by(ClientServer {
         rt,
-        config.clients,
-        name.as_str(),
-        front,
+        config,
+        name,
         bound,
-        Stops {
-            stop: stopped,
-            hurry: hurried,
-        },
+        stops,
         connections,
-        config.limits.clients,
-    );
+    });
     end_of(&rt, kept, ran, Port::Clients, &end)
+}
+
+/// Serves clients on their port.
+#[derive(Drop)]
+struct ClientServer<R> {
+    rt: R,
+    config: ThreadConfig,
+    name: String,
+    bound: Sender<SocketAddr, Global>,
+    stops: Stops,
+    connections: Arc<AtomicUsize>,
+}
+
+impl<R> ServeFront for ClientServer<R>
+where
+    R: Wait + Net + Clock + RandomSource + AllocGlobal + Copy,
+{
+    fn serve<F: Front + FollowUp + PassOn>(self, front: F) -> io::Result<()> {
+        let ClientServer {
+            rt,
+            config,
+            name,
+            bound,
+            stops,
+            connections,
+        } = self;
+        serve_clients(
+            rt,
+            config.clients,
+            name.as_str(),
+            front,
+            bound,
+            stops,
+            connections,
+            config.limits.clients,
+        )
+    }
 }
 
 /// Runs the thread that serves administration.
@@ -321,6 +370,7 @@ where
         config,
         token,
         files,
+        purger,
         bound,
         stopped,
         hurried,
@@ -337,14 +387,44 @@ where
         node: shared,
         token,
         files,
+        purger,
     };
-    let limits = config.limits.administration;
     let stops = Stops {
         stop: stopped,
         hurry: hurried,
     };
-    let ran = serve_admin(rt, config.admin_port, panel, bound, stops, limits);
+    let ran = panel.served_by(AdministrationServer {
+        rt,
+        config,
+        bound,
+        stops,
+    });
     end_of(&rt, kept, ran, Port::Administration, &end)
+}
+
+/// Serves administration on its port.
+#[derive(Drop)]
+struct AdministrationServer<R> {
+    rt: R,
+    config: ThreadConfig,
+    bound: Sender<SocketAddr, Global>,
+    stops: Stops,
+}
+
+impl<R> ServePanel for AdministrationServer<R>
+where
+    R: Wait + Net + Clock + RandomSource + AllocGlobal + Copy,
+{
+    fn serve<P: Panel>(self, panel: P) -> io::Result<()> {
+        let AdministrationServer {
+            rt,
+            config,
+            bound,
+            stops,
+        } = self;
+        let limits = config.limits.administration;
+        serve_admin(rt, config.admin_port, panel, bound, stops, limits)
+    }
 }
 
 /// A handle to the node with two owners: the server, and the thread that takes the seat back when the server has ended.
@@ -376,6 +456,7 @@ where
         seat: Arc::into_inner(kept).map(|node| node.into_inner().into_seat()),
         fault: match ran {
             Ok(()) => None,
+            Err(error) if error.kind() == ErrorKind::OutOfMemory => Some(ServeFault::NoMemory),
             Err(error) => Some(ServeFault::Bind(port, error.kind())),
         },
     }

@@ -1,4 +1,4 @@
-//! The thread that writes the access log, and its end.
+//! The threads that write the access log and the notices, and their end.
 use crate::limits::LOG_GRACE;
 use crossbeam_channel::Receiver;
 use std::alloc::Global;
@@ -6,7 +6,7 @@ use std::sync::Wait;
 use std::thread::{JoinHandle, Threads};
 use std::time::{Clock, Duration};
 
-/// The thread that writes the access log.
+/// A thread that writes a log.
 #[derive(Drop)]
 pub(crate) struct Writing {
     pub(crate) thread: JoinHandle<()>,
@@ -27,5 +27,40 @@ impl Writing {
         }
         thread.join(rt);
         true
+    }
+}
+
+/// The threads that write logs.
+#[derive(Drop)]
+pub(crate) struct Writings {
+    /// That of the access log, if there is one.
+    pub(crate) log: Option<Writing>,
+    /// That of the notices, if they are asked for.
+    pub(crate) notices: Option<Writing>,
+}
+
+/// Which logs are written to their end, or not there.
+#[derive(Clone, Copy)]
+pub(crate) struct Written {
+    pub(crate) is_logged: bool,
+    pub(crate) is_told: bool,
+}
+
+impl Writings {
+    /// Waits until all lines of both logs are written, for a while each.
+    pub(crate) fn finish<R: Threads + Wait + Clock>(self, rt: &R) -> Written {
+        let Writings { log, notices } = self;
+        Written {
+            is_logged: is_done(rt, log),
+            is_told: is_done(rt, notices),
+        }
+    }
+}
+
+// Whether a log, if there is one, is written to its end.
+fn is_done<R: Threads + Wait + Clock>(rt: &R, log: Option<Writing>) -> bool {
+    match log {
+        Some(log) => log.is_done(rt),
+        None => true,
     }
 }

@@ -3,7 +3,7 @@
 //!
 //! `specs/Blocks.antt` defines the octets of a file's blocks, and `specs/Datagram.antt` those of the IPv4 packet that is made of a
 //! datagram. Contracts say that exactly those octets are given.
-//! Tested by: src/tests.rt, tests/serve, more-edits.
+//! Tested by: crates/test_capture, tests/serve, more-edits.
 #![tactic(auto)]
 
 mod blocks;
@@ -12,6 +12,3 @@ mod packet;
 
 pub use blocks::{COUNTS_OCTETS, HEAD_OCTETS, counts_block, datagram_block, head};
 pub use fate::Fate;
-
-#[cfg(test)]
-mod tests;

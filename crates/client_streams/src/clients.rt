@@ -19,6 +19,9 @@ pub trait Accept: Drop {
     /// Serves one client until its connection ends.
     type Serving: Future<Output = ()>;
 
+    /// Called once the server is open: from then on it accepts clients.
+    fn opened(&mut self);
+
     /// Whether a client at `address` takes one of the seats for clients. Others are refused, and take none of these.
     fn has_seat(&self, address: SocketAddr) -> bool;
 
@@ -39,7 +42,8 @@ pub trait Accept: Drop {
 pub struct Seated<F> {
     // None for a seat that is only taken until the server is open.
     serving: Option<Box<F>>,
-    stage: SharedStage,
+    // None for such a seat as well.
+    stage: Option<SharedStage>,
     seat: TakenSeat,
 }
 
@@ -58,10 +62,10 @@ impl<F: Future<Output = ()>> Future for Seated<F> {
             return Poll::Ready(());
         }
         self.serving = Some(serving);
-        if self.seat.must_close(&self.stage, cx) {
-            return Poll::Ready(());
+        match &self.stage {
+            Some(stage) if self.seat.must_close(stage, cx) => Poll::Ready(()),
+            _ => Poll::Pending,
         }
-        Poll::Pending
     }
 }
 
@@ -111,7 +115,7 @@ pub struct Stops {
 /// others, and is closed where none of these is free.
 ///
 /// The first futures serve nobody, and end together: one for each seat, so that whoever runs the futures has room for as many as
-/// there may be, and no client is refused for want of memory for that room.
+/// there may be, and no client is refused for want of memory for that room. `Accept::opened` is called after that.
 #[derive(Drop)]
 pub struct AcceptedClients<A, R> {
     rt: R,
@@ -172,12 +176,10 @@ impl<A: Accept, R: Clock + Drop> AcceptedClients<A, R> {
         if self.opening != Opening::Taking {
             return None;
         }
-        if let Some(seat) = self.seats.take_any()
-            && let Ok(stage) = SharedStage::new(self.alloc)
-        {
+        if let Some(seat) = self.seats.take_any() {
             return Some(Seated {
                 serving: None,
-                stage,
+                stage: None,
                 seat,
             });
         }
@@ -229,7 +231,7 @@ impl<A: Accept, R: Clock + Drop> AcceptedClients<A, R> {
         let serving = Box::new(self.alloc, serving).ok()?;
         Some(Seated {
             serving: Some(serving),
-            stage,
+            stage: Some(stage),
             seat,
         })
     }
@@ -300,6 +302,7 @@ impl<A: Accept, R: Clock + Drop> Stream for AcceptedClients<A, R> {
         if self.opening == Opening::Freeing {
             ready!(self.seats.wait_for_all(cx));
             self.opening = Opening::Done;
+            self.accept.opened();
         }
         let Some(arrival) = ready!(self.poll_arrival(cx)) else {
             return cx.yield_now();

@@ -12,5 +12,5 @@ mod refusal;
 mod seats;
 
 pub use clients::{Accept, AcceptedClients, ClientLimits, Seated, Stops};
-pub use patient::{Patient, SharedStage, Stage, StreamTimeouts};
+pub use patient::{Patience, Patient, SharedStage, Stage, StreamTimeouts};
 pub use refusal::Refusal;

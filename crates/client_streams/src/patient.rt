@@ -41,6 +41,8 @@ pub enum Stage {
     Content,
     /// Nothing: the peer waits for its response.
     Asked,
+    /// Nothing: the connection is the end of a tunnel, whose own time is kept elsewhere.
+    Tunnel,
 }
 
 // What a connection is doing.
@@ -127,9 +129,9 @@ impl SharedStage {
     }
 }
 
-// A timeout that starts with the first wait after some progress.
+/// A timeout that starts with the first wait after some progress.
 #[derive(Drop)]
-struct Patience<R> {
+pub struct Patience<R> {
     rt: R,
     timers: Handle,
     deadline: Option<Instant>,
@@ -138,7 +140,8 @@ struct Patience<R> {
 }
 
 impl<R: Clock + Drop> Patience<R> {
-    fn new(rt: R, timers: Handle) -> Patience<R> {
+    /// A timeout that has not started.
+    pub fn new(rt: R, timers: Handle) -> Patience<R> {
         Patience {
             rt,
             timers,
@@ -147,7 +150,8 @@ impl<R: Clock + Drop> Patience<R> {
         }
     }
 
-    fn begin_anew(&mut self) {
+    /// Notes some progress.
+    pub fn begin_anew(&mut self) {
         self.deadline = None;
     }
 
@@ -155,8 +159,9 @@ impl<R: Clock + Drop> Patience<R> {
         self.deadline.is_some()
     }
 
-    // Whether the timeout has passed, also true if the clock cannot be read or if out of memory.
-    fn is_over(&mut self, limit: Duration, cx: &mut Context<'_>) -> bool
+    /// Whether the timeout has passed, also true if the clock cannot be read or if out of memory. If not, the task is polled again
+    /// when it has.
+    pub fn is_over(&mut self, limit: Duration, cx: &mut Context<'_>) -> bool
         ensures { Keeps cx.old cx.new }
     {
         if self.deadline.is_none() {
@@ -192,7 +197,7 @@ impl<R: Clock + Drop> Patience<R> {
 /// current stage, unless a write is waiting too, and a write has the limit `taking`. The time of `head` starts with the first
 /// octet of a head, that of `content` with the last piece of the content that the service noted, and each other time with the last
 /// octet received or sent. So octets without end that are no content are an end of the connection as well: a read gives up its turn
-/// after some of them, and the time is looked at then.
+/// after some of them, and the time is looked at then. The end of a tunnel has none of these limits.
 #[derive(Drop)]
 pub struct Patient<R> {
     socket: Paced,
@@ -227,7 +232,7 @@ impl<R: Clock + Drop> Patient<R> {
         ensures { self.new.socket ≡ self.old.socket }
     {
         match self.stage.get() {
-            Stage::Head | Stage::Content => {}
+            Stage::Head | Stage::Content | Stage::Tunnel => {}
             Stage::Idle => self.stage.set(Stage::Head),
             Stage::Asked => self.coming.begin_anew(),
         }
@@ -248,12 +253,23 @@ impl<R: Clock + Drop> Patient<R> {
             Stage::Idle => self.limits.idle,
             Stage::Head => self.limits.head,
             Stage::Content => self.limits.content,
-            Stage::Asked => {
+            Stage::Asked | Stage::Tunnel => {
                 self.coming.begin_anew();
                 return false;
             }
         };
         self.coming.is_over(limit, cx)
+    }
+
+    // Whether the peer has not read for longer than it may.
+    fn is_too_slow(&mut self, cx: &mut Context<'_>) -> bool
+        ensures socket { self.new.socket ≡ self.old.socket }
+        ensures kept { Keeps cx.old cx.new }
+    {
+        if self.stage.get() == Stage::Tunnel {
+            return false;
+        }
+        self.going.is_over(self.limits.taking, cx)
     }
 }
 
@@ -301,12 +317,15 @@ impl<R: Clock + Drop> AsyncWrite for Patient<R> {
             Poll::Ready(put) => {
                 self.stage.set_sending(false);
                 self.going.begin_anew();
-                self.coming.begin_anew();
+                // What is sent is no piece of the peer's content.
+                if self.stage.get() != Stage::Content {
+                    self.coming.begin_anew();
+                }
                 Poll::Ready(put)
             }
             Poll::Pending => {
                 self.stage.set_sending(true);
-                if self.going.is_over(self.limits.taking, cx) {
+                if self.is_too_slow(cx) {
                     return Poll::Ready(Err(io::Error::from(ErrorKind::TimedOut)));
                 }
                 Poll::Pending

@@ -2,7 +2,7 @@
 use futures::channel::oneshot;
 use http_traffic::{Outcome, Supplier};
 use node_core::Mode;
-use object_store::CacheKey;
+use object_store::{CacheKey, SharedObject};
 use std::alloc::{AllocError, Global};
 use std::collections::{BTreeMap, BTreeSet};
 use std::time::Instant;
@@ -20,6 +20,8 @@ pub struct Waiting {
     pub fields: Vec<Field>,
     /// The key of the request, if it is shared and has CDN-Loop fields.
     pub looped: Option<CacheKey>,
+    /// Whether its private fetch may ask the origin about an object that is there.
+    pub validates: bool,
     /// The client's private fetch, once it has started.
     pub fetch: Option<u32>,
 }
@@ -42,10 +44,20 @@ impl Flight {
     }
 }
 
+/// A fetch whose attempt has ended.
+#[derive(Drop)]
+pub struct Landed {
+    pub flight: Flight,
+    /// The object whose validators its request had.
+    pub asked: Option<SharedObject>,
+}
+
 /// An in-flight fetch.
 #[derive(Drop)]
 struct Fetching {
     flight: Flight,
+    /// The object whose validators its request has.
+    asked: Option<SharedObject>,
     /// Cancels the fetch when dropped.
     _wanted: oneshot::Sender<()>,
 }
@@ -160,16 +172,26 @@ impl Mailbox {
         Ok(Some(copy_of(alloc, waiting.fields.as_slice())?))
     }
 
-    /// Adds an in-flight fetch, which is cancelled when `wanted` is dropped. It replaces, and so cancels, an earlier attempt of
-    /// the same fetch. Errors: out of memory.
+    /// Whether this client waits, and its private fetch may ask the origin about an object that is there.
+    pub fn validates(&self, client: u64) -> bool {
+        match self.clients.get(&client) {
+            Some(waiting) => waiting.validates,
+            None => false,
+        }
+    }
+
+    /// Adds an in-flight fetch, which is cancelled when `wanted` is dropped. Its request has the validators of `asked`. It replaces,
+    /// and so cancels, an earlier attempt of the same fetch. Errors: out of memory.
     pub fn begin(
         &mut self,
         fetch: u32,
         flight: Flight,
+        asked: Option<SharedObject>,
         wanted: oneshot::Sender<()>,
     ) -> Result<(), AllocError> {
         let fetching = Fetching {
             flight,
+            asked,
             _wanted: wanted,
         };
         match self.fetches.insert(fetch, fetching) {
@@ -179,13 +201,16 @@ impl Mailbox {
     }
 
     /// Removes a fetch whose attempt has ended. One that is not in flight counts as private, so that nothing is stored.
-    pub fn end(&mut self, fetch: u32) -> Flight {
+    pub fn end(&mut self, fetch: u32) -> Landed {
         match self.fetches.remove(&fetch) {
-            Some(fetching) => fetching.flight,
-            None => Flight {
-                mode: Mode::Private,
-                supplier: Supplier::Origin,
-                began: None,
+            Some(Fetching { flight, asked, .. }) => Landed { flight, asked },
+            None => Landed {
+                flight: Flight {
+                    mode: Mode::Private,
+                    supplier: Supplier::Origin,
+                    began: None,
+                },
+                asked: None,
             },
         }
     }

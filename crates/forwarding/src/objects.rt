@@ -1,28 +1,29 @@
 //! Turns a fetched response into an object.
+use crate::keeping::Life;
 use crate::mailbox::Field;
-use http_header::HeaderMap;
-use http_rules::{PassFault, age_of, end_to_end, may_store, tells_end};
+use http_rules::{PassFault, end_to_end};
 use http_traffic::Page;
-use node_core::Mode;
 use object_store::{Object, SharedObject};
 use std::alloc::{AllocError, Global};
 
-/// The object of a received response: its end-to-end fields with our Via added, and a Date if it had none (RFC 9110, 6.6.1), its
-/// Age, and its freshness lifetime in seconds, 0 if it must not be stored. Errors: its Connection fields name too many others, or
-/// out of memory.
+/// The object of a received response of this age and life: its end-to-end fields with our Via added, and a Date if it had none (RFC
+/// 9110, 6.6.1). A 205 has no content, however it is framed (15.3.6). Errors: its Connection fields name too many others, or out of
+/// memory.
 pub fn object_of(
     alloc: Global,
     name: &[u8],
-    mode: Mode,
+    life: Life,
     page: Page,
     date: &[u8],
 ) -> Result<SharedObject, PassFault> {
     let Page { status, head, body } = page;
-    let life = life_of(mode, status, &head);
-    let age = age_of(&head);
+    let body = if status == 205 { Vec::new(alloc) } else { body };
     let mut fields = end_to_end(alloc, &head)?;
     add_ours(alloc, &mut fields, name, date)?;
-    Ok(SharedObject::new(alloc, Object::new(status, fields, body, age, life))?)
+    Ok(SharedObject::new(
+        alloc,
+        Object::new(status, fields, body, life.age, life.left),
+    )?)
 }
 
 /// Adds Via, and Date if there is none. Errors: out of memory.
@@ -52,16 +53,6 @@ pub fn refusal(alloc: Global, date: &[u8]) -> Result<SharedObject, AllocError> {
     fields.push((b"date".to_vec(alloc)?, date.to_vec(alloc)?))?;
     let body = REFUSAL.to_vec(alloc)?;
     SharedObject::new(alloc, Object::new(403, fields, body, 0, 0))
-}
-
-/// The seconds for which a response may be stored, 0 if it must not be. One whose body ends with its connection may have been cut,
-/// and is not stored.
-fn life_of(mode: Mode, status: u16, head: &HeaderMap) -> u32 {
-    if tells_end(head) {
-        may_store(mode, status, head).unwrap_or(0)
-    } else {
-        0
-    }
 }
 
 /// The Via field (RFC 9110, 7.6.3) of a cache of this name.

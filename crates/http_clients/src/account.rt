@@ -1,23 +1,31 @@
 //! What becomes of the requests of a connection, as the server tells it.
+ghost use Rattle.std.specs.Prelude.{◌≡◌, IfSome, None};
+ghost use Rattle.futures.specs.Poll.{OnPending};
+ghost use Rattle.futures.specs.Task.{Covers, Keeps};
+
 use crate::requests::Answers;
-use crate::texts::text_of;
+use crate::texts::{SILENT, UNSERVED, reason, text_with, tunnel_reason};
+use crate::tunnel::{Copying, Dialer, HandOver, Opened, Opening, Wanted};
 use client_streams::{SharedStage, Stage};
-use futures::Future;
+use futures::channel::oneshot;
 use futures::task::{Context, Poll};
-use http_traffic::{Asked, Forward, How, Outcome, Supplier, Told};
+use futures::{Future, ready};
+use http_traffic::{Asked, Forward, How, Outcome, Supplier, Told, TunnelEnd};
 use std::alloc::{AllocError, Global};
 use std::cell::RefCell;
-use std::net::IpAddr;
+use std::net::{IpAddr, Net};
 use std::rc::Rc;
 use std::sync::Arc;
 use std::sync::atomic::{AtomicUsize, Ordering};
-use std::time::Instant;
+use std::time::{Clock, Instant};
 
 /// What is known of a connection and of the request that is under way on it.
 #[derive(Drop)]
 pub(crate) struct Facts {
     from: IpAddr,
     stage: SharedStage,
+    // Whether other methods than GET are served.
+    has_other_methods: bool,
     // Whether the response is the connection's last, after which no head is read.
     is_last: bool,
     /// The request, until it is told. `None` if out of memory.
@@ -26,6 +34,10 @@ pub(crate) struct Facts {
     status: Option<u16>,
     how: How,
     supplier: Option<Supplier>,
+    // The tunnel that the request asks for, until its way is begun.
+    wanted: Option<Wanted>,
+    // The tunnel, from its connection to the server until the HTTP connection has handed over its socket.
+    opened: Option<Opened>,
 }
 
 impl Facts {
@@ -35,6 +47,19 @@ impl Facts {
         if self.began.is_none() {
             self.began = began;
         }
+    }
+
+    /// Notes that the request is passed on or that the way to its tunnel begins, and when it was accepted.
+    pub(crate) fn note_passed(&mut self, began: Option<Instant>) {
+        self.how = How::Passed;
+        if self.began.is_none() {
+            self.began = began;
+        }
+    }
+
+    /// Notes that the request was not passed on after all, and its tunnel not connected.
+    pub(crate) fn note_refused(&mut self) {
+        self.how = How::Own;
     }
 
     /// Notes how the request is answered.
@@ -54,8 +79,18 @@ impl Facts {
         }
     }
 
-    // Whether the method is one whose response has no content.
-    fn is_head(&self) -> bool {
+    // The reason that a status of the proxy itself stands for.
+    fn reason(&self, status: u16) -> &'static str {
+        match &self.asked {
+            _ if status == 501 && self.has_other_methods => UNSERVED,
+            Some(asked) if asked.method.as_str() == "CONNECT" => tunnel_reason(status),
+            _ if status == 504 && self.how == How::Passed => SILENT,
+            _ => reason(status),
+        }
+    }
+
+    /// Whether the method is one whose response has no content.
+    pub(crate) fn is_head(&self) -> bool {
         match &self.asked {
             Some(asked) => asked.method.as_str() == "HEAD",
             None => false,
@@ -83,20 +118,24 @@ pub(crate) struct SharedFacts(pub(crate) Rc<RefCell<Facts>>);
 
 impl SharedFacts {
     /// The facts of a connection from this address, on which no request is under way.
-    pub(crate) fn new(
+    pub(crate) fn new<H: Answers>(
         alloc: Global,
+        answers: &H,
         from: IpAddr,
         stage: SharedStage,
     ) -> Result<SharedFacts, AllocError> {
         let facts = Facts {
             from,
             stage,
+            has_other_methods: answers.has_other_methods(),
             is_last: false,
             asked: None,
             began: None,
             status: None,
             how: How::Own,
             supplier: None,
+            wanted: None,
+            opened: None,
         };
         Ok(SharedFacts(Rc::new(alloc, RefCell::new(facts))?))
     }
@@ -120,7 +159,7 @@ impl SharedFacts {
     /// What a request is told that fails with this status: the reason, and its target. Nothing if out of memory.
     pub(crate) fn failure(&self, alloc: Global, status: u16) -> Vec<u8> {
         let text = match self.0.try_borrow_mut() {
-            Ok(facts) => text_of(alloc, status, facts.target()),
+            Ok(facts) => text_with(alloc, status, facts.reason(status), facts.target()),
             Err(_) => Err(AllocError),
         };
         text.unwrap_or(Vec::new(alloc))
@@ -135,6 +174,67 @@ impl SharedFacts {
             return true;
         }
         false
+    }
+
+    /// Asks for a tunnel to this end. What is returned receives whether its server is connected, or the status to answer. Returns
+    /// `None` if out of memory.
+    pub(crate) fn want_tunnel(
+        &self,
+        alloc: Global,
+        end: TunnelEnd,
+    ) -> Option<oneshot::Receiver<Result<(), u16>>> {
+        let (done, opened) = oneshot::channel(alloc).ok()?;
+        let Ok(mut facts) = self.0.try_borrow_mut() else {
+            return None;
+        };
+        facts.wanted = Some(Wanted { end, done });
+        Some(opened)
+    }
+
+    // Takes the tunnel that is asked for.
+    fn take_wanted(&self) -> Option<Wanted> {
+        match self.0.try_borrow_mut() {
+            Ok(mut facts) => facts.wanted.take(),
+            Err(_) => None,
+        }
+    }
+
+    // Notes that the way to a tunnel begins.
+    fn note_way(&self, began: Option<Instant>) {
+        if let Ok(mut facts) = self.0.try_borrow_mut() {
+            facts.note_passed(began);
+        }
+    }
+
+    // Notes that the way to a tunnel ended with this status: 403 and 503 are the proxy's own.
+    fn note_no_way(&self, status: u16) {
+        if matches!(status, 403 | 503)
+            && let Ok(mut facts) = self.0.try_borrow_mut()
+        {
+            facts.note_refused();
+        }
+    }
+
+    // Keeps a tunnel whose server is connected.
+    fn put_opened(&self, opened: Opened) {
+        if let Ok(mut facts) = self.0.try_borrow_mut() {
+            facts.opened = Some(opened);
+        }
+    }
+
+    // Takes the tunnel whose server is connected.
+    fn take_opened(&self) -> Option<Opened> {
+        match self.0.try_borrow_mut() {
+            Ok(mut facts) => facts.opened.take(),
+            Err(_) => None,
+        }
+    }
+
+    // Notes that the connection is the end of a tunnel from now on.
+    fn begin_tunnel(&self) {
+        if let Ok(facts) = self.0.try_borrow_mut() {
+            facts.stage.set(Stage::Tunnel);
+        }
     }
 
     // Tells the end of a connection, where it came before the head of a request was complete. The library's own answers have no
@@ -174,7 +274,8 @@ pub(crate) fn tell_refused<H: Answers>(answers: &H, from: IpAddr, octets: u64) {
     answers.tell(&bare_told(from, Some(403), octets, true));
 }
 
-/// Tells what became of a request when it is dropped: with the body of its response, or before there is one.
+/// Tells what became of a request when it is dropped: with the body of its response, or before there is one. A request that has
+/// opened a tunnel is told with that.
 pub(crate) struct Telling<H: Answers> {
     pub(crate) answers: H,
     pub(crate) facts: SharedFacts,
@@ -190,6 +291,16 @@ impl<H: Answers> Telling<H> {
         asked: Option<Asked>,
     ) -> Option<Telling<H>> {
         facts.begin(asked);
+        Some(Telling {
+            answers: answers.share().ok()?,
+            facts: facts.share().ok()?,
+            octets: 0,
+            is_whole: false,
+        })
+    }
+
+    /// Goes on with the request whose tunnel was taken. Returns `None` if there are too many handles.
+    fn resumed(answers: &H, facts: &SharedFacts) -> Option<Telling<H>> {
         Some(Telling {
             answers: answers.share().ok()?,
             facts: facts.share().ok()?,
@@ -225,6 +336,9 @@ impl<H: Answers> Drop for Telling<H> {
         let Ok(mut facts) = facts.0.try_borrow_mut() else {
             return;
         };
+        if facts.opened.is_some() {
+            return;
+        }
         let status = match facts.status {
             Some(status) => Some(status),
             None => facts.unsent(),
@@ -274,12 +388,19 @@ pub(crate) struct Watching<H> {
     pub(crate) counted: Option<Counted>,
 }
 
-/// The connection of a client. Its end is told where it comes before the head of a request is complete.
-pub(crate) struct Watched<C: Drop, H: Answers> {
-    pub(crate) inner: C,
-    pub(crate) watching: Watching<H>,
-    /// How it ended, once it has.
-    pub(crate) end: End,
+/// The connection of a client, and after it the tunnel that it has opened. Its end is told where it comes before the head of a request
+/// is complete.
+pub(crate) struct Watched<C: HandOver, R: Drop, H: Answers> {
+    // None once there is a tunnel.
+    inner: Option<C>,
+    watching: Watching<H>,
+    dialer: Dialer<R>,
+    // The way to the server of a tunnel, and what receives whether it has been found.
+    opening: Option<Box<Opening<R, H>>>,
+    done: Option<oneshot::Sender<Result<(), u16>>>,
+    copying: Option<Box<Copying<C::Socket, R, H>>>,
+    // How the connection ended, once it has.
+    end: End,
 }
 
 /// How a connection ended.
@@ -293,36 +414,169 @@ pub(crate) enum End {
     Refused(u16),
 }
 
-impl<C: Future<Output = hyper::Result<()>>, H: Answers> Future for Watched<C, H> {
-    type Output = ();
+impl<C, R, H> Watched<C, R, H>
+where
+    C: Future<Output = hyper::Result<()>> + HandOver,
+    R: Net + Clock + Copy,
+    H: Answers,
+{
+    /// A connection that has not ended, and has no tunnel.
+    pub(crate) fn new(inner: C, watching: Watching<H>, dialer: Dialer<R>) -> Watched<C, R, H>
+        requires { C.can_poll inner }
+        ensures { IfSome result.inner C.can_poll }
+    {
+        Watched {
+            inner: Some(inner),
+            watching,
+            dialer,
+            opening: None,
+            done: None,
+            copying: None,
+            end: End::Broken,
+        }
+    }
 
-    ghost can_poll = { λ w. C.can_poll w.inner };
-
-    ghost needs = { λ w. C.needs w.inner };
-
-    fn poll(&mut self, cx: &mut Context<'_>) -> Poll<()> {
-        match self.inner.poll(cx) {
-            Poll::Ready(Ok(())) => {
-                self.end = End::Regular;
-                Poll::Ready(())
+    // Begins the way to a tunnel, if one is asked for.
+    fn begin_opening(&mut self)
+        ensures { self.new.inner ≡ self.old.inner }
+    {
+        let Some(wanted) = self.watching.facts.take_wanted() else {
+            return;
+        };
+        self.watching.facts.note_way(self.dialer.now());
+        let Wanted { end, done } = wanted;
+        match self.way(end) {
+            Some(opening) => {
+                self.opening = Some(opening);
+                self.done = Some(done);
             }
-            Poll::Ready(Err(error)) => {
-                self.end = end_of(self.watching.alloc, &error);
-                Poll::Ready(())
+            None => {
+                self.watching.facts.note_no_way(503);
+                let _ = done.send(Err(503));
             }
-            Poll::Pending => Poll::Pending,
+        }
+    }
+
+    // The way to this end. Returns `None` if out of memory.
+    fn way(&self, end: TunnelEnd) -> Option<Box<Opening<R, H>>> {
+        let dialer = self.dialer.share().ok()?;
+        let answers = self.watching.answers.share().ok()?;
+        let opening = Opening::new(dialer, answers, end);
+        Box::new(self.watching.alloc, opening).ok()
+    }
+
+    // Goes on the way to a tunnel. The service of the connection receives its end.
+    fn poll_opening(&mut self, cx: &mut Context<'_>)
+        ensures same { self.new.inner ≡ self.old.inner }
+        ensures kept { Keeps cx.old cx.new }
+    {
+        let Some(opening) = &mut self.opening else {
+            return;
+        };
+        let Poll::Ready(found) = opening.poll(cx) else {
+            return;
+        };
+        self.opening = None;
+        let found = match found {
+            Ok(opened) => {
+                self.watching.facts.put_opened(opened);
+                Ok(())
+            }
+            Err(status) => {
+                self.watching.facts.note_no_way(status);
+                Err(status)
+            }
+        };
+        if let Some(done) = self.done.take() {
+            let _ = done.send(found);
+        }
+        let _: Poll<()> = cx.yield_now();
+    }
+
+    // Takes the connection apart, once it has ended, and its socket over for a tunnel if the last response has opened one.
+    fn take_over(&mut self)
+        ensures { self.new.inner ≡ None }
+    {
+        let Some(inner) = self.inner.take() else {
+            return;
+        };
+        let Some(opened) = self.watching.facts.take_opened() else {
+            return;
+        };
+        let telling = Telling::resumed(&self.watching.answers, &self.watching.facts);
+        let (client, sent) = inner.hand_over();
+        self.watching.facts.begin_tunnel();
+        self.copying = match Copying::new(&self.dialer, client, sent, opened, telling) {
+            Ok(copying) => Box::new(self.watching.alloc, copying).ok(),
+            Err(_) => None,
+        };
+    }
+
+    // Serves the connection until it ends or is taken over by a tunnel.
+    fn poll_inner(&mut self, cx: &mut Context<'_>) -> Poll<End>
+        requires { IfSome self.old.inner C.can_poll }
+        ensures again { OnPending result (IfSome self.new.inner C.can_poll) }
+        ensures registered { OnPending result (Covers cx.new (λ _. ⊥)) }
+        ensures kept { Keeps cx.old cx.new }
+    {
+        let Some(inner) = &mut self.inner else {
+            return Poll::Ready(End::Regular);
+        };
+        match ready!(inner.poll(cx)) {
+            Ok(()) => Poll::Ready(End::Regular),
+            Err(error) => Poll::Ready(end_of(self.watching.alloc, &error)),
         }
     }
 }
 
-impl<C: Drop, H: Answers> Drop for Watched<C, H> {
+impl<C, R, H> Future for Watched<C, R, H>
+where
+    C: Future<Output = hyper::Result<()>> + HandOver,
+    R: Net + Clock + Copy,
+    H: Answers,
+{
+    type Output = ();
+
+    ghost can_poll = { λ w. IfSome w.inner C.can_poll };
+
+    fn poll(&mut self, cx: &mut Context<'_>) -> Poll<()> {
+        if let Some(copying) = &mut self.copying {
+            return copying.poll(cx);
+        }
+        let Poll::Ready(end) = self.poll_inner(cx) else {
+            self.begin_opening();
+            self.poll_opening(cx);
+            return Poll::Pending;
+        };
+        self.end = end;
+        if end != End::Regular {
+            return Poll::Ready(());
+        }
+        self.take_over();
+        if self.copying.is_some() {
+            return cx.yield_now();
+        }
+        Poll::Ready(())
+    }
+}
+
+impl<C: HandOver, R: Drop, H: Answers> Drop for Watched<C, R, H> {
     fn drop(self) {
         let Watched {
-            inner: _inner,
+            inner,
             watching,
+            dialer: _dialer,
+            opening: _opening,
+            done: _done,
+            copying: _copying,
             end,
         } = self;
         watching.facts.tell_end(&watching.answers, end);
+        drop(inner);
+        if watching.facts.take_opened().is_some() {
+            // The connection has failed before its socket was taken over: this tells what became of the request.
+            drop(Telling::resumed(&watching.answers, &watching.facts));
+        }
     }
 }
 

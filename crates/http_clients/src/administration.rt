@@ -9,7 +9,9 @@ use crossbeam_channel::Sender;
 use filter_slots::{Slot, Socket};
 use futures::channel::mpsc;
 use futures::future::{Ready, ready};
-use http_traffic::{Asked, CaptureFault, Panel, PutFault, Told};
+use http_traffic::{
+    Asked, CaptureFault, Coming, Figures, Panel, PutFault, Road, StoreFault, StoreOrder, Told,
+};
 use std::alloc::{AllocError, AllocGlobal, Global};
 use std::cell::RefCell;
 use std::io;
@@ -91,6 +93,51 @@ fn figures(text: Vec<u8>, kind: TextKind) -> Given {
     }
 }
 
+// What follows `/store` in a path and query; `None` for any other path.
+fn store_question(path: &str) -> Option<&str> {
+    let rest = path.strip_prefix("/store")?;
+    match rest.as_bytes() {
+        [] | [b'/' | b'?', ..] => Some(rest),
+        _ => None,
+    }
+}
+
+// The answer to a question about the store that has none. Errors: out of memory.
+fn no_object(alloc: Global, fault: StoreFault, path: &str) -> Result<Given, AllocError> {
+    match fault {
+        StoreFault::NoQuestion(line) => Ok(text(400, line)),
+        StoreFault::NotStored => Ok(text(404, text_of(alloc, 404, path.as_bytes())?)),
+        StoreFault::Kept(line) => Ok(text(409, line)),
+        StoreFault::NoMemory => Err(AllocError),
+    }
+}
+
+// The answer to a request of what is stored. `None` if there is no such path. Errors: out of memory.
+fn stored<P: Panel>(alloc: Global, panel: &mut P, path: &str) -> Result<Option<Given>, AllocError> {
+    let Some(asked) = store_question(path) else {
+        return shown(alloc, panel, path);
+    };
+    match panel.store(asked, StoreOrder::Show) {
+        Ok(line) => Ok(Some(figures(line, TextKind::Json))),
+        Err(fault) => Ok(Some(no_object(alloc, fault, path)?)),
+    }
+}
+
+// The answer to a request to take an object out of the store. `None` if there is no such path. Errors: out of memory.
+fn removed<P: Panel>(
+    alloc: Global,
+    panel: &mut P,
+    path: &str,
+) -> Result<Option<Given>, AllocError> {
+    let Some(asked) = store_question(path).filter(|asked| asked.starts_with('/')) else {
+        return Ok(None);
+    };
+    match panel.store(asked, StoreOrder::Remove) {
+        Ok(_) => Ok(Some(text(204, Vec::new(alloc)))),
+        Err(fault) => Ok(Some(no_object(alloc, fault, path)?)),
+    }
+}
+
 // The answer to a request to install filters. Errors: out of memory.
 fn installed(alloc: Global, done: Result<(), PutFault>) -> Result<Given, AllocError> {
     match done {
@@ -129,10 +176,14 @@ fn done<P: Panel>(alloc: Global, panel: &mut P, path: &str) -> Result<Option<Giv
 fn shown<P: Panel>(alloc: Global, panel: &mut P, path: &str) -> Result<Option<Given>, AllocError> {
     let given = match path {
         "/" => Given::Page(PAGE.as_bytes().to_vec(alloc)?),
-        "/metrics" => figures(panel.metrics()?, TextKind::Metrics),
-        "/stats" => figures(panel.stats()?, TextKind::Json),
-        "/stats/clients" => figures(panel.clients()?, TextKind::Json),
-        "/stats/neighbours" => figures(panel.neighbours()?, TextKind::Json),
+        "/metrics" => figures(panel.figures(Figures::Metrics)?, TextKind::Metrics),
+        "/stats" => figures(panel.figures(Figures::Sockets)?, TextKind::Json),
+        "/stats/clients" => figures(panel.figures(Figures::Clients)?, TextKind::Json),
+        "/stats/neighbours" => figures(panel.figures(Figures::Neighbours)?, TextKind::Json),
+        "/stats/neighbours/figures" => figures(
+            panel.figures(Figures::NeighbourFigures)?,
+            TextKind::Json,
+        ),
         _ => return Ok(None),
     };
     Ok(Some(given))
@@ -152,17 +203,28 @@ fn captured(
 }
 
 impl<P: Panel> Administrators<P> {
-    // The answer to a request: 403 unless it is the administrator's. Errors: out of memory.
-    fn answer(&self, asked: &Asked) -> Result<Given, AllocError> {
-        let alloc = self.office.alloc;
+    // The status that refuses a request whatever its content: 403 unless it is the administrator's, 401 if it may not change anything.
+    fn refusal(&self, asked: &Asked) -> Option<u16> {
         if !self.admits(asked) {
-            return Ok(text(403, not_administrator(alloc)?));
+            return Some(403);
         }
         if asked.method.as_str() != "GET" && !self.admits_change(asked) {
-            let path = path_of(asked.target.as_str());
-            return Ok(Given::Challenge(text_of(alloc, 401, path.as_bytes())?));
+            return Some(401);
         }
-        self.obey(asked)
+        None
+    }
+
+    // The answer to a request. Errors: out of memory.
+    fn answer(&self, asked: &Asked) -> Result<Given, AllocError> {
+        let alloc = self.office.alloc;
+        match self.refusal(asked) {
+            Some(403) => Ok(text(403, not_administrator(alloc)?)),
+            Some(status) => {
+                let path = path_of(asked.target.as_str());
+                Ok(Given::Challenge(text_of(alloc, status, path.as_bytes())?))
+            }
+            None => self.obey(asked),
+        }
     }
 
     // The answer to the request of these facts. Errors: out of memory.
@@ -210,7 +272,8 @@ impl<P: Panel> Administrators<P> {
                 Some(text(204, Vec::new(alloc)))
             }
             ("GET", Some(slot)) => Some(text(200, panel.show(slot)?)),
-            ("GET", None) => shown(alloc, &mut *panel, path)?,
+            ("GET", None) => stored(alloc, &mut *panel, path)?,
+            ("DELETE", None) => removed(alloc, &mut *panel, path)?,
             ("POST", None) => done(alloc, &mut *panel, path)?,
             _ => None,
         };
@@ -237,10 +300,20 @@ impl<P: Panel> Answers for Administrators<P> {
         }
     }
 
-    fn refuses(&self, method: &str) -> Option<u16> {
+    fn road(&self, method: &str) -> Result<Road, u16> {
         match method {
-            "GET" | "PUT" | "DELETE" | "POST" => None,
-            _ => Some(404),
+            "GET" | "PUT" | "DELETE" | "POST" => Ok(Road::Node),
+            _ => Err(404),
+        }
+    }
+
+    fn refuses(&self, facts: &SharedFacts) -> bool {
+        let Ok(facts) = facts.0.try_borrow_mut() else {
+            return false;
+        };
+        match &facts.asked {
+            Some(asked) => self.refusal(asked).is_some(),
+            None => false,
         }
     }
 
@@ -255,6 +328,11 @@ impl<P: Panel> Answers for Administrators<P> {
         }
     }
 
+    // No request has this road.
+    fn pass(&self, facts: SharedFacts, _content: Option<Coming>) -> Ready<Given> {
+        self.begin(facts)
+    }
+
     fn note_answer(&self) {}
 
     fn tell(&self, _told: &Told<'_>) {}
@@ -262,12 +340,13 @@ impl<P: Panel> Answers for Administrators<P> {
 
 /// Serves administration on the calling thread, on this port of 127.0.0.1 only, until `stops.stop` is ready or its sender is
 /// dropped; open connections then have `limits.grace` to end, unless `stops.hurry` is ready before. Sends the address to `bound` once
-/// the socket is bound. Errors: the socket or the event loop failed.
+/// administrators are accepted. Errors: the socket or the event loop failed.
 ///
 /// Answers PUT, GET and DELETE of `/filter/icp`, `/filter/htcp` and `/filter/neighbour/<n>` for each neighbour; GET of `/stats`,
-/// `/stats/clients`, `/stats/neighbours`, `/metrics` and `/`, which is a page for people; and POST of `/filters/reload`, of
-/// `/log/reopen`, of `/stop`, and of `/capture`, whose answer is sent while the capture goes on. A request that `panel`
-/// does not admit gets 403, and a PUT, DELETE or POST that it does not let change anything gets 401, with
+/// `/stats/clients`, `/stats/neighbours`, `/stats/neighbours/figures`, `/metrics`, `/store` and `/`, which is a page for people; GET and
+/// DELETE of `/store/` and a percent-encoded URL; and POST of `/filters/reload`, of `/log/reopen`, of `/stop`, and of `/capture`,
+/// whose answer is sent while the capture goes on. A request that `panel` does not admit gets 403, and a PUT, DELETE or POST that
+/// it does not let change anything gets 401, with
 /// `WWW-Authenticate: Bearer`, whatever its path; every other request gets 404, and content of more than `limits.content` octets
 /// gets 413.
 pub fn serve_admin<R, P>(

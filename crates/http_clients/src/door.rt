@@ -1,20 +1,28 @@
 //! The hyper service of one connection.
-ghost use Rattle.std.specs.Prelude.{◌≡◌, IfSome, IfOk};
+ghost use Rattle.std.specs.Prelude.{◌≡◌, IfSome, IfOk, None};
+ghost use Rattle.futures.specs.Poll.{OnPending};
+ghost use Rattle.futures.specs.Task.{Covers, Keeps};
 
 use crate::account::{SharedFacts, Telling};
 use crate::reply::Reply;
 use crate::requests::{Answers, Given, TextKind};
+use crate::upload::{Pieces, Upload};
 use admin_page::POLICY;
 use client_streams::{SharedStage, Stage};
+use futures::channel::{mpsc, oneshot};
 use futures::task::{Context, Poll};
 use futures::{Future, ready};
 use http_body::Body;
-use http_content::{AtMost, Ending, Hear, Heard, Read, add_field, add_object_fields};
-use http_traffic::Asked;
+use http_content::{
+    AtMost, Ending, Heard, Read, Relayed, add_field, add_object_fields, has_foreign_coding,
+};
+use http_rules::end_to_end;
+use http_traffic::{Asked, Coming, PassedHead, Piece, Road, Shape};
 use hyper::body::Incoming;
 use hyper::service::Service;
 use hyper::{Request, Response, StatusCode, header};
 use object_body::Portions;
+use object_store::SharedObject;
 use std::alloc::Global;
 use std::convert::Infallible;
 use std::net::IpAddr;
@@ -43,59 +51,133 @@ impl<H: Answers> Door<H> {
             from: self.from,
         })
     }
+
+    // Asks for the tunnel that the request opens. Errors: the status to answer.
+    fn tunnel(&self) -> Result<oneshot::Receiver<Result<(), u16>>, u16> {
+        self.stage.set(Stage::Asked);
+        let end = self.answers.tunnel(&self.facts)?;
+        match self.facts.want_tunnel(self.alloc, end) {
+            Some(tunnel) => Ok(tunnel),
+            None => Err(503),
+        }
+    }
 }
 
 impl<I: Drop, H: Answers> Service<Request<Incoming<I>>> for Door<H> {
-    type Response = Response<Reply<H>>;
+    type Response = Response<Reply<H, I>>;
 
     type Error = Infallible;
 
-    type Future = Serving<H, AtMost<I, Pieces>>;
+    type Future = Serving<H, AtMost<I, Pieces>, I>;
 
     fn call(&self, req: Request<Incoming<I>>) -> Self::Future {
         let (parts, body) = req.into_parts();
-        let is_too_long = (self.limit as u64) < body.size_hint().lower();
-        let refusal = match self.answers.refuses(parts.method.as_str()) {
-            Some(status) => Some(status),
-            None if is_too_long => Some(413),
-            None => None,
-        };
-        let content = match refusal {
-            None => {
+        match self.way(&parts, body.size_hint().lower()) {
+            Ok(Road::Passed) => self.pass(parts, body),
+            Ok(Road::Tunnel) => self.open(parts),
+            Ok(_) => {
+                let is_empty = body.size_hint().exact() == Some(0);
+                let mut serving = self.serving(parts);
+                if self.answers.refuses(&self.facts) {
+                    self.stage.set(Stage::Asked);
+                    serving.answering = begin(&serving.telling, Vec::new(self.alloc));
+                    serving.is_last = serving.is_last || !is_empty;
+                    return serving;
+                }
                 let heard = Heard::new(body, Pieces(self.stage.share().ok()));
-                Some(AtMost::new(self.alloc, self.limit).read(heard))
+                serving.content = Some(AtMost::new(self.alloc, self.limit).read(heard));
+                serving
             }
-            Some(_) => None,
-        };
+            Err(status) => {
+                let mut serving = self.serving(parts);
+                serving.turn_down(status);
+                serving
+            }
+        }
+    }
+}
+
+impl<H: Answers> Door<H> {
+    // How this request is taken, whose content has at least so many octets. Errors: the status that refuses it before its content is
+    // read. A content that is passed on may have no transfer coding but chunked (RFC 9112, section 6.1).
+    fn way(&self, parts: &http::request::Parts, least: u64) -> Result<Road, u16> {
+        let road = self.answers.road(parts.method.as_str())?;
+        if road == Road::Passed {
+            return if has_foreign_coding(&parts.headers) {
+                Err(501)
+            } else {
+                Ok(road)
+            };
+        }
+        if (self.limit as u64) < least {
+            Err(413)
+        } else {
+            Ok(road)
+        }
+    }
+
+    // A response that neither reads the content nor waits for an answer, as yet: 503, after which the connection closes if the content
+    // is in chunks.
+    fn serving<I: Drop>(&self, parts: http::request::Parts) -> Serving<H, AtMost<I, Pieces>, I>
+        ensures { (result.content ≡ None) × (result.answering ≡ None) }
+    {
         let is_coded = parts.headers.contains_key(header::TRANSFER_ENCODING);
         self.stage.set(Stage::Content);
         Serving {
             alloc: self.alloc,
             stage: self.stage.share().ok(),
-            is_last: refusal.is_some() || is_coded,
+            is_last: is_coded,
             telling: Telling::new(&self.answers, &self.facts, self.keep(parts)),
-            refusal: refusal.unwrap_or(503),
-            content,
+            refusal: 503,
+            tunnel: None,
+            content: None,
+            upload: None,
             answering: None,
         }
     }
-}
 
-/// Notes the pieces of a content at the stage of its connection. Without a stage all of them have the time of one.
-#[derive(Drop)]
-pub(crate) struct Pieces(Option<SharedStage>);
-
-impl Hear for Pieces {
-    fn hear(&self) {
-        if let Some(stage) = &self.0 {
-            stage.note_piece();
+    // Opens a tunnel.
+    fn open<I: Drop>(&self, parts: http::request::Parts) -> Serving<H, AtMost<I, Pieces>, I>
+        ensures { (result.content ≡ None) × (result.answering ≡ None) }
+    {
+        let mut serving = self.serving(parts);
+        match self.tunnel() {
+            Ok(tunnel) => serving.tunnel = Some(tunnel),
+            Err(status) => serving.refusal = status,
         }
+        serving
+    }
+
+    // Passes on a request, and its content as it comes if it has one.
+    fn pass<I: Drop>(
+        &self,
+        parts: http::request::Parts,
+        body: Incoming<I>,
+    ) -> Serving<H, AtMost<I, Pieces>, I>
+        ensures { (result.content ≡ None) × (IfSome result.answering H.Answering.can_poll) }
+    {
+        let length = body.size_hint().exact();
+        let mut serving = self.serving(parts);
+        if length == Some(0) {
+            self.stage.set(Stage::Asked);
+            serving.answering = pass_on(&serving.telling, None);
+            return serving;
+        }
+        let heard = Heard::new(body, Pieces(self.stage.share().ok()));
+        let stage = self.stage.share().ok();
+        if let Some((upload, coming)) = Upload::new(self.alloc, heard, length, stage) {
+            serving.answering = pass_on(&serving.telling, Some(coming));
+            serving.upload = Some(upload);
+        } else {
+            serving.is_last = true;
+        }
+        serving
     }
 }
 
-/// The future of one response: reads the content, then waits for the answer.
+/// The future of one response: reads the content, then waits for the answer; or passes on the content while it waits for the answer.
 #[derive(Drop)]
-pub(crate) struct Serving<H: Answers, T: Read> {
+pub(crate) struct Serving<H: Answers, T: Read, I> {
     alloc: Global,
     stage: Option<SharedStage>,
     is_last: bool,
@@ -103,18 +185,29 @@ pub(crate) struct Serving<H: Answers, T: Read> {
     telling: Option<Telling<H>>,
     // The status if the request is refused without being passed on.
     refusal: u16,
+    // Receives whether the server of a tunnel is connected, or the status to answer.
+    tunnel: Option<oneshot::Receiver<Result<(), u16>>>,
     content: Option<T::Reading>,
+    // The content that is passed on, until it is complete.
+    upload: Option<Upload<I>>,
     answering: Option<H::Answering>,
 }
 
-impl<H: Answers, T: Read> Serving<H, T> {
+impl<H: Answers, T: Read, I: Drop> Serving<H, T, I> {
     // The response, after which the connection is idle again. Status 503 if it cannot be made. A capture is the last response of
-    // its connection, which stays at the stage in which nothing is awaited of the client.
-    fn respond(&mut self, given: Given) -> Response<Reply<H>> {
+    // its connection, which stays at the stage in which nothing is awaited of the client. So it does while an answer is passed on. A
+    // response before the end of its request's content is the connection's last.
+    fn respond(&mut self, given: Given) -> Response<Reply<H, I>> {
+        let is_passed = self.passes_content(&given);
         if let Given::Capture(_) = &given {
             self.is_last = true;
-        } else if let Some(stage) = &self.stage {
+        } else if let Some(stage) = &self.stage
+            && !is_passed
+        {
             stage.set(Stage::Idle);
+        }
+        if self.upload.is_some() {
+            self.is_last = true;
         }
         if let Some(telling) = &self.telling {
             telling.answers.note_answer();
@@ -127,17 +220,51 @@ impl<H: Answers, T: Read> Serving<H, T> {
             let close = header::HeaderValue::from_static("close");
             let _ = response.headers_mut().insert(header::CONNECTION, close);
         }
+        if is_passed {
+            response
+                .body_mut()
+                .attend(self.upload.take(), self.stage.take());
+        }
         self.hand_over(&mut response);
         response
     }
 
+    // Whether the response is one that is passed on and has a content (RFC 9110, section 6.4.1).
+    fn passes_content(&self, given: &Given) -> bool {
+        match given {
+            Given::Passed { head, .. } => {
+                !matches!(head.status, 204 | 205 | 304) && !is_for_head(&self.telling)
+            }
+            _ => false,
+        }
+    }
+
+    // Passes on what has come of the content. Returns whether it is broken.
+    fn is_broken(&mut self, cx: &mut Context<'_>) -> bool
+        ensures kept { Keeps cx.old cx.new }
+        ensures same { (self.new.content ≡ self.old.content) × (self.new.answering ≡ self.old.answering) }
+    {
+        let Some(upload) = &mut self.upload else {
+            return false;
+        };
+        let Poll::Ready(relayed) = upload.poll(cx) else {
+            return false;
+        };
+        self.upload = None;
+        if relayed == Relayed::Unwanted {
+            self.is_last = true;
+        }
+        relayed == Relayed::Broken
+    }
+
     // Leaves it to the body of the response to tell what becomes of the request.
-    fn hand_over(&mut self, response: &mut Response<Reply<H>>) {
+    fn hand_over(&mut self, response: &mut Response<Reply<H, I>>) {
         let Some(mut telling) = self.telling.take() else {
             return;
         };
         let status = response.status().as_u16();
-        telling.note_response(status, self.is_last, response.body().is_empty());
+        let is_empty = matches!(status, 204 | 304) || response.body().is_empty();
+        telling.note_response(status, self.is_last, is_empty);
         response.body_mut().account_to(telling);
     }
 
@@ -149,8 +276,35 @@ impl<H: Answers, T: Read> Serving<H, T> {
         self.refusal = status;
     }
 
+    // Waits for the tunnel that the request opens. Returns whether it is open.
+    fn poll_tunnel(&mut self, cx: &mut Context<'_>) -> Poll<bool>
+        ensures same { (self.new.content ≡ self.old.content) × (self.new.answering ≡ self.old.answering) }
+        ensures registered { OnPending result (Covers cx.new (λ _. ⊥)) }
+        ensures kept { Keeps cx.old cx.new }
+    {
+        let Some(tunnel) = &mut self.tunnel else {
+            return Poll::Ready(false);
+        };
+        match ready!(tunnel.poll(cx)) {
+            Ok(Ok(())) => return Poll::Ready(true),
+            Ok(Err(status)) => self.refusal = status,
+            Err(_) => self.refusal = 503,
+        }
+        Poll::Ready(false)
+    }
+
+    // The response that opens a tunnel. Nothing is awaited of the client until its socket is taken over.
+    fn agree(&mut self) -> Response<Reply<H, I>> {
+        if let Some(telling) = &self.telling {
+            telling.answers.note_answer();
+        }
+        let mut response = bare(self.alloc, 200);
+        self.hand_over(&mut response);
+        response
+    }
+
     // The response to a request that is not passed on.
-    fn refuse(&mut self) -> Response<Reply<H>> {
+    fn refuse(&mut self) -> Response<Reply<H, I>> {
         let status = self.refusal;
         let text = match &self.telling {
             Some(telling) => telling.facts.failure(self.alloc, status),
@@ -164,12 +318,15 @@ impl<H: Answers, T: Read> Serving<H, T> {
     }
 }
 
-impl<H: Answers, T: Read> Future for Serving<H, T> {
-    type Output = Result<Response<Reply<H>>, Infallible>;
+impl<H: Answers, T: Read, I: Drop> Future for Serving<H, T, I> {
+    type Output = Result<Response<Reply<H, I>>, Infallible>;
 
     ghost can_poll = { λ w. IfSome w.content T.Reading.can_poll × IfSome w.answering H.Answering.can_poll };
 
-    fn poll(&mut self, cx: &mut Context<'_>) -> Poll<Result<Response<Reply<H>>, Infallible>> {
+    fn poll(&mut self, cx: &mut Context<'_>) -> Poll<Result<Response<Reply<H, I>>, Infallible>> {
+        if ready!(self.poll_tunnel(cx)) {
+            return Poll::Ready(Ok(self.agree()));
+        }
         if let Some(mut content) = self.content.take() {
             let Poll::Ready(collected) = content.poll(cx) else {
                 self.content = Some(content);
@@ -183,6 +340,10 @@ impl<H: Answers, T: Read> Future for Serving<H, T> {
                 Ending::TooLong => self.turn_down(413),
                 Ending::Broken => self.turn_down(400),
             }
+        }
+        if self.is_broken(cx) {
+            self.turn_down(400);
+            self.answering = None;
         }
         let Some(answering) = &mut self.answering else {
             return Poll::Ready(Ok(self.refuse()));
@@ -206,8 +367,33 @@ fn begin<H: Answers>(telling: &Option<Telling<H>>, content: Vec<u8>) -> Option<H
     Some(telling.answers.begin(facts))
 }
 
+// Passes on a request, whose content comes by and by. Returns `None` if out of memory.
+fn pass_on<H: Answers>(
+    telling: &Option<Telling<H>>,
+    content: Option<Coming>,
+) -> Option<H::Answering>
+    ensures { IfSome result H.Answering.can_poll }
+{
+    let Some(telling) = telling else {
+        return None;
+    };
+    let facts = telling.facts.share().ok()?;
+    Some(telling.answers.pass(facts, content))
+}
+
+// Whether the response is to a HEAD request.
+fn is_for_head<H: Answers>(telling: &Option<Telling<H>>) -> bool {
+    let Some(telling) = telling else {
+        return false;
+    };
+    match telling.facts.0.try_borrow_mut() {
+        Ok(facts) => facts.is_head(),
+        Err(_) => false,
+    }
+}
+
 // A response with an empty body.
-fn bare<H: Answers>(alloc: Global, status: u16) -> Response<Reply<H>> {
+fn bare<H: Answers, I: Drop>(alloc: Global, status: u16) -> Response<Reply<H, I>> {
     let mut response = Response::new(alloc, Reply::of(Portions::of_text(alloc, Vec::new(alloc))));
     *response.status_mut() = status_of(status);
     response
@@ -218,44 +404,150 @@ fn status_of(status: u16) -> StatusCode {
 }
 
 // The response with this content. Returns `None` if out of memory, or if there are too many fields.
-fn response_of<H: Answers>(alloc: Global, given: Given) -> Option<Response<Reply<H>>> {
+fn response_of<H: Answers, I: Drop>(alloc: Global, given: Given) -> Option<Response<Reply<H, I>>> {
     match given {
-        Given::Object { object, age, told } => {
-            let share = object.share().ok()?;
-            let mut response = Response::new(alloc, Reply::of(Portions::of_object(alloc, share)));
-            *response.status_mut() = status_of(object.get().status());
-            let headers = response.headers_mut();
-            add_object_fields(alloc, headers, object.get().head(), age.is_some())?;
-            if let Some(age) = age {
-                let age = age.to_string(alloc).ok()?;
-                add_field(alloc, headers, b"age", age.as_bytes())?;
-            }
-            add_field(alloc, headers, b"cache-status", told.as_slice())?;
-            Some(response)
+        Given::Object {
+            object,
+            shape,
+            age,
+            told,
+        } => {
+            let response = shaped_response(alloc, &object, shape, age.is_some());
+            let aged = with_age(alloc, response, age);
+            with_field(alloc, aged, b"cache-status", told.as_slice())
         }
         Given::Text { status, text, kind } => text_response(alloc, status, text, kind.media_type()),
         Given::Page(text) => page_response(alloc, text),
         Given::Capture(pieces) => {
-            let mut response = Response::new(alloc, Reply::of_pieces(alloc, pieces));
+            let response = Response::new(alloc, Reply::of_pieces(alloc, pieces));
             let kind = b"application/x-pcapng";
-            add_field(alloc, response.headers_mut(), b"content-type", kind)?;
-            Some(response)
+            with_field(alloc, Some(response), b"content-type", kind)
+        }
+        Given::Passed {
+            head,
+            pieces,
+            via,
+            told,
+        } => {
+            let response = passed_response(alloc, head, pieces);
+            let passed = with_field(alloc, response, b"via", via.as_slice());
+            with_field(alloc, passed, b"cache-status", told.as_slice())
         }
         Given::Challenge(text) => {
-            let mut response = text_response(alloc, 401, text, b"text/plain")?;
-            add_field(
-                alloc,
-                response.headers_mut(),
-                b"www-authenticate",
-                b"Bearer",
-            )?;
-            Some(response)
+            let response = text_response(alloc, 401, text, b"text/plain");
+            with_field(alloc, response, b"www-authenticate", b"Bearer")
         }
     }
 }
 
+// A response with this field as well. Returns `None` without a response, if out of memory, or if there are too many fields.
+fn with_field<H: Answers, I: Drop>(
+    alloc: Global,
+    response: Option<Response<Reply<H, I>>>,
+    name: &[u8],
+    value: &[u8],
+) -> Option<Response<Reply<H, I>>> {
+    let mut response = response?;
+    match add_field(alloc, response.headers_mut(), name, value) {
+        Some(()) => Some(response),
+        None => None,
+    }
+}
+
+// A response with this Age, if one is given. Returns `None` as `with_field` does.
+fn with_age<H: Answers, I: Drop>(
+    alloc: Global,
+    response: Option<Response<Reply<H, I>>>,
+    age: Option<u32>,
+) -> Option<Response<Reply<H, I>>> {
+    let Some(age) = age else {
+        return response;
+    };
+    match age.to_string(alloc) {
+        Ok(age) => with_field(alloc, response, b"age", age.as_bytes()),
+        Err(_) => None,
+    }
+}
+
+// The response with an object in this shape, without Age if `is_age_apart`. Returns `None` if out of memory, or if there are too many
+// fields.
+fn shaped_response<H: Answers, I: Drop>(
+    alloc: Global,
+    object: &SharedObject,
+    shape: Shape,
+    is_age_apart: bool,
+) -> Option<Response<Reply<H, I>>> {
+    match shape {
+        Shape::Whole => {
+            let share = object.share().ok()?;
+            let body = Portions::of_object(alloc, share);
+            let status = object.get().status();
+            object_response(alloc, status, body, object.get().head(), is_age_apart)
+        }
+        Shape::NotModified(fields) => {
+            let nothing = Portions::of_text(alloc, Vec::new(alloc));
+            object_response(alloc, 304, nothing, fields.as_slice(), is_age_apart)
+        }
+        Shape::Part { first, last, range } => {
+            let share = object.share().ok()?;
+            let body = Portions::of_part(alloc, share, first, last.saturating_add(1));
+            let head = object.get().head();
+            let response = object_response(alloc, 206, body, head, is_age_apart);
+            with_field(alloc, response, b"content-range", range.as_slice())
+        }
+        Shape::Unsatisfiable(range) => {
+            let response = Some(bare(alloc, 416));
+            with_field(alloc, response, b"content-range", range.as_slice())
+        }
+    }
+}
+
+// The response with this status and body, and the fields of an object. Returns `None` if out of memory, or if there are too many
+// fields.
+fn object_response<H: Answers, I: Drop>(
+    alloc: Global,
+    status: u16,
+    body: Portions,
+    fields: &[(Vec<u8>, Vec<u8>)],
+    is_age_apart: bool,
+) -> Option<Response<Reply<H, I>>> {
+    let mut response = Response::new(alloc, Reply::of(body));
+    *response.status_mut() = status_of(status);
+    add_object_fields(alloc, response.headers_mut(), fields, is_age_apart)?;
+    Some(response)
+}
+
+// The response with an answer that is passed on: its fields that are not only for its connection (RFC 9110, section 7.6.1). Returns `None`
+// if out of memory, if there are too many fields, or if Connection names too many.
+fn passed_response<H: Answers, I: Drop>(
+    alloc: Global,
+    head: PassedHead,
+    pieces: mpsc::Receiver<Piece>,
+) -> Option<Response<Reply<H, I>>> {
+    let PassedHead {
+        status,
+        head,
+        length,
+        wanted,
+    } = head;
+    let fields = end_to_end(alloc, &head).ok()?;
+    let reply = if status == 205 {
+        // It has no content, however it is framed (RFC 9110, section 15.3.6).
+        Reply::of(Portions::of_text(alloc, Vec::new(alloc)))
+    } else {
+        Reply::of_passed(alloc, pieces, length, wanted)
+    };
+    let mut response = Response::new(alloc, reply);
+    *response.status_mut() = status_of(status);
+    add_object_fields(alloc, response.headers_mut(), fields.as_slice(), false)?;
+    Some(response)
+}
+
 // The response with the administration's page. Returns `None` if out of memory.
-fn page_response<H: Answers>(alloc: Global, text: Vec<u8>) -> Option<Response<Reply<H>>> {
+fn page_response<H: Answers, I: Drop>(
+    alloc: Global,
+    text: Vec<u8>,
+) -> Option<Response<Reply<H, I>>> {
     let mut response = text_response(alloc, 200, text, b"text/html; charset=utf-8")?;
     let fields: [(&[u8], &[u8]); 4] = [
         (b"content-security-policy", POLICY.as_bytes()),
@@ -270,12 +562,12 @@ fn page_response<H: Answers>(alloc: Global, text: Vec<u8>) -> Option<Response<Re
 }
 
 // The response with this text of this media type. Returns `None` if out of memory.
-fn text_response<H: Answers>(
+fn text_response<H: Answers, I: Drop>(
     alloc: Global,
     status: u16,
     text: Vec<u8>,
     kind: &[u8],
-) -> Option<Response<Reply<H>>> {
+) -> Option<Response<Reply<H, I>>> {
     let is_empty = text.is_empty();
     let mut response = Response::new(alloc, Reply::of(Portions::of_text(alloc, text)));
     *response.status_mut() = status_of(status);

@@ -1,5 +1,5 @@
 //! HTTP/1.1 servers for clients of a proxy and for its administration, on hyper, whose types stay inside this crate. Every decision
-//! is behind a trait: `http_traffic::Front` and `http_traffic::Panel`.
+//! is behind a trait: `http_traffic::Front`, `http_traffic::FollowUp`, `http_traffic::PassOn` and `http_traffic::Panel`.
 //!
 //! The contracts see only that every future is polled in a state in which it may be; nothing is proved about the HTTP messages.
 //!
@@ -14,6 +14,8 @@ mod requests;
 mod server;
 mod serving;
 mod texts;
+mod tunnel;
+mod upload;
 
 pub use administration::serve_admin;
 pub use server::ServeLimits;

@@ -1,49 +1,168 @@
 //! The body of a response.
 ghost use Rattle.std.specs.Prelude.{◌≡◌, IsSomeAnd};
 ghost use Rattle.futures.specs.Channel.{readable_source};
+ghost use Rattle.futures.specs.Poll.{OnPending};
+ghost use Rattle.futures.specs.Task.{Covers, Keeps};
 
 use crate::account::Telling;
 use crate::requests::Answers;
+use crate::upload::Upload;
 use bytes::Bytes;
-use futures::channel::mpsc;
-use futures::ready;
+use client_streams::{SharedStage, Stage};
+use futures::channel::{mpsc, oneshot};
 use futures::stream::Stream;
 use futures::task::{Context, Poll};
+use futures::{Future, ready};
 use http_body::{Body, Frame, SizeHint};
+use http_traffic::Piece;
 use object_body::Portions;
 use std::alloc::{AllocError, Global};
 
-/// Octets that are known when the response begins, and after them pieces that are made while it is sent. What became of the request
-/// is told when this is dropped.
+/// Octets that are known when the response begins, or pieces that are made while it is sent, or those of an answer that is passed on.
+/// What became of the request is told when this is dropped.
 #[derive(Drop)]
-pub(crate) struct Reply<H: Answers> {
+pub(crate) struct Reply<H: Answers, I> {
     known: Portions,
     coming: Option<mpsc::Receiver<Vec<u8>>>,
+    passed: Option<Passed<I>>,
     telling: Option<Telling<H>>,
 }
 
-impl<H: Answers> Reply<H> {
+// The content of an answer that is passed on, and what is left of the content of its request.
+#[derive(Drop)]
+struct Passed<I> {
+    pieces: mpsc::Receiver<Piece>,
+    length: Option<u64>,
+    // Ends the passage when it is dropped.
+    wanted: oneshot::Sender<()>,
+    upload: Option<Upload<I>>,
+    // None if there are too many handles.
+    stage: Option<SharedStage>,
+}
+
+impl<I: Drop> Passed<I> {
+    // The next piece. The content of the request goes on meanwhile.
+    fn poll_piece(&mut self, cx: &mut Context<'_>) -> Poll<Option<Piece>>
+        ensures registered { OnPending result (Covers cx.new (λ _. ⊥)) }
+        ensures kept { Keeps cx.old cx.new }
+    {
+        if let Some(upload) = &mut self.upload
+            && let Poll::Ready(_) = upload.poll(cx)
+        {
+            self.upload = None;
+        }
+        self.pieces.poll_next(cx)
+    }
+
+    // Has the connection wait for its next request.
+    fn rest(&self) {
+        if let Some(stage) = &self.stage {
+            stage.set(Stage::Idle);
+        }
+    }
+}
+
+impl<H: Answers, I: Drop> Reply<H, I> {
     /// A body of which all octets are known.
-    pub(crate) fn of(known: Portions) -> Reply<H> {
+    pub(crate) fn of(known: Portions) -> Reply<H, I> {
         Reply {
             known,
             coming: None,
+            passed: None,
             telling: None,
         }
     }
 
     /// A body of the pieces that come, to the end of their channel.
-    pub(crate) fn of_pieces(alloc: Global, pieces: mpsc::Receiver<Vec<u8>>) -> Reply<H> {
+    pub(crate) fn of_pieces(alloc: Global, pieces: mpsc::Receiver<Vec<u8>>) -> Reply<H, I> {
         Reply {
             known: Portions::of_text(alloc, Vec::new(alloc)),
             coming: Some(pieces),
+            passed: None,
             telling: None,
+        }
+    }
+
+    /// A body of the pieces of an answer that is passed on; it fails if they end without `Piece::End`. The passage ends when this is
+    /// dropped, with `wanted`.
+    pub(crate) fn of_passed(
+        alloc: Global,
+        pieces: mpsc::Receiver<Piece>,
+        length: Option<u64>,
+        wanted: oneshot::Sender<()>,
+    ) -> Reply<H, I> {
+        Reply {
+            known: Portions::of_text(alloc, Vec::new(alloc)),
+            coming: None,
+            passed: Some(Passed {
+                pieces,
+                length,
+                wanted,
+                upload: None,
+                stage: None,
+            }),
+            telling: None,
+        }
+    }
+
+    /// Leaves it to a body that is passed on to pass on what is left of its request's content, and to set the stage once it has ended.
+    pub(crate) fn attend(&mut self, upload: Option<Upload<I>>, stage: Option<SharedStage>) {
+        if let Some(passed) = &mut self.passed {
+            passed.upload = upload;
+            passed.stage = stage;
         }
     }
 
     /// Whether the body has no octets.
     pub(crate) fn is_empty(&self) -> bool {
-        self.coming.is_none() && self.known.size_hint().lower() == 0
+        self.coming.is_none() && self.passed.is_none() && self.known.size_hint().lower() == 0
+    }
+
+    // The next frame of a body that is passed on. Errors: it was cut, or out of memory.
+    fn poll_passed(
+        &mut self,
+        cx: &mut Context<'_>,
+    ) -> Poll<Option<Result<Frame<Bytes>, AllocError>>>
+        ensures registered { OnPending result (Covers cx.new (λ _. ⊥)) }
+        ensures kept { Keeps cx.old cx.new }
+        ensures same { self.new.coming ≡ self.old.coming }
+    {
+        let Some(passed) = &mut self.passed else {
+            return Poll::Ready(None);
+        };
+        match ready!(passed.poll_piece(cx)) {
+            Some(Piece::Octets(octets)) => {
+                let count = octets.len() as u64;
+                self.note(count, false);
+                match Bytes::from_vec(octets) {
+                    Ok(octets) => Poll::Ready(Some(Ok(Frame::data(octets)))),
+                    Err(_) => Poll::Ready(Some(Err(AllocError))),
+                }
+            }
+            Some(Piece::End) => {
+                passed.rest();
+                self.note(0, true);
+                Poll::Ready(None)
+            }
+            // Whatever the error, the connection ends without the end of the content.
+            None => Poll::Ready(Some(Err(AllocError))),
+        }
+    }
+
+    // The next frame of a body whose octets are known, or that is passed on. Errors: it was cut, or out of memory.
+    fn poll_alone(&mut self, cx: &mut Context<'_>) -> Poll<Option<Result<Frame<Bytes>, AllocError>>>
+        ensures registered { OnPending result (Covers cx.new (λ _. ⊥)) }
+        ensures kept { Keeps cx.old cx.new }
+        ensures same { self.new.coming ≡ self.old.coming }
+    {
+        if self.passed.is_some() {
+            return self.poll_passed(cx);
+        }
+        let before = self.known.size_hint().lower();
+        let frame = self.known.poll_frame(cx);
+        let left = self.known.size_hint().lower();
+        self.note(before.saturating_sub(left), left == 0);
+        frame
     }
 
     /// Has `telling` note what is handed to the connection from now on.
@@ -61,7 +180,7 @@ impl<H: Answers> Reply<H> {
     }
 }
 
-impl<H: Answers> Body for Reply<H> {
+impl<H: Answers, I: Drop> Body for Reply<H, I> {
     type Data = Bytes;
 
     type Error = AllocError;
@@ -73,11 +192,7 @@ impl<H: Answers> Body for Reply<H> {
         cx: &mut Context<'_>,
     ) -> Poll<Option<Result<Frame<Bytes>, AllocError>>> {
         let Some(coming) = &mut self.coming else {
-            let before = self.known.size_hint().lower();
-            let frame = self.known.poll_frame(cx);
-            let left = self.known.size_hint().lower();
-            self.note(before.saturating_sub(left), left == 0);
-            return frame;
+            return self.poll_alone(cx);
         };
         let Some(piece) = ready!(coming.poll_next(cx)) else {
             self.note(0, true);
@@ -94,6 +209,12 @@ impl<H: Answers> Body for Reply<H> {
     }
 
     fn size_hint(&self) -> SizeHint {
+        if let Some(passed) = &self.passed {
+            return match passed.length {
+                Some(length) => SizeHint::with_exact(length),
+                None => SizeHint::new(),
+            };
+        }
         match self.coming {
             Some(_) => SizeHint::new(),
             None => self.known.size_hint(),

@@ -2,10 +2,10 @@
 use crate::account::SharedFacts;
 use futures::Future;
 use futures::channel::mpsc;
-use http_traffic::Told;
+use http_traffic::{Coming, PassedHead, Piece, Road, Shape, Told, TunnelEnd};
 use object_store::SharedObject;
 use std::alloc::AllocError;
-use std::net::IpAddr;
+use std::net::{IpAddr, SocketAddr};
 
 /// What a text of the proxy itself is.
 #[derive(Clone, Copy, Debug, PartialEq, Eq)]
@@ -32,9 +32,10 @@ impl TextKind {
 /// The content of a response.
 #[derive(Drop)]
 pub(crate) enum Given {
-    /// An object with this Cache-Status. If `age` is given, it replaces the Age field of the object.
+    /// An object in this shape, with this Cache-Status. If `age` is given, it replaces the Age field of the object.
     Object {
         object: SharedObject,
+        shape: Shape,
         age: Option<u32>,
         told: Vec<u8>,
     },
@@ -48,6 +49,13 @@ pub(crate) enum Given {
     Page(Vec<u8>),
     /// The pieces of a capture file, which are made while they are sent.
     Capture(mpsc::Receiver<Vec<u8>>),
+    /// The answer to a request that was passed on: its head and the pieces of its content, with this Via added and this Cache-Status.
+    Passed {
+        head: PassedHead,
+        pieces: mpsc::Receiver<Piece>,
+        via: Vec<u8>,
+        told: Vec<u8>,
+    },
     /// A text with status 401, for a client that has to show a bearer token (RFC 6750, section 3).
     Challenge(Vec<u8>),
 }
@@ -63,12 +71,37 @@ pub(crate) trait Answers: Drop {
     /// Whether clients at this address are admitted.
     fn allows(&self, address: IpAddr) -> bool;
 
-    /// The status that refuses this method before the content is read, or `None`.
-    fn refuses(&self, method: &str) -> Option<u16>;
+    /// How a request with this method is taken. Errors: the status that refuses it before its content is read.
+    fn road(&self, method: &str) -> Result<Road, u16>;
+
+    /// Whether other methods than GET are served, as the text of a refused one says.
+    fn has_other_methods(&self) -> bool {
+        false
+    }
+
+    /// Whether the request of these facts is refused whatever its content, which then is not read: `begin` says how.
+    fn refuses(&self, _facts: &SharedFacts) -> bool {
+        false
+    }
 
     /// Starts to answer the request of these facts.
     fn begin(&self, facts: SharedFacts) -> Self::Answering
         ensures { Self.Answering.can_poll result };
+
+    /// Passes on the request of these facts with this content, and starts to answer it as it is answered. Called only for requests
+    /// whose road is `Road::Passed`. The pieces of the content are dropped where it is refused.
+    fn pass(&self, facts: SharedFacts, content: Option<Coming>) -> Self::Answering
+        ensures { Self.Answering.can_poll result };
+
+    /// Where the tunnel leads that the request of these facts opens. Errors: the status to answer.
+    fn tunnel(&self, _facts: &SharedFacts) -> Result<TunnelEnd, u16> {
+        Err(501)
+    }
+
+    /// Whether this server may be connected to for a tunnel, as an origin server.
+    fn admits(&self, _server: SocketAddr) -> bool {
+        false
+    }
 
     /// Called once for each response, including refusals.
     fn note_answer(&self);

@@ -1,14 +1,19 @@
 //! An HTTP server that runs on the calling thread.
-use crate::account::{Counted, End, SharedFacts, Watched, Watching, tell_refused};
+ghost use Rattle.std.specs.Prelude.{IfSome};
+
+use crate::account::{Counted, SharedFacts, Watched, Watching, tell_refused};
 use crate::door::Door;
 use crate::reply::Reply;
 use crate::requests::Answers;
 use crate::texts::{FORBIDDEN, forbidden};
+use crate::tunnel::Dialer;
 use client_streams::{
     Accept, AcceptedClients, ClientLimits, Patient, Refusal, SharedStage, Stops, StreamTimeouts,
 };
 use crossbeam_channel::Sender;
+use futures::Future;
 use futures::future::Either;
+use futures::task::{Context, Poll};
 use hyper::rt::TokioTimer;
 use hyper::server::conn::http1;
 use hyper::server::conn::http1::Connection;
@@ -21,8 +26,7 @@ use std::sync::atomic::AtomicUsize;
 use std::sync::{Arc, Wait};
 use std::time::{Clock, Duration};
 use tokio::net::{TcpListener, TcpStream};
-use tokio::runtime::LocalRuntime;
-use tokio::time::Handle;
+use tokio::runtime::{Handle, LocalRuntime};
 
 /// Limits of a server.
 #[derive(Clone, Copy)]
@@ -42,19 +46,55 @@ pub struct ServeLimits {
 struct Http<R, H> {
     rt: R,
     alloc: Global,
-    timers: Handle,
+    handle: Handle,
     limits: ServeLimits,
     builder: http1::Builder<TokioTimer<R>>,
     answers: H,
     // How many connections are open, where that is counted.
     open: Option<Arc<AtomicUsize>>,
+    // Until the server is open.
+    bound: Option<Bound>,
 }
 
-impl<R: Clock + Copy, H: Answers> Accept for Http<R, H> {
-    type Serving = Either<
-        Watched<Connection<Patient<R>, Door<H>, Reply<H>, TokioTimer<R>>, H>,
-        Refusal<R>,
-    >;
+// Where a server listens, and who is told so once it is open.
+#[derive(Drop)]
+struct Bound {
+    address: SocketAddr,
+    to: Sender<SocketAddr, Global>,
+}
+
+// The HTTP connection of a client that is served.
+type Kept<R, H> = Watched<
+    Connection<Patient<R>, Door<H>, Reply<H, Patient<R>>, TokioTimer<R>>,
+    R,
+    H,
+>;
+
+// A client that is served or refused. A type of its own, since its parts have large ones that are elaborated anew wherever they are
+// named.
+#[derive(Drop)]
+struct Client<R: Net + Clock + Copy, H: Answers> {
+    serving: Either<Kept<R, H>, Refusal<R>>,
+}
+
+impl<R: Net + Clock + Copy, H: Answers> Future for Client<R, H> {
+    type Output = ();
+
+    ghost can_poll = { λ c. ⟦<Either<Kept<R, H>, Refusal<R>> as Future>⟧.can_poll c.serving };
+
+    fn poll(&mut self, cx: &mut Context<'_>) -> Poll<()> {
+        self.serving.poll(cx)
+    }
+}
+
+impl<R: Wait + Net + Clock + Copy, H: Answers> Accept for Http<R, H> {
+    type Serving = Client<R, H>;
+
+    fn opened(&mut self) {
+        if let Some(bound) = self.bound.take() {
+            let _ = bound.to.send(&self.rt, bound.address);
+        }
+    }
 
     fn has_seat(&self, address: SocketAddr) -> bool {
         self.answers.allows(address.ip())
@@ -65,39 +105,69 @@ impl<R: Clock + Copy, H: Answers> Accept for Http<R, H> {
         socket: TcpStream,
         address: SocketAddr,
         stage: SharedStage,
-    ) -> Option<Self::Serving> {
+    ) -> Option<Client<R, H>> {
         let _ = socket.set_nodelay(true);
-        let Ok(shared) = stage.share() else {
-            return None;
-        };
-        let still = self.limits.still;
-        let Ok(patient) = Patient::new(self.rt, &self.timers, socket, still, shared) else {
-            return None;
-        };
-        if !self.answers.allows(address.ip()) {
-            let Ok(text) = forbidden(self.alloc) else {
-                return None;
-            };
-            self.answers.note_answer();
-            tell_refused(&self.answers, address.ip(), FORBIDDEN.len() as u64);
-            return Some(Either::Right(Refusal::new(patient, text)));
+        if self.answers.allows(address.ip()) {
+            self.greet(socket, address.ip(), stage)
+        } else {
+            self.refuse(socket, address.ip(), stage)
         }
-        let door = self.door(address.ip(), stage)?;
-        let watching = Watching {
+    }
+}
+
+impl<R: Net + Clock + Copy, H: Answers> Http<R, H> {
+    // Serves the client at this address. Returns `None` if out of memory.
+    fn greet(&self, socket: TcpStream, from: IpAddr, stage: SharedStage) -> Option<Client<R, H>>
+        ensures { IfSome result (λ c. ⟦<Either<Kept<R, H>, Refusal<R>> as Future>⟧.can_poll c.serving) }
+    {
+        let shared = stage.share().ok()?;
+        let door = self.door(from, stage)?;
+        let watching = self.watching(&door)?;
+        let dialer = Dialer::new(self.rt, self.alloc, &self.handle).ok()?;
+        let patient = self.patient(socket, shared)?;
+        let inner = self.builder.serve_connection(patient, door);
+        Some(Client {
+            serving: Either::Left(Watched::new(inner, watching, dialer)),
+        })
+    }
+
+    // Refuses the client at this address, which is told so. Returns `None` if out of memory.
+    fn refuse(&self, socket: TcpStream, from: IpAddr, stage: SharedStage) -> Option<Client<R, H>>
+        ensures { IfSome result (λ c. ⟦<Either<Kept<R, H>, Refusal<R>> as Future>⟧.can_poll c.serving) }
+    {
+        let text = forbidden(self.alloc).ok()?;
+        let patient = self.patient(socket, stage)?;
+        self.answers.note_answer();
+        tell_refused(&self.answers, from, FORBIDDEN.len() as u64);
+        Some(Client {
+            serving: Either::Right(Refusal::new(patient, text)),
+        })
+    }
+
+    // The client's connection, which ends where the client is too slow. Returns `None` if out of memory.
+    fn patient(&self, socket: TcpStream, stage: SharedStage) -> Option<Patient<R>> {
+        Patient::new(
+            self.rt,
+            self.handle.time(),
+            socket,
+            self.limits.still,
+            stage,
+        )
+        .ok()
+    }
+
+    // What is told of the requests at this door. Returns `None` if out of memory.
+    fn watching(&self, door: &Door<H>) -> Option<Watching<H>> {
+        Some(Watching {
             alloc: self.alloc,
             answers: self.answers.share().ok()?,
             facts: door.facts.share().ok()?,
             counted: self.counted(),
-        };
-        Some(Either::Left(Watched {
-            inner: self.builder.serve_connection(patient, door),
-            watching,
-            end: End::Broken,
-        }))
+        })
     }
 }
 
-impl<R: Clock + Copy, H: Answers> Http<R, H> {
+impl<R: Net + Clock + Copy, H: Answers> Http<R, H> {
     // The service of a connection from this address. Returns `None` if out of memory.
     fn door(&self, from: IpAddr, stage: SharedStage) -> Option<Door<H>> {
         let shared = stage.share().ok()?;
@@ -105,7 +175,7 @@ impl<R: Clock + Copy, H: Answers> Http<R, H> {
             alloc: self.alloc,
             answers: self.answers.share().ok()?,
             from,
-            facts: SharedFacts::new(self.alloc, from, shared).ok()?,
+            facts: SharedFacts::new(self.alloc, &self.answers, from, shared).ok()?,
             stage,
             limit: self.limits.content,
         })
@@ -120,30 +190,17 @@ impl<R: Clock + Copy, H: Answers> Http<R, H> {
     }
 }
 
-// A socket that listens, whose address is sent to `bound`. Errors: the socket failed, or nothing receives the address.
-fn listen<R: Wait + Net>(
-    rt: &R,
-    runtime: &LocalRuntime,
-    address: SocketAddr,
-    bound: Sender<SocketAddr, Global>,
-) -> io::Result<TcpListener> {
-    let listener = TcpListener::bind(rt, address, runtime.handle().reactor())?;
-    if bound.send(rt, listener.local_addr()?).is_err() {
-        return Err(io::Error::other("nobody waits for the server"));
-    }
-    Ok(listener)
-}
-
 // What makes the HTTP connections of a runtime. Errors: there are no random numbers, or out of memory.
 fn http_of<R, H>(
     rt: R,
     runtime: &LocalRuntime,
     answers: H,
+    bound: Bound,
     open: Option<Arc<AtomicUsize>>,
     limits: ServeLimits,
 ) -> io::Result<Http<R, H>>
 where
-    R: Clock + RandomSource + AllocGlobal + Copy,
+    R: Net + Clock + RandomSource + AllocGlobal + Copy,
     H: Answers,
 {
     let alloc = rt.alloc();
@@ -154,17 +211,17 @@ where
     Ok(Http {
         rt,
         alloc,
-        timers: runtime.handle().time().clone()?,
+        handle: runtime.handle().clone()?,
         limits,
         builder,
         answers,
         open,
+        bound: Some(bound),
     })
 }
 
 /// Serves until `stops.stop` is ready or its sender is dropped. Open connections then have `limits.grace` to end, unless `stops.hurry`
-/// is ready before. Sends the address to `bound` once the socket is bound. Errors: the socket or the event loop failed, or nothing
-/// receives the address.
+/// is ready before. Sends the address to `bound` once clients are accepted. Errors: the socket or the event loop failed.
 pub(crate) fn serve<R, H>(
     rt: R,
     address: SocketAddr,
@@ -181,10 +238,33 @@ where
     let mut runtime = LocalRuntime::new(&rt)?;
     // The stream of clients ends with the grace.
     runtime.set_shutdown_timeout(Some(Duration::ZERO));
-    let listener = listen(&rt, &runtime, address, bound)?;
-    let http = http_of(rt, &runtime, answers, open, limits)?;
+    let listener = TcpListener::bind(&rt, address, runtime.handle().reactor())?;
+    let bound = Bound {
+        address: listener.local_addr()?,
+        to: bound,
+    };
+    let http = http_of(rt, &runtime, answers, bound, open, limits)?;
+    run_accepted(rt, runtime, listener, stops, http, limits)
+}
+
+// Runs a server that accepts by `accept`. A function of its own, since of a type that is named little is known here, and much has to be
+// elaborated anew of one that is.
+fn run_accepted<R, A>(
+    rt: R,
+    runtime: LocalRuntime,
+    listener: TcpListener,
+    stops: Stops,
+    accept: A,
+    limits: ServeLimits,
+) -> io::Result<()>
+where
+    R: Wait + Clock + RandomSource + AllocGlobal + Net + Copy,
+    A: Accept,
+{
+    let mut runtime = runtime;
     let timers = runtime.handle().time().clone()?;
     let (most, grace) = (limits.connections, limits.grace);
-    let clients = AcceptedClients::new(rt, rt.alloc(), timers, listener, stops, grace, http, most)?;
+    let alloc = rt.alloc();
+    let clients = AcceptedClients::new(rt, alloc, timers, listener, stops, grace, accept, most)?;
     runtime.run_all(&rt, clients)
 }

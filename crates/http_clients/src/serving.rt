@@ -11,7 +11,12 @@ use crossbeam_channel::Sender;
 use futures::channel::oneshot;
 use futures::task::{Context, Poll};
 use futures::{Future, ready};
-use http_traffic::{Asking, Forward, Front, Outcome, Told};
+use http_rules::end_to_end;
+use http_traffic::{
+    Asking, Coming, FetchFault, FollowUp, Forward, Front, Outcome, PassFault, PassOn, PassedHead,
+    Passing, Road, Shape, Supplier, Told, TunnelEnd,
+};
+use hyper::HeaderMap;
 use object_store::SharedObject;
 use std::alloc::{AllocError, AllocGlobal, Global};
 use std::cell::RefCell;
@@ -30,6 +35,8 @@ struct ClientContext<F> {
     front: RefCell<F>,
     // The name of the cache, as written in Cache-Status.
     label: Vec<u8>,
+    // The Via of the cache.
+    via: Vec<u8>,
 }
 
 // Answers requests from a shared front.
@@ -39,7 +46,7 @@ struct FrontAnswers<F> {
 }
 
 // Passes the request of these facts to the front, with `is_alone` by `Front::ask_alone`. Errors: the status to answer.
-fn submit<F: Front>(
+fn submit<F: Front + FollowUp + PassOn>(
     context: &Rc<ClientContext<F>>,
     facts: &SharedFacts,
     is_alone: bool,
@@ -79,7 +86,52 @@ fn submit<F: Front>(
     })
 }
 
-impl<F: Front> Answers for FrontAnswers<F> {
+// Whether the answer to the request of these facts is known to be too long to be stored.
+fn is_large<F: Front + FollowUp + PassOn>(
+    context: &Rc<ClientContext<F>>,
+    facts: &SharedFacts,
+) -> bool {
+    let Ok(mut front) = context.front.try_borrow_mut() else {
+        return false;
+    };
+    let Ok(facts) = facts.0.try_borrow_mut() else {
+        return false;
+    };
+    match &facts.asked {
+        Some(asked) => front.is_large(asked),
+        None => false,
+    }
+}
+
+// Has the front pass on the request of these facts, with this content. Errors: the status to answer.
+fn pass_on<F: Front + FollowUp + PassOn>(
+    context: &Rc<ClientContext<F>>,
+    facts: &SharedFacts,
+    content: Option<Coming>,
+) -> Result<Passes<F>, u16> {
+    let Ok(owner) = context.clone() else {
+        return Err(503);
+    };
+    let Ok(mut front) = context.front.try_borrow_mut() else {
+        return Err(503);
+    };
+    // Content that was collected is not passed on.
+    let _ = facts.put_content(Vec::new(context.alloc));
+    let Ok(mut facts) = facts.0.try_borrow_mut() else {
+        return Err(503);
+    };
+    let Some(asked) = &facts.asked else {
+        return Err(503);
+    };
+    let passing = front.pass_on(asked, content)?;
+    facts.note_passed(passing.began);
+    Ok(Passes {
+        context: owner,
+        passing,
+    })
+}
+
+impl<F: Front + FollowUp + PassOn> Answers for FrontAnswers<F> {
     type Answering = Waiting<F>;
 
     fn share(&self) -> Result<FrontAnswers<F>, AllocError> {
@@ -101,11 +153,28 @@ impl<F: Front> Answers for FrontAnswers<F> {
         }
     }
 
-    fn refuses(&self, method: &str) -> Option<u16> {
-        if method == "GET" { None } else { Some(501) }
+    fn road(&self, method: &str) -> Result<Road, u16> {
+        let road = match self.context.front.try_borrow_mut() {
+            Ok(mut front) => front.road(method),
+            Err(_) => Road::Refused,
+        };
+        match road {
+            Road::Node | Road::Passed | Road::Tunnel => Ok(road),
+            Road::Refused => Err(501),
+        }
+    }
+
+    fn has_other_methods(&self) -> bool {
+        match self.context.front.try_borrow_mut() {
+            Ok(front) => front.has_passages(),
+            Err(_) => false,
+        }
     }
 
     fn begin(&self, facts: SharedFacts) -> Waiting<F> {
+        if is_large(&self.context, &facts) {
+            return self.pass(facts, None);
+        }
         let alloc = self.context.alloc;
         let (status, waits) = match submit(&self.context, &facts, false) {
             Ok(waits) => (503, Some(waits)),
@@ -118,6 +187,41 @@ impl<F: Front> Answers for FrontAnswers<F> {
             facts,
             status,
             waits,
+            passes: None,
+        }
+    }
+
+    fn pass(&self, facts: SharedFacts, content: Option<Coming>) -> Waiting<F> {
+        let (status, passes) = match pass_on(&self.context, &facts, content) {
+            Ok(passes) => (502, Some(passes)),
+            Err(status) => (status, None),
+        };
+        Waiting {
+            alloc: self.context.alloc,
+            facts,
+            status,
+            waits: None,
+            passes,
+        }
+    }
+
+    fn tunnel(&self, facts: &SharedFacts) -> Result<TunnelEnd, u16> {
+        let Ok(mut front) = self.context.front.try_borrow_mut() else {
+            return Err(503);
+        };
+        let Ok(facts) = facts.0.try_borrow_mut() else {
+            return Err(503);
+        };
+        match &facts.asked {
+            Some(asked) => front.tunnel(asked),
+            None => Err(503),
+        }
+    }
+
+    fn admits(&self, server: SocketAddr) -> bool {
+        match self.context.front.try_borrow_mut() {
+            Ok(mut front) => front.admits(server),
+            Err(_) => false,
         }
     }
 
@@ -134,14 +238,14 @@ impl<F: Front> Answers for FrontAnswers<F> {
     }
 }
 
-// Calls `Front::gone` when dropped, unless the client was answered.
-struct Guard<F: Front> {
+// Calls `FollowUp::gone` when dropped, unless the client was answered.
+struct Guard<F: Front + FollowUp + PassOn> {
     context: Rc<ClientContext<F>>,
     client: u64,
     is_armed: bool,
 }
 
-impl<F: Front> Drop for Guard<F> {
+impl<F: Front + FollowUp + PassOn> Drop for Guard<F> {
     fn drop(self) {
         let Guard {
             context,
@@ -156,23 +260,32 @@ impl<F: Front> Drop for Guard<F> {
 
 // An accepted request that waits for its answer.
 #[derive(Drop)]
-struct Waits<F: Front> {
+struct Waits<F: Front + FollowUp + PassOn> {
     forward: Forward,
     answer: oneshot::Receiver<Outcome>,
     guard: Guard<F>,
 }
 
+// A request that is passed on and waits for the head of its answer.
+#[derive(Drop)]
+struct Passes<F: Front + FollowUp + PassOn> {
+    context: Rc<ClientContext<F>>,
+    passing: Passing,
+}
+
 // The future of one answer.
 #[derive(Drop)]
-struct Waiting<F: Front> {
+struct Waiting<F: Front + FollowUp + PassOn> {
     alloc: Global,
     facts: SharedFacts,
     // The status if the request was refused or its answer never comes.
     status: u16,
     waits: Option<Waits<F>>,
+    // Once the request is passed on.
+    passes: Option<Passes<F>>,
 }
 
-impl<F: Front> Waiting<F> {
+impl<F: Front + FollowUp + PassOn> Waiting<F> {
     // Polls for the front's answer. `None` if the request was refused or its answer never comes.
     fn poll_front(&mut self, cx: &mut Context<'_>) -> Poll<Option<Outcome>>
         ensures registered { OnPending result (Covers cx.new (λ _. ⊥)) }
@@ -214,6 +327,79 @@ impl<F: Front> Waiting<F> {
         }
     }
 
+    // Whether the answer is that there is none, and that because it is too long to be stored.
+    fn is_too_long(&self, answer: &Option<Outcome>) -> bool {
+        match (&self.waits, answer) {
+            (Some(waits), Some(Outcome::Fail(502))) => is_large(&waits.guard.context, &self.facts),
+            _ => false,
+        }
+    }
+
+    // Passes on the answered request.
+    fn pass_on(&mut self) {
+        let Some(waits) = self.waits.take() else {
+            return;
+        };
+        match pass_on(&waits.guard.context, &self.facts, None) {
+            Ok(passes) => self.passes = Some(passes),
+            Err(status) => self.status = status,
+        }
+    }
+
+    // Polls for the head of the answer to a request that was passed on. Errors: the status of a failure.
+    fn poll_head(&mut self, cx: &mut Context<'_>) -> Poll<Result<PassedHead, u16>>
+        ensures registered { OnPending result (Covers cx.new (λ _. ⊥)) }
+        ensures kept { Keeps cx.old cx.new }
+    {
+        let Some(passes) = &mut self.passes else {
+            return Poll::Ready(Err(self.status));
+        };
+        match ready!(passes.passing.head.poll(cx)) {
+            Ok(Ok(head)) => Poll::Ready(Ok(head)),
+            Ok(Err(fault)) => {
+                if fault == PassFault::Refused
+                    && let Ok(mut facts) = self.facts.0.try_borrow_mut()
+                {
+                    facts.note_refused();
+                }
+                Poll::Ready(Err(status_of(fault)))
+            }
+            Err(_) => Poll::Ready(Err(502)),
+        }
+    }
+
+    // The response to a request that was passed on, whose answer has this head. Errors: the status of a failure.
+    fn passed(&mut self, head: PassedHead) -> Result<Given, u16> {
+        let Some(passes) = self.passes.take() else {
+            return Err(503);
+        };
+        let Passes { context, passing } = passes;
+        let Ok(facts) = self.facts.0.try_borrow_mut() else {
+            return Err(503);
+        };
+        let Some(asked) = &facts.asked else {
+            return Err(503);
+        };
+        if let Ok(mut front) = context.front.try_borrow_mut() {
+            front.passed(asked, head.status, &head.head);
+        }
+        if has_too_many_names(self.alloc, &head.head) {
+            return Err(502);
+        }
+        let is_get = asked.method.as_str() == "GET";
+        let told = told_passed(self.alloc, context.label.as_slice(), is_get);
+        let via = context.via.as_slice().to_vec(self.alloc);
+        match (told, via) {
+            (Ok(told), Ok(via)) => Ok(Given::Passed {
+                head,
+                pieces: passing.pieces,
+                via,
+                told,
+            }),
+            _ => Err(503),
+        }
+    }
+
     // The content of the response. Errors: the status of a failure.
     fn content(&self, answer: Option<Outcome>) -> Result<Given, u16> {
         let Some(waits) = &self.waits else {
@@ -225,8 +411,44 @@ impl<F: Front> Waiting<F> {
         if let Ok(mut facts) = self.facts.0.try_borrow_mut() {
             facts.note_outcome(&answer);
         }
+        let shape = self.shape(waits, &answer);
         let label = waits.guard.context.label.as_slice();
-        given_of(self.alloc, label, waits.forward, answer)
+        given_of(self.alloc, label, waits.forward, answer, shape)
+    }
+
+    // What of its object the request is answered with, as the front says.
+    fn shape(&self, waits: &Waits<F>, answer: &Outcome) -> Shape {
+        let object = match answer {
+            Outcome::Hit { object, .. } => object,
+            Outcome::Got { object, .. } if waits.forward != Forward::Bypass => object,
+            Outcome::Got { .. } | Outcome::Fail(_) => return Shape::Whole,
+        };
+        let Ok(mut front) = waits.guard.context.front.try_borrow_mut() else {
+            return Shape::Whole;
+        };
+        let Ok(facts) = self.facts.0.try_borrow_mut() else {
+            return Shape::Whole;
+        };
+        match &facts.asked {
+            Some(asked) => front.shape(asked, object.get()),
+            None => Shape::Whole,
+        }
+    }
+
+    // The content of the response, or of a failure.
+    fn given(&self, answer: Option<Outcome>) -> Given {
+        match self.content(answer) {
+            Ok(given) => given,
+            Err(status) => self.failure(status),
+        }
+    }
+
+    // As `given`, where the answer is passed on.
+    fn given_head(&mut self, head: PassedHead) -> Given {
+        match self.passed(head) {
+            Ok(given) => given,
+            Err(status) => self.failure(status),
+        }
     }
 
     // The content of a failure: its reason, and the target of the request.
@@ -239,35 +461,72 @@ impl<F: Front> Waiting<F> {
     }
 }
 
-impl<F: Front> Future for Waiting<F> {
+impl<F: Front + FollowUp + PassOn> Future for Waiting<F> {
     type Output = Given;
 
     fn poll(&mut self, cx: &mut Context<'_>) -> Poll<Given> {
-        let mut answer = ready!(self.poll_front(cx));
-        if self.is_for_another(&answer) {
-            self.ask_alone();
-            answer = ready!(self.poll_front(cx));
+        if self.passes.is_none() {
+            let mut answer = ready!(self.poll_front(cx));
+            if self.is_for_another(&answer) {
+                self.ask_alone();
+                answer = ready!(self.poll_front(cx));
+            }
+            if !self.is_too_long(&answer) {
+                return Poll::Ready(self.given(answer));
+            }
+            self.pass_on();
         }
-        match self.content(answer) {
-            Ok(given) => Poll::Ready(given),
+        match ready!(self.poll_head(cx)) {
+            Ok(head) => Poll::Ready(self.given_head(head)),
             Err(status) => Poll::Ready(self.failure(status)),
         }
     }
 }
 
+// Whether the Connection fields of an answer have more names than an answer may have that is given on.
+fn has_too_many_names(alloc: Global, head: &HeaderMap) -> bool {
+    matches!(
+        end_to_end(alloc, head),
+        Err(http_rules::PassFault::TooManyNames)
+    )
+}
+
+// The status where a request that was passed on has no answer.
+fn status_of(fault: PassFault) -> u16 {
+    match fault {
+        PassFault::Refused => 403,
+        PassFault::Failed(FetchFault::Time) => 504,
+        PassFault::Failed(_) => 502,
+    }
+}
+
 // The content of the response. Errors: the status of a failure.
-fn given_of(alloc: Global, label: &[u8], forward: Forward, answer: Outcome) -> Result<Given, u16> {
-    let (object, age) = match answer {
-        Outcome::Hit { object, age } => (object, Some(age)),
-        Outcome::Got { object, .. } => (object, None),
+fn given_of(
+    alloc: Global,
+    label: &[u8],
+    forward: Forward,
+    answer: Outcome,
+    shape: Shape,
+) -> Result<Given, u16> {
+    let (object, age, is_confirmed) = match answer {
+        Outcome::Hit { object, age } => (object, Some(age), false),
+        Outcome::Got { object, supplier } => {
+            (object, None, supplier == Some(Supplier::Confirmed))
+        }
         Outcome::Fail(status) => return Err(status),
     };
     let told = match age {
         Some(age) => told_hit(alloc, label, ttl_of(&object, age)),
+        None if is_confirmed => told_confirmed(alloc, label, forward),
         None => told_forward(alloc, label, forward),
     };
     match told {
-        Ok(told) => Ok(Given::Object { object, age, told }),
+        Ok(told) => Ok(Given::Object {
+            object,
+            shape,
+            age,
+            told,
+        }),
         Err(_) => Err(503),
     }
 }
@@ -297,6 +556,37 @@ fn told_forward(alloc: Global, label: &[u8], forward: Forward) -> Result<Vec<u8>
     };
     told.extend_from_slice(how)?;
     Ok(told)
+}
+
+// The Cache-Status member of a forwarded request whose answer was there and is confirmed by a 304.
+fn told_confirmed(alloc: Global, label: &[u8], forward: Forward) -> Result<Vec<u8>, AllocError> {
+    let mut told = label.to_vec(alloc)?;
+    let how: &[u8] = match forward {
+        Forward::Miss => b"; fwd=stale; fwd-status=304",
+        Forward::Collapsed => b"; fwd=stale; fwd-status=304; collapsed",
+        Forward::Bypass => b"; fwd=bypass; fwd-status=304",
+    };
+    told.extend_from_slice(how)?;
+    Ok(told)
+}
+
+// The Cache-Status member of a request that was passed on: because of its method, or because its answer is too long to be stored.
+fn told_passed(alloc: Global, label: &[u8], is_get: bool) -> Result<Vec<u8>, AllocError> {
+    let mut told = label.to_vec(alloc)?;
+    let how: &[u8] = if is_get {
+        b"; fwd=bypass; detail=large"
+    } else {
+        b"; fwd=method"
+    };
+    told.extend_from_slice(how)?;
+    Ok(told)
+}
+
+// The value of Via (RFC 9110, section 7.6.3) of a cache of this name.
+fn via_of(alloc: Global, name: &str) -> Result<Vec<u8>, AllocError> {
+    let mut via = b"1.1 ".to_vec(alloc)?;
+    via.extend_from_slice(name.as_bytes())?;
+    Ok(via)
 }
 
 // The name as an item of a structured field (RFC 8941): a token if it is one, otherwise a quoted string.
@@ -333,15 +623,16 @@ fn is_token_octet(octet: u8) -> bool {
 
 /// Serves clients on the calling thread, as many concurrently as `limits.connections` says, until `stops.stop` is ready or its sender
 /// is dropped; open connections then have `limits.grace` to end, unless `stops.hurry` is ready before. Sends the address to `bound`
-/// once the socket is bound, and keeps in `open` how many connections of clients are open that are admitted. Errors: the socket or the
+/// once clients are accepted, and keeps in `open` how many connections of clients are open that are admitted. Errors: the socket or the
 /// event loop failed.
 ///
-/// Only GET is served. A client that is not admitted gets 403 before its head is read, and a client that stays silent for too
-/// long is disconnected. If a client disconnects while it waits, `Front::gone` is called. A client that joined a fetch whose
+/// A request is taken as `Front::road` says by its method: answered through the node, passed on with its content and the answer's as they
+/// come, or refused. An answer that `PassOn::is_large` says is too long to be stored is passed on as well. A client that is not admitted gets 403 before its head is read, and a client that stays silent for too
+/// long is disconnected. If a client disconnects while it waits, `FollowUp::gone` is called. A client that joined a fetch whose
 /// object may not be stored is not given it: its request is passed on once more, by `Front::ask_alone`. Responses with an object
 /// carry Cache-Status, and stored ones their Age; errors carry a line with the reason and a line with the URL.
 ///
-/// `Front::tell` is called once for each request, once for each client that is not admitted, and once for each connection that ends
+/// `FollowUp::tell` is called once for each request, once for each client that is not admitted, and once for each connection that ends
 /// within a request's head: with the status of the library's answer where the head could not be read, and otherwise without an answer.
 /// The status is then 408 if the client was silent for too long. A connection that ends between two requests, or without an octet, is
 /// not told.
@@ -357,13 +648,14 @@ pub fn serve_clients<R, F>(
 ) -> io::Result<()>
 where
     R: Wait + Clock + RandomSource + AllocGlobal + Net + Copy,
-    F: Front,
+    F: Front + FollowUp + PassOn,
 {
     let alloc = rt.alloc();
     let context = ClientContext {
         alloc,
         front: RefCell::new(front),
         label: label_of(alloc, name)?,
+        via: via_of(alloc, name)?,
     };
     let clients = FrontAnswers {
         context: Rc::new(alloc, context)?,

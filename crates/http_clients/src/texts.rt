@@ -23,9 +23,36 @@ pub(crate) fn reason(status: u16) -> &'static str {
     }
 }
 
+/// The reason of 501 where other methods than GET are served.
+pub(crate) const UNSERVED: &'static str = "Not Implemented: this method is not served";
+
+/// The reason of 504 where the request was passed on.
+pub(crate) const SILENT: &'static str = "Gateway Timeout: the server gave no answer in time";
+
+/// The reason that a status stands for where a request to open a tunnel gets it.
+pub(crate) fn tunnel_reason(status: u16) -> &'static str {
+    match status {
+        400 => "Bad Request: a tunnel leads to a name or an address, and a port",
+        403 => "Forbidden: this proxy may not open a tunnel to this address or port",
+        502 => "Bad Gateway: the server of the tunnel refuses, or its name has no address",
+        504 => "Gateway Timeout: the server of the tunnel was not reached in time",
+        _ => reason(status),
+    }
+}
+
 /// A line with the status and its reason, then a line with the target, cut to 1,024 octets. No second line for an empty target.
 pub(crate) fn text_of(alloc: Global, status: u16, target: &[u8]) -> Result<Vec<u8>, AllocError> {
-    let line = format!(in alloc; "{} {}\n", status, reason(status))?;
+    text_with(alloc, status, reason(status), target)
+}
+
+/// A line with the status and this reason, then a line with the target, cut to 1,024 octets. No second line for an empty target.
+pub(crate) fn text_with(
+    alloc: Global,
+    status: u16,
+    reason: &str,
+    target: &[u8],
+) -> Result<Vec<u8>, AllocError> {
+    let line = format!(in alloc; "{} {}\n", status, reason)?;
     let mut text = line.into_bytes();
     if target.is_empty() {
         return Ok(text);

@@ -19,16 +19,18 @@ const FRAMES_A_TURN: u32 = 32;
 /// Why a body was not read.
 #[derive(Clone, Copy, Debug, PartialEq, Eq)]
 pub enum ReadFault {
-    /// It is longer than the limit.
+    /// It is longer than the limit, or than what can ever be paid for.
     TooLong,
-    /// It is broken, it could not be paid for, or out of memory.
+    /// The connection ended or failed within it, or its framing is broken.
     Broken,
+    /// Out of memory.
+    NoMemory,
 }
 
 /// Pays for the octets of a content.
 pub trait Purse: Drop {
-    /// Takes so many octets more. Its output is false if they can never be had.
-    fn poll_take(&mut self, cx: &mut Context<'_>, octets: usize) -> Poll<bool>
+    /// Takes so many octets more. Errors: there can never be so many, or out of memory.
+    fn poll_take(&mut self, cx: &mut Context<'_>, octets: usize) -> Poll<Result<(), ReadFault>>
         ensures registered { OnPending result (Covers cx.new (λ _. ⊥)) }
         ensures kept { Keeps cx.old cx.new };
 }
@@ -211,7 +213,7 @@ pub struct Gathered<B, P> {
 }
 
 impl<I: Drop, P: Purse> Gathered<Incoming<I>, P> {
-    /// Reads this body of at most `limit` octets, of which `free` need not be paid for. Without a purse it fails.
+    /// Reads this body of at most `limit` octets, of which `free` need not be paid for. Without a purse it fails, as out of memory.
     pub fn new(
         alloc: Global,
         body: Incoming<I>,
@@ -238,23 +240,23 @@ impl<I: Drop, P: Purse> Gathered<Incoming<I>, P> {
         self.limit.saturating_sub(self.paid) < self.due
     }
 
-    // Pays for what is due. Its output is false if it can't be paid for.
-    fn poll_pay(&mut self, cx: &mut Context<'_>) -> Poll<bool>
+    // Pays for what is due. Errors: those of the purse, or there is none.
+    fn poll_pay(&mut self, cx: &mut Context<'_>) -> Poll<Result<(), ReadFault>>
         ensures registered { OnPending result (Covers cx.new (λ _. ⊥)) }
         ensures kept { Keeps cx.old cx.new }
     {
         if self.due == 0 {
-            return Poll::Ready(true);
+            return Poll::Ready(Ok(()));
         }
         let Some(purse) = &mut self.purse else {
-            return Poll::Ready(false);
+            return Poll::Ready(Err(ReadFault::NoMemory));
         };
-        if !ready!(purse.poll_take(cx, self.due)) {
-            return Poll::Ready(false);
+        if let Err(fault) = ready!(purse.poll_take(cx, self.due)) {
+            return Poll::Ready(Err(fault));
         }
         self.paid = self.paid.saturating_add(self.due);
         self.due = 0;
-        Poll::Ready(true)
+        Poll::Ready(Ok(()))
     }
 
     // Adds the octets that are paid for. Returns `None` if out of memory.
@@ -296,15 +298,27 @@ impl<I: Drop, P: Purse> Future for Gathered<Incoming<I>, P> {
             if self.is_too_long() {
                 return Poll::Ready(Err(ReadFault::TooLong));
             }
-            if !ready!(self.poll_pay(cx)) || self.add().is_none() {
-                return Poll::Ready(Err(ReadFault::Broken));
+            if let Err(fault) = ready!(self.poll_pay(cx)) {
+                return Poll::Ready(Err(fault));
+            }
+            if self.add().is_none() {
+                return Poll::Ready(Err(ReadFault::NoMemory));
             }
             match ready!(self.body.poll_frame(cx)) {
                 Some(Ok(frame)) => self.keep(frame),
-                Some(Err(_)) => return Poll::Ready(Err(ReadFault::Broken)),
-                None => return Poll::Ready(self.finish().ok_or(ReadFault::Broken)),
+                Some(Err(error)) => return Poll::Ready(Err(fault_of(&error))),
+                None => return Poll::Ready(self.finish().ok_or(ReadFault::NoMemory)),
             }
         }
         cx.yield_now()
+    }
+}
+
+// Why a body was not read to its end.
+fn fault_of(error: &hyper::Error) -> ReadFault {
+    if error.is_out_of_memory() {
+        ReadFault::NoMemory
+    } else {
+        ReadFault::Broken
     }
 }

@@ -1,6 +1,6 @@
 //! Header fields.
-use hyper::HeaderMap;
 use hyper::header::{HeaderName, HeaderValue};
+use hyper::{HeaderMap, header};
 use std::alloc::Global;
 
 /// Appends a field. Returns `None` if the field is invalid, if there are too many, or if out of memory.
@@ -40,4 +40,15 @@ pub fn add_object_fields(
         }
     }
     Some(())
+}
+
+/// Whether the content of a message has a transfer coding other than chunked.
+pub fn has_foreign_coding(headers: &HeaderMap) -> bool {
+    let mut codings = headers.get_all(header::TRANSFER_ENCODING).iter();
+    match codings.next() {
+        Some(first) => {
+            !first.as_bytes().eq_ignore_ascii_case(b"chunked") || codings.next().is_some()
+        }
+        None => false,
+    }
 }

@@ -5,7 +5,7 @@ ghost use Rattle.futures.specs.Task.{Covers, Keeps};
 use futures::channel::oneshot;
 use futures::task::{Context, Poll};
 use futures::{Future, ready};
-use http_content::Purse;
+use http_content::{Purse, ReadFault};
 use std::alloc::{AllocError, Global};
 use std::sync::{Arc, Mutex, Wait};
 
@@ -59,24 +59,24 @@ impl<R: Wait + Copy> Share<R> {
         })
     }
 
-    // Takes so many octets, or waits for some to be given back. `Some(true)` once they are taken, `Some(false)` if they can never
-    // be, since that is more than the whole budget or memory ran out, and `None` if it waits.
-    fn take(&mut self, octets: usize) -> Option<bool> {
+    // Takes so many octets, or waits for some to be given back: `None` if it waits. Errors: that is more than the whole budget, or
+    // out of memory.
+    fn take(&mut self, octets: usize) -> Option<Result<(), ReadFault>> {
         if self.budget.most.saturating_sub(self.held) < octets {
-            return Some(false);
+            return Some(Err(ReadFault::TooLong));
         }
         let mut left = self.budget.purse.lock(&self.rt);
         if octets <= left.octets {
             left.octets -= octets;
             self.held = self.held.saturating_add(octets);
-            return Some(true);
+            return Some(Ok(()));
         }
         let Ok((bell, turn)) = oneshot::channel(self.alloc) else {
-            return Some(false);
+            return Some(Err(ReadFault::NoMemory));
         };
         left.waiting.retain(|other| !other.is_canceled());
         if left.waiting.push(bell).is_err() {
-            return Some(false);
+            return Some(Err(ReadFault::NoMemory));
         }
         self.turn = Some(turn);
         None
@@ -84,7 +84,7 @@ impl<R: Wait + Copy> Share<R> {
 }
 
 impl<R: Wait + Copy> Purse for Share<R> {
-    fn poll_take(&mut self, cx: &mut Context<'_>, octets: usize) -> Poll<bool> {
+    fn poll_take(&mut self, cx: &mut Context<'_>, octets: usize) -> Poll<Result<(), ReadFault>> {
         if let Some(turn) = &mut self.turn {
             let _ = ready!(turn.poll(cx));
             self.turn = None;

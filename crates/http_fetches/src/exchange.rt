@@ -6,8 +6,8 @@ use bytes::Bytes;
 use futures::task::{Context, Poll};
 use futures::{Future, ready};
 use http_body_util::Empty;
-use http_content::{Content, Gathered, ReadFault, add_fields};
-use http_traffic::Page;
+use http_content::{Content, Gathered, ReadFault, add_fields, has_foreign_coding};
+use http_traffic::{FetchFault, Page};
 use hyper::body::Incoming;
 use hyper::client::conn::http1;
 use hyper::client::conn::http1::{Connection, ResponseFuture};
@@ -27,18 +27,18 @@ pub struct Paid<P> {
 
 /// Starts an exchange over a new connection.
 pub trait Talk: Drop {
-    /// What pays for the body.
-    type Purse: Drop;
+    /// What the exchange brings.
+    type Page: Drop;
 
-    /// The future of the page. Its output is `None` if the exchange failed.
-    type Talking: Future<Output = Option<Paid<Self::Purse>>>;
+    /// The future of the page.
+    type Talking: Future<Output = Result<Self::Page, FetchFault>>;
 
     /// Starts the exchange. Returns `None` if the request cannot be made.
     fn talk(&mut self, socket: TcpStream) -> Option<Self::Talking>
         ensures { IfSome result Self.Talking.can_poll };
 }
 
-/// Connects, then runs the exchange. Returns `None` if either fails.
+/// Connects, then runs the exchange.
 #[derive(Drop)]
 pub struct Call<T: Talk> {
     connecting: Option<Timeout<ConnectFuture>>,
@@ -47,7 +47,7 @@ pub struct Call<T: Talk> {
 }
 
 impl<T: Talk> Call<T> {
-    /// A call over this connection attempt; `None` fails.
+    /// A call over this connection attempt; `None` fails, as out of memory.
     pub fn new(connecting: Option<Timeout<ConnectFuture>>, talk: T) -> Call<T>
         ensures { IfSome result.talking T.Talking.can_poll }
     {
@@ -60,23 +60,23 @@ impl<T: Talk> Call<T> {
 }
 
 impl<T: Talk> Future for Call<T> {
-    type Output = Option<Paid<T::Purse>>;
+    type Output = Result<T::Page, FetchFault>;
 
     ghost can_poll = { λ c. IfSome c.talking T.Talking.can_poll };
 
-    fn poll(&mut self, cx: &mut Context<'_>) -> Poll<Option<Paid<T::Purse>>> {
+    fn poll(&mut self, cx: &mut Context<'_>) -> Poll<Result<T::Page, FetchFault>> {
         if self.talking.is_none() {
             let Some(connecting) = &mut self.connecting else {
-                return Poll::Ready(None);
+                return Poll::Ready(Err(FetchFault::NoMemory));
             };
             let Ok(Ok(socket)) = ready!(connecting.poll(cx)) else {
-                return Poll::Ready(None);
+                return Poll::Ready(Err(FetchFault::Connect));
             };
             self.talking = self.talk.talk(socket);
         }
         match &mut self.talking {
             Some(talking) => talking.poll(cx),
-            None => Poll::Ready(None),
+            None => Poll::Ready(Err(FetchFault::Request)),
         }
     }
 }
@@ -110,7 +110,7 @@ impl<R: Wait + Copy> Get<R> {
 }
 
 impl<R: Wait + Copy> Talk for Get<R> {
-    type Purse = Share<R>;
+    type Page = Paid<Share<R>>;
 
     type Talking = Beside<Reply<Metered<R>>, Connection<Paced, Empty<Bytes>>>;
 
@@ -176,7 +176,8 @@ pub struct Beside<A, B> {
 }
 
 impl<A: Future, B: Future> Beside<A, B> {
-    fn new(first: A, other: B) -> Beside<A, B>
+    /// Both, of which neither has ended.
+    pub fn new(first: A, other: B) -> Beside<A, B>
         requires first { A.can_poll first }
         requires other { B.can_poll other }
         ensures { A.can_poll result.first × IfSome result.other B.can_poll }
@@ -233,18 +234,19 @@ impl<B: Read<Body = Incoming<Paced>>> Reply<B> {
 }
 
 impl<P: Drop, B: Read<Body = Incoming<Paced>, Content = Content<P>>> Future for Reply<B> {
-    type Output = Option<Paid<P>>;
+    type Output = Result<Paid<P>, FetchFault>;
 
     ghost can_poll = { λ e. IfSome e.body B.Reading.can_poll };
 
-    fn poll(&mut self, cx: &mut Context<'_>) -> Poll<Option<Paid<P>>> {
+    fn poll(&mut self, cx: &mut Context<'_>) -> Poll<Result<Paid<P>, FetchFault>> {
         if self.body.is_none() {
-            let Ok(response) = ready!(self.answer.poll(cx)) else {
-                return Poll::Ready(None);
+            let response = match ready!(self.answer.poll(cx)) {
+                Ok(response) => response,
+                Err(error) => return Poll::Ready(Err(head_fault(&error))),
             };
             let (parts, body) = response.into_parts();
             if has_foreign_coding(&parts.headers) {
-                return Poll::Ready(None);
+                return Poll::Ready(Err(FetchFault::NotHttp));
             }
             self.head = Some(Head {
                 status: parts.status.as_u16(),
@@ -253,36 +255,52 @@ impl<P: Drop, B: Read<Body = Incoming<Paced>, Content = Content<P>>> Future for 
             self.body = Some(self.read.read(body));
         }
         let Some(reading) = &mut self.body else {
-            return Poll::Ready(None);
+            return Poll::Ready(Err(FetchFault::NoMemory));
         };
         match ready!(reading.poll(cx)) {
             Ok(content) => Poll::Ready(paid_page(self.head.take(), content)),
-            Err(_) => Poll::Ready(None),
+            Err(fault) => Poll::Ready(Err(body_fault(fault))),
         }
     }
 }
 
-// The page of a head and a content. Returns `None` without a head.
-fn paid_page<P: Drop>(head: Option<Head>, content: Content<P>) -> Option<Paid<P>> {
+/// Why no head of a response came.
+pub fn head_fault(error: &hyper::Error) -> FetchFault {
+    if error.is_out_of_memory() {
+        FetchFault::NoMemory
+    } else if error.is_parse_too_large() {
+        FetchFault::LargeHead
+    } else if error.is_parse() {
+        FetchFault::NotHttp
+    } else if error.is_user() {
+        FetchFault::Request
+    } else {
+        FetchFault::Cut
+    }
+}
+
+// Why no whole body came.
+fn body_fault(fault: ReadFault) -> FetchFault {
+    match fault {
+        ReadFault::TooLong => FetchFault::TooLarge,
+        ReadFault::Broken => FetchFault::Cut,
+        ReadFault::NoMemory => FetchFault::NoMemory,
+    }
+}
+
+// The page of a head and a content. There is a head wherever there is a content; without one the exchange failed.
+fn paid_page<P: Drop>(head: Option<Head>, content: Content<P>) -> Result<Paid<P>, FetchFault> {
+    let Some(head) = head else {
+        return Err(FetchFault::NotHttp);
+    };
     let Head {
         status,
         fields: head,
-    } = head?;
+    } = head;
     let Content {
         octets: body,
         purse,
     } = content;
     let page = Page { status, head, body };
-    Some(Paid { page, purse })
-}
-
-// Whether the body has a transfer coding other than chunked.
-fn has_foreign_coding(headers: &HeaderMap) -> bool {
-    let mut codings = headers.get_all(header::TRANSFER_ENCODING).iter();
-    match codings.next() {
-        Some(first) => {
-            !first.as_bytes().eq_ignore_ascii_case(b"chunked") || codings.next().is_some()
-        }
-        None => false,
-    }
+    Ok(Paid { page, purse })
 }

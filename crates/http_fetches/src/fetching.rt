@@ -6,12 +6,14 @@ ghost use Rattle.tokio.specs.Timers.{timeout_future};
 
 use crate::budget::{Budget, Share};
 use crate::exchange::{Call, Get, Paid, Talk};
+use crate::passing::{Pass, Plan, Post};
 use fetch_chain::{Begin, Submit};
 use futures::channel::mpsc::UnboundedReceiver;
 use futures::channel::oneshot;
+use futures::future::Either;
 use futures::task::{Context, Poll};
 use futures::{Future, ready};
-use http_traffic::{Admit, FetchEnd, Fetched, Job, Order, Server};
+use http_traffic::{Admit, FetchEnd, FetchFault, Fetched, Job, Order, Server, Work};
 use hyper::client::conn::http1;
 use std::alloc::{AllocGlobal, Global};
 use std::hash::RandomState;
@@ -24,6 +26,9 @@ use std::time::{Clock, Duration};
 use tokio::net::{ConnectFuture, TcpStream};
 use tokio::runtime::{Handle, LocalRuntime};
 use tokio::time::Timeout;
+
+/// How many requests that are passed on run beside the fetches of a thread.
+pub const MOST_PASSAGES: usize = 256;
 
 /// Limits of the fetches of one thread.
 #[derive(Clone, Copy)]
@@ -76,21 +81,67 @@ impl<R: Wait + Net + Clock + Copy, A: Admit> Begin for Getter<R, A> {
 
     type Done = Done<Share<R>>;
 
-    type Running = Fetch<R, A, Get<R>>;
+    type Running = Doing<R, A>;
 
-    fn begin(&mut self, job: Job) -> Fetch<R, A, Get<R>> {
-        let Job { server, order } = job;
-        let Order {
-            fetch,
-            attempt,
-            host,
-            target,
-            fields,
-            is_origin,
-            deadline,
-            wanted,
-        } = order;
-        let get = Get {
+    fn begin(&mut self, job: Job) -> Doing<R, A> {
+        let Job { server, work } = job;
+        match work {
+            Work::Fetch(order) => {
+                let Order {
+                    fetch,
+                    attempt,
+                    host,
+                    target,
+                    fields,
+                    is_origin,
+                    deadline,
+                    wanted,
+                } = order;
+                let get = self.get(host, target, fields);
+                let visit = Visit::new(server, self.dialer(is_origin), get);
+                let timed = self.handle.time().timeout_at(deadline, visit);
+                let fetch = Fetch {
+                    fetch,
+                    attempt,
+                    wanted,
+                    visit: timed.ok(),
+                };
+                Doing {
+                    doing: Either::Left(fetch),
+                }
+            }
+            Work::Pass(passage) => {
+                let dialer = self.dialer(passage.is_origin);
+                let timers = self.handle.time().clone().ok();
+                let plan = Plan::new(self.rt, self.alloc, self.http, timers, passage);
+                Doing {
+                    doing: Either::Right(Pass::new(server, dialer, plan)),
+                }
+            }
+        }
+    }
+}
+
+// A job in progress. A type of its own, since its parts have large ones that are elaborated anew wherever they are named.
+#[derive(Drop)]
+struct Doing<R: Wait + Copy, A> {
+    doing: Either<Fetch<R, A, Get<R>>, Pass<R, A, Post>>,
+}
+
+impl<R: Wait + Net + Clock + Copy, A: Admit> Future for Doing<R, A> {
+    type Output = Done<Share<R>>;
+
+    ghost can_poll = { λ d. ⟦<Either<Fetch<R, A, Get<R>>, Pass<R, A, Post>> as Future>⟧.can_poll d.doing };
+
+    fn poll(&mut self, cx: &mut Context<'_>) -> Poll<Done<Share<R>>> {
+        self.doing.poll(cx)
+    }
+}
+
+impl<R: Wait + Net + Clock + Copy, A: Admit> Getter<R, A> {
+    // The exchange of a fetch.
+    fn get(&self, host: String, target: String, fields: Vec<(Vec<u8>, Vec<u8>)>) -> Get<R> {
+        Get {
             alloc: self.alloc,
             http: self.http,
             host,
@@ -99,21 +150,13 @@ impl<R: Wait + Net + Clock + Copy, A: Admit> Begin for Getter<R, A> {
             limit: self.limits.octets,
             free: self.limits.free,
             share: Share::new(self.rt, self.alloc, &self.rules.budget).ok(),
-        };
-        let visit = Visit::new(server, self.dialer(is_origin), get);
-        let timed = self.handle.time().timeout_at(deadline, visit);
-        Fetch {
-            fetch,
-            attempt,
-            wanted,
-            visit: timed.ok(),
         }
     }
 }
 
-// Connects to a server.
+/// Connects to a server.
 #[derive(Drop)]
-struct Dialer<R, A> {
+pub struct Dialer<R, A> {
     rt: R,
     handle: Handle,
     connecting: Duration,
@@ -135,20 +178,20 @@ impl<R: Net + Clock + Copy, A: Admit> Dialer<R, A> {
     }
 }
 
-// How a visit ended.
+/// How a visit ended.
 #[derive(Drop)]
-enum Visited<P> {
-    // With a page.
-    Whole(Paid<P>),
-    // The server is not admitted.
+pub enum Visited<P> {
+    /// With what the exchange brought.
+    Whole(P),
+    /// The server is not admitted.
     Refused,
-    // Without a page.
-    Failed,
+    /// Without it.
+    Failed(FetchFault),
 }
 
-// Waits for the address of the server, then makes the call.
+/// Waits for the address of the server, then makes the call.
 #[derive(Drop)]
-struct Visit<R, A, T: Talk> {
+pub struct Visit<R, A, T: Talk> {
     server: Server,
     dialer: Option<Dialer<R, A>>,
     talk: Option<T>,
@@ -157,8 +200,8 @@ struct Visit<R, A, T: Talk> {
 }
 
 impl<R: Net + Clock + Copy, A: Admit, T: Talk> Visit<R, A, T> {
-    // A visit that has not begun; it fails without a dialer.
-    fn new(server: Server, dialer: Option<Dialer<R, A>>, talk: T) -> Visit<R, A, T>
+    /// A visit that has not begun; without a dialer it fails, as out of memory.
+    pub fn new(server: Server, dialer: Option<Dialer<R, A>>, talk: T) -> Visit<R, A, T>
         ensures { IfSome result.call (λ c. IfSome c.talking T.Talking.can_poll) }
     {
         Visit {
@@ -202,14 +245,14 @@ impl<R: Net + Clock + Copy, A: Admit, T: Talk> Visit<R, A, T> {
 }
 
 impl<R: Net + Clock + Copy, A: Admit, T: Talk> Future for Visit<R, A, T> {
-    type Output = Visited<T::Purse>;
+    type Output = Visited<T::Page>;
 
     ghost can_poll = { λ v. IfSome v.call (λ c. IfSome c.talking T.Talking.can_poll) };
 
-    fn poll(&mut self, cx: &mut Context<'_>) -> Poll<Visited<T::Purse>> {
+    fn poll(&mut self, cx: &mut Context<'_>) -> Poll<Visited<T::Page>> {
         if self.call.is_none() {
             let Some(server) = ready!(self.poll_server(cx)) else {
-                return Poll::Ready(Visited::Failed);
+                return Poll::Ready(Visited::Failed(FetchFault::Lookup));
             };
             if self.refuses(server) {
                 return Poll::Ready(Visited::Refused);
@@ -217,11 +260,11 @@ impl<R: Net + Clock + Copy, A: Admit, T: Talk> Future for Visit<R, A, T> {
             self.call = self.call(server);
         }
         let Some(call) = &mut self.call else {
-            return Poll::Ready(Visited::Failed);
+            return Poll::Ready(Visited::Failed(FetchFault::NoMemory));
         };
         match ready!(call.poll(cx)) {
-            Some(paid) => Poll::Ready(Visited::Whole(paid)),
-            None => Poll::Ready(Visited::Failed),
+            Ok(page) => Poll::Ready(Visited::Whole(page)),
+            Err(fault) => Poll::Ready(Visited::Failed(fault)),
         }
     }
 }
@@ -235,45 +278,46 @@ struct Fetch<R, A, T: Talk> {
     visit: Option<Timeout<Visit<R, A, T>>>,
 }
 
-impl<R: Net + Clock + Copy, A: Admit, T: Talk> Future for Fetch<R, A, T> {
-    type Output = Done<T::Purse>;
+impl<R: Net + Clock + Copy, A: Admit, P: Drop, T: Talk<Page = Paid<P>>> Future for Fetch<R, A, T> {
+    type Output = Done<P>;
 
     ghost can_poll = { λ f. IfSome f.visit (λ t. IfSome (timeout_future t).call (λ c. IfSome c.talking T.Talking.can_poll)) };
 
-    fn poll(&mut self, cx: &mut Context<'_>) -> Poll<Done<T::Purse>> {
+    fn poll(&mut self, cx: &mut Context<'_>) -> Poll<Done<P>> {
         let visited = if let Poll::Ready(_) = self.wanted.poll(cx) {
-            Visited::Failed
+            Visited::Failed(FetchFault::Cancelled)
         } else if let Some(visit) = &mut self.visit {
             match ready!(visit.poll(cx)) {
                 Ok(visited) => visited,
-                Err(_elapsed) => Visited::Failed,
+                Err(_elapsed) => Visited::Failed(FetchFault::Time),
             }
         } else {
-            Visited::Failed
+            Visited::Failed(FetchFault::NoMemory)
         };
         Poll::Ready(done_of(self.fetch, self.attempt, visited))
     }
 }
 
-// The result of a fetch, and what its body takes of the budget.
+/// The result of a job: that of a fetch, and what its body takes of the budget.
 #[derive(Drop)]
-struct Done<P> {
-    fetched: Fetched,
-    purse: Option<P>,
+pub struct Done<P> {
+    /// `None` if the job was no fetch.
+    pub fetched: Option<Fetched>,
+    pub purse: Option<P>,
 }
 
 // The result of a fetch whose visit has ended.
-fn done_of<P: Drop>(fetch: u32, attempt: u16, visited: Visited<P>) -> Done<P> {
+fn done_of<P: Drop>(fetch: u32, attempt: u16, visited: Visited<Paid<P>>) -> Done<P> {
     let (end, purse) = match visited {
         Visited::Whole(Paid { page, purse }) => (FetchEnd::Whole(page), Some(purse)),
         Visited::Refused => (FetchEnd::Refused, None),
-        Visited::Failed => (FetchEnd::Failed, None),
+        Visited::Failed(fault) => (FetchEnd::Failed(fault), None),
     };
-    let fetched = Fetched {
+    let fetched = Some(Fetched {
         fetch,
         attempt,
         end,
-    };
+    });
     Done { fetched, purse }
 }
 
@@ -286,7 +330,9 @@ struct PassOn<'a, S> {
 impl<P: Drop, S: Submit<Fetched>> Submit<Done<P>> for PassOn<'_, S> {
     fn submit(&mut self, done: Done<P>) {
         let Done { fetched, purse } = done;
-        self.seat.submit(fetched);
+        if let Some(fetched) = fetched {
+            self.seat.submit(fetched);
+        }
         drop(purse);
     }
 }
@@ -313,8 +359,9 @@ where
     })
 }
 
-/// Runs the jobs of a channel until all its senders are gone and the last fetch has ended. Each fetch opens a connection of its
-/// own, and passes its result to `seat`. Errors: the event loop failed, or out of memory.
+/// Runs the jobs of a channel until all its senders are gone and the last job has ended. Each job opens a connection of its own, and a
+/// fetch passes its result to `seat`. `MOST_PASSAGES` requests that are passed on take no place of the fetches. Errors: the event loop
+/// failed, or out of memory.
 pub fn run_fetches<R, S, A>(
     rt: R,
     jobs: UnboundedReceiver<Job>,
@@ -331,5 +378,6 @@ where
     let mut runtime = LocalRuntime::new(&rt)?;
     let getter = getter_of(rt, &runtime, rules, limits)?;
     let mut seat = PassOn { seat };
-    fetch_chain::run(&rt, &mut runtime, jobs, getter, &mut seat, limits.at_once)
+    let most = limits.at_once.saturating_add(MOST_PASSAGES);
+    fetch_chain::run(&rt, &mut runtime, jobs, getter, &mut seat, most)
 }

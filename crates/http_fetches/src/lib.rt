@@ -1,5 +1,5 @@
-//! Fetches from origin servers and neighbours: HTTP/1.1 on hyper, whose types stay inside this crate, many fetches at a time on one
-//! thread.
+//! Fetches from origin servers and neighbours, and requests that are passed on to them as they are: HTTP/1.1 on hyper, whose types stay
+//! inside this crate, many at a time on one thread.
 //!
 //! The contracts see only that every future is polled in a state in which it may be; nothing is proved about the HTTP messages.
 //!
@@ -9,6 +9,8 @@
 mod budget;
 mod exchange;
 mod fetching;
+mod moves;
+mod passing;
 
 pub use budget::{Budget, Share};
-pub use fetching::{FetchLimits, FetchRules, run_fetches};
+pub use fetching::{FetchLimits, FetchRules, MOST_PASSAGES, run_fetches};

@@ -3,6 +3,12 @@ pub mod Elements
 pub mod Equal
 pub mod Found
 pub mod Heads
+pub mod Hosts
 pub mod KeyTexts
+pub mod Named
 pub mod Numerals
 pub mod Lengths
+pub mod PlainHeads
+pub mod StoredValues
+pub mod TagElements
+pub mod Texts

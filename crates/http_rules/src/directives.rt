@@ -77,8 +77,8 @@ impl Place {
     }
 }
 
-// Whether a value has an unclosed double quote.
-fn is_unclosed(value: &[u8]) -> bool
+/// Whether a value has an unclosed double quote.
+pub(crate) fn is_unclosed(value: &[u8]) -> bool
     ensures { result ≡ is_unclosed value.now }
 {
     let mut place = Place::Plain;
@@ -243,8 +243,8 @@ fn is_asked_for(length: usize) -> bool
     length == 7 || (length == 8 || length == 14)
 }
 
-// The name of the directive in a list element, and its argument.
-fn split_directive(element: &[u8]) -> (&[u8], &[u8])
+/// The name of the directive in a list element, and its argument.
+pub(crate) fn split_directive(element: &[u8]) -> (&[u8], &[u8])
     ensures { directive_of element.now ≡ (lowercase result.0.now, result.1.now) }
 {
     let text = trimmed(element);

@@ -31,6 +31,15 @@ impl From<AllocError> for PassFault {
     }
 }
 
+/// What becomes of a request that is to be passed on.
+#[derive(Debug, Drop)]
+pub enum Onward {
+    /// It is passed on with these fields, as pairs of a name in lower case and a value.
+    Pass(Vec<(Vec<u8>, Vec<u8>)>),
+    /// This proxy is its last recipient, and answers it itself.
+    Last,
+}
+
 /// The fields that are forwarded, as pairs of a name in lower case and a value, in the order of the map: all but the known
 /// hop-by-hop fields and those that the Connection fields name.
 ///

@@ -1,5 +1,7 @@
 //! HTTP caching rules for a shared cache (RFC 9110 to 9112, restricted): how a request may be answered, whether and for how long
-//! a response may be stored, the cache key of a request target, and which header fields are forwarded.
+//! a response may be stored, by the published rules and by those of RFC 9111, what a stored one answers to conditions and ranges,
+//! how one is validated, the cache key of a request target, where a tunnel leads, which header fields are forwarded, and what a
+//! change makes stale.
 //!
 //! Pure functions on header maps and URLs, without any I/O. Their contracts define each result from the list of header fields
 //! (names in lower case) or from the parsed URL.
@@ -8,27 +10,57 @@
 
 mod administrator;
 mod age;
+mod authority;
 mod authorization;
+mod changes;
+mod choice;
+mod conditions;
 mod directives;
+mod entity_tag;
+mod expiry;
 mod fields;
 mod forwarding;
 mod framing;
+mod freshness;
 mod loops;
+mod mirrors;
+mod named_directive;
 mod options;
 mod origins;
+mod passing;
+mod plain;
+mod ranges;
+mod refresh;
 mod request;
 mod response;
+mod reuse;
 mod seconds;
 mod target;
 mod text;
+mod updating;
+mod validation;
+mod validators;
 
 pub use administrator::is_administrator;
 pub use age::age_of;
+pub use authority::{Authority, authority_of};
 pub use authorization::is_authorized;
-pub use forwarding::{PassFault, end_to_end};
+pub use changes::changed_keys;
+pub use choice::{Stored, choose};
+pub use conditions::{StoredAnswer, answer_to, is_for_origin, is_in_not_modified};
+pub use forwarding::{Onward, PassFault, end_to_end};
 pub use framing::tells_end;
+pub use freshness::{Kept, may_keep};
 pub use loops::{has_come_back, loop_mark};
+pub use mirrors::{Mirror, mirrored};
 pub use origins::{OriginRules, usual_denials};
+pub use passing::{is_unsafe, onward};
+pub use plain::is_plain_request;
+pub use ranges::{content_range, unsatisfied_range};
+pub use refresh::{RefreshRule, UrlPlace};
 pub use request::classify;
 pub use response::may_store;
+pub use reuse::accepts;
 pub use target::{TargetFault, key_of, key_of_url};
+pub use updating::updated;
+pub use validation::{conditions_for, has_validator, is_about, may_validate};

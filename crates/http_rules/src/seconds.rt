@@ -6,7 +6,7 @@ ghost use Rattle.http_rules.specs.Text.{seconds, unquoted};
 ghost use Rattle.wire_octets.specs.Decimal.{is_numeral, value_after};
 
 /// Upper bound for delta-seconds; larger values are capped.
-const MOST_SECONDS: u64 = 2_147_483_648;
+pub(crate) const MOST_SECONDS: u64 = 2_147_483_648;
 
 /// Parses a decimal number of seconds, capped at 2,147,483,648; `None` for any other text.
 pub(crate) fn seconds(text: &[u8]) -> Option<u32>
@@ -20,8 +20,8 @@ pub(crate) fn seconds(text: &[u8]) -> Option<u32>
     }
 }
 
-// Whether a text is one or more digits.
-fn is_numeral(text: &[u8]) -> bool
+/// Whether a text is one or more digits.
+pub(crate) fn is_numeral(text: &[u8]) -> bool
     ensures { result ≡ is_numeral text.now }
 {
     !text.is_empty() && are_digits(text)

@@ -50,6 +50,7 @@ pub fn key_of(alloc: Global, target: &str) -> Result<CacheKey, TargetFault>
 /// The cache key of a parsed URL.
 pub fn key_of_url(alloc: Global, url: &Url) -> Result<CacheKey, TargetFault>
     ensures key { IfOk result (λ key. url_key url.now ≡ Some key) }
+    ensures short { IfOk result (λ key. length key ≤ 8192) }
     ensures fault { IfErr result (λ fault. IsFaultOf url.now fault) }
 {
     if !is_plain(url) {

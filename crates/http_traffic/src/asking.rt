@@ -1,8 +1,9 @@
 //! Requests of clients, their answers, and what accepts them.
+use crate::passing::{Coming, Passing, Road, TunnelEnd};
 use futures::channel::oneshot;
 use http_header::HeaderMap;
-use object_store::SharedObject;
-use std::net::{IpAddr, Ipv4Addr};
+use object_store::{Object, SharedObject};
+use std::net::{IpAddr, Ipv4Addr, SocketAddr};
 use std::time::Instant;
 
 /// A request with its complete content.
@@ -25,6 +26,8 @@ pub struct Asked {
 pub enum Supplier {
     /// An origin server.
     Origin,
+    /// An origin server, which has confirmed with status 304 what was there before.
+    Confirmed,
     /// The neighbour at this place of the configuration, which is asked only for what it has stored if it is a sibling.
     Neighbour(usize),
 }
@@ -77,8 +80,28 @@ pub enum How {
     Hit,
     /// By a fetch; the request was forwarded like this.
     Fetch(Forward),
+    /// By a server that the request was passed on to as it is, or over a tunnel.
+    Passed,
     /// By the proxy itself: nothing was stored, and nothing fetched.
     Own,
+}
+
+/// What of an object a request is answered with.
+#[derive(Drop)]
+pub enum Shape {
+    /// All of it, with its status.
+    Whole,
+    /// None of its octets, and of its fields these, with status 304 (RFC 9110, section 15.4.5).
+    NotModified(Vec<(Vec<u8>, Vec<u8>)>),
+    /// Its octets from the first place to the last one, counted from 0, with status 206 and this value of Content-Range (RFC 9110,
+    /// section 15.3.7).
+    Part {
+        first: usize,
+        last: usize,
+        range: Vec<u8>,
+    },
+    /// None of its octets or fields, with status 416 and this value of Content-Range (RFC 9110, section 15.5.17).
+    Unsatisfiable(Vec<u8>),
 }
 
 /// What became of a request, or of a connection that brought none.
@@ -107,6 +130,14 @@ pub trait Front: Drop {
     /// Whether clients at this address are admitted. Not asked for 127.0.0.0/8, which always is.
     fn allows(&mut self, address: Ipv4Addr) -> bool;
 
+    /// How a request with this method is taken.
+    fn road(&mut self, method: &str) -> Road {
+        match method {
+            "GET" => Road::Node,
+            _ => Road::Refused,
+        }
+    }
+
     /// Accepts a request. Errors: the status to answer, as when the target is not a URL or memory runs out.
     fn ask(&mut self, asked: &Asked) -> Result<Asking, u16>;
 
@@ -114,6 +145,16 @@ pub trait Front: Drop {
     /// other joins. Called where the fetch that the request joined brought an object that may not be stored, and so is only for
     /// the client that started the fetch (RFC 9111, section 4). Errors: the status to answer.
     fn ask_alone(&mut self, asked: &Asked) -> Result<Asking, u16>;
+}
+
+/// What comes after a request was accepted: what of an object it is answered with, and what is told of it. Called on the thread that
+/// serves. A trait beside `Front`, since the prover takes only so many methods of one at a time.
+pub trait FollowUp: Drop {
+    /// What of an object its request is answered with. Asked for stored objects, and for fetched ones unless the request was
+    /// forwarded as `Forward::Bypass`: then the origin server has answered this request itself.
+    fn shape(&mut self, _asked: &Asked, _object: &Object) -> Shape {
+        Shape::Whole
+    }
 
     /// The client closed its connection before it was answered.
     fn gone(&mut self, client: u64);
@@ -124,4 +165,38 @@ pub trait Front: Drop {
     /// Called once for each request, when its answer has been handed to the connection or the connection has ended; and once for
     /// each connection that was refused, broken or closed before it brought a request.
     fn tell(&mut self, told: &Told<'_>);
+}
+
+/// Passes requests on, and opens tunnels. Called on the thread that serves.
+pub trait PassOn: Drop {
+    /// Whether requests are passed on or open tunnels at all, as the text of a refused one says.
+    fn has_passages(&self) -> bool {
+        false
+    }
+
+    /// Whether a request that the node would take is passed on all the same, as a GET is whose answer is known to be longer than may
+    /// be stored, and a HEAD that nothing stored answers. Asked before `Front::ask`, and again where what `ask` or `ask_alone` accepted
+    /// has failed with 502.
+    fn is_large(&mut self, _asked: &Asked) -> bool {
+        false
+    }
+
+    /// Passes on a request as it is, without the node; `asked` is without its content. Errors: the status to answer.
+    fn pass_on(&mut self, _asked: &Asked, _content: Option<Coming>) -> Result<Passing, u16> {
+        Err(501)
+    }
+
+    /// The head of the answer to a request that was passed on has come, with this status: what it has changed is no longer served
+    /// from the store.
+    fn passed(&mut self, _asked: &Asked, _status: u16, _head: &HeaderMap) {}
+
+    /// Where the tunnel leads that a request opens. Errors: the status to answer.
+    fn tunnel(&mut self, _asked: &Asked) -> Result<TunnelEnd, u16> {
+        Err(501)
+    }
+
+    /// Whether this server may be connected to for a tunnel, as an origin server.
+    fn admits(&mut self, _server: SocketAddr) -> bool {
+        false
+    }
 }

@@ -1,5 +1,5 @@
 //! What the crates around HTTP hand to one another: requests of clients and their answers, what is administered, and fetches with
-//! their results. The decisions are behind the traits `Front` and `Panel`; no type of the HTTP library stands here.
+//! their results. The decisions are behind the traits `Front`, `FollowUp`, `PassOn` and `Panel`; no type of the HTTP library stands here.
 //!
 //! Nothing is proved here. Tested by: crates/test_edge.
 #![tactic(auto)]
@@ -7,7 +7,13 @@
 mod asking;
 mod orders;
 mod panel;
+mod passing;
 
-pub use asking::{Asked, Asking, Forward, Front, How, Outcome, Supplier, Told};
-pub use orders::{Admit, FetchEnd, Fetched, Job, Order, Page, Server};
-pub use panel::{CaptureFault, Panel, PutFault};
+pub use asking::{
+    Asked, Asking, FollowUp, Forward, Front, How, Outcome, PassOn, Shape, Supplier, Told,
+};
+pub use orders::{Admit, FetchEnd, FetchFault, Fetched, Job, Order, Page, Server, Work};
+pub use panel::{CaptureFault, Figures, Panel, PutFault, StoreFault, StoreOrder};
+pub use passing::{
+    Coming, PassFault, Passage, PassedHead, Passing, Piece, Road, Ticket, TunnelEnd,
+};

@@ -1,4 +1,5 @@
 //! Fetches and their results.
+use crate::passing::Passage;
 use futures::channel::oneshot;
 use http_header::HeaderMap;
 use std::net::SocketAddr;
@@ -34,11 +35,20 @@ pub enum Server {
     Sought(oneshot::Receiver<SocketAddr>),
 }
 
-/// An order and its server.
+/// What a fetch thread does.
+#[derive(Drop)]
+pub enum Work {
+    /// It fetches.
+    Fetch(Order),
+    /// It passes on a request as it is.
+    Pass(Passage),
+}
+
+/// Something to be done, and the server that it is done with.
 #[derive(Drop)]
 pub struct Job {
     pub server: Server,
-    pub order: Order,
+    pub work: Work,
 }
 
 /// A complete response, as received.
@@ -49,6 +59,32 @@ pub struct Page {
     pub body: Vec<u8>,
 }
 
+/// Why a fetch failed.
+#[derive(Clone, Copy, Debug, PartialEq, Eq)]
+pub enum FetchFault {
+    /// No address was found for the name of the server.
+    Lookup,
+    /// The server was not connected to: it refuses, or it was not reached within the time to connect.
+    Connect,
+    /// The request could not be made: a part of it is no valid HTTP, or out of memory.
+    Request,
+    /// The connection ended or failed before the response was complete, what came is no answer to the request (as a 101), or the
+    /// framing of the body is broken.
+    Cut,
+    /// What came is no head of an HTTP response, or announces a transfer coding other than chunked.
+    NotHttp,
+    /// The head is longer than it may be, or has too many fields.
+    LargeHead,
+    /// The body is longer than it may be.
+    TooLarge,
+    /// It was not complete by its deadline.
+    Time,
+    /// Nobody wants it any more.
+    Cancelled,
+    /// Out of memory.
+    NoMemory,
+}
+
 /// How a fetch ended.
 #[derive(Debug, Drop)]
 pub enum FetchEnd {
@@ -56,9 +92,8 @@ pub enum FetchEnd {
     Whole(Page),
     /// The server is no origin server that may be fetched from; it was not connected to.
     Refused,
-    /// Without a response: no connection, not HTTP, a body that is cut off, too large or in a transfer coding other than chunked,
-    /// timed out, cancelled, or out of memory.
-    Failed,
+    /// Without a complete response.
+    Failed(FetchFault),
 }
 
 /// The result of an order.

@@ -24,13 +24,48 @@ pub enum CaptureFault {
     NoMemory,
 }
 
+/// What figures are asked for.
+#[derive(Clone, Copy, Debug, PartialEq, Eq)]
+pub enum Figures {
+    /// The counters of both sockets, as JSON.
+    Sockets,
+    /// The figures of clients and fetches, as JSON.
+    Clients,
+    /// The state of each neighbour, as JSON.
+    Neighbours,
+    /// The state of each neighbour and what is counted of it, as JSON.
+    NeighbourFigures,
+    /// All figures, in the text format of Prometheus.
+    Metrics,
+}
+
+/// What is asked of the store.
+#[derive(Clone, Copy, Debug, PartialEq, Eq)]
+pub enum StoreOrder {
+    Show,
+    Remove,
+}
+
+/// Why a question about the store has no answer, or what it asks for is not done.
+#[derive(Debug, Drop)]
+pub enum StoreFault {
+    /// The path or query asks for nothing; the line says what it has to be.
+    NoQuestion(Vec<u8>),
+    /// Nothing fresh is stored under this URL.
+    NotStored,
+    /// The object cannot be taken out; the line says why.
+    Kept(Vec<u8>),
+    /// Out of memory.
+    NoMemory,
+}
+
 /// What is administered. Called on the thread that serves. Every `AllocError` means out of memory.
 pub trait Panel: Drop {
     /// Whether the request is the administrator's. The other functions are called only for requests that are.
     fn admits(&mut self, asked: &Asked) -> bool;
 
-    /// Whether a request of the administrator may change anything. `put`, `clear`, `reload`, `reopen_log`, `stop` and `capture` are
-    /// called only for requests that may.
+    /// Whether a request of the administrator may change anything. `put`, `clear`, `store` with `Remove`, `reload`, `reopen_log`, `stop` and
+    /// `capture` are called only for requests that may.
     fn admits_change(&mut self, asked: &Asked) -> bool;
 
     /// Whether the slot exists. `put`, `clear` and `show` are called only for slots that exist.
@@ -45,11 +80,13 @@ pub trait Panel: Drop {
     /// The text of a slot's filter, or a text that says that it has none.
     fn show(&mut self, slot: Slot) -> Result<Vec<u8>, AllocError>;
 
-    /// The counters, as JSON.
-    fn stats(&mut self) -> Result<Vec<u8>, AllocError>;
+    /// The text of some figures.
+    fn figures(&mut self, figures: Figures) -> Result<Vec<u8>, AllocError>;
 
-    /// The state of each neighbour, as JSON.
-    fn neighbours(&mut self) -> Result<Vec<u8>, AllocError>;
+    /// Shows what is stored, as JSON, or takes an object out, which shows nothing. `asked` is what follows `/store` in the request's path
+    /// and query: a slash and a percent-encoded URL for the object of that URL, and to be shown also nothing or `?limit=` and a
+    /// number, for a list.
+    fn store(&mut self, asked: &str, order: StoreOrder) -> Result<Vec<u8>, StoreFault>;
 
     /// Reads the files of the configuration's filters anew and installs them, all or none.
     fn reload(&mut self) -> Result<(), PutFault>;
@@ -60,12 +97,6 @@ pub trait Panel: Drop {
     /// Ends the proxy: no more clients are accepted, and those that are connected have some time to end. The second call ends that
     /// time.
     fn stop(&mut self);
-
-    /// All figures, in the text format of Prometheus.
-    fn metrics(&mut self) -> Result<Vec<u8>, AllocError>;
-
-    /// The figures of clients and fetches, as JSON.
-    fn clients(&mut self) -> Result<Vec<u8>, AllocError>;
 
     /// Begins to capture datagrams, within the limits of this query of a request target, if there is one. The file's octets come
     /// in pieces until the capture ends, which it does also where the receiver is dropped.

@@ -9,7 +9,7 @@ mod table;
 use crossbeam_channel::{Receiver, Sender, bounded};
 use futures::channel::mpsc::UnboundedSender;
 use futures::channel::oneshot;
-use http_traffic::{Job, Order, Server};
+use http_traffic::{Job, Order, Passage, Server, Work};
 use std::alloc::{AllocError, Global};
 use std::net::{IpAddr, Ipv4Addr, Net, SocketAddr, SocketAddrV4, ToSocketAddrs};
 use std::sync::{Arc, Mutex, Wait};
@@ -52,15 +52,19 @@ impl NameClerk {
     }
 }
 
-// The fetch thread of a fetch: the fetch number modulo the number of threads. Returns `None` if there are none.
-fn lane_of<'a>(lanes: &'a [UnboundedSender<Job>], fetch: u32) -> Option<&'a UnboundedSender<Job>> {
-    let place = (fetch as usize).checked_rem(lanes.len())?;
-    lanes.get(place)
+/// What was handed over was not taken, and is dropped.
+#[derive(Clone, Copy, Debug, PartialEq, Eq)]
+pub struct NotTaken;
+
+// The fetch thread of this number, modulo the number of threads. Returns `None` if there are none.
+fn lane_of<'a>(lanes: &'a [UnboundedSender<Job>], number: u64) -> Option<&'a UnboundedSender<Job>> {
+    let place = number.checked_rem(lanes.len() as u64)?;
+    lanes.get(place as usize)
 }
 
-/// Sends an order to its fetch thread. If `name` is not an IPv4 address in digits and its address is not known, it is looked up
-/// meanwhile. Errors: the order itself, if a channel is closed, if there is no fetch thread, if too many names are sought, if the
-/// clock cannot be read, or if out of memory.
+/// Sends an order to its fetch thread, that of its number. If `name` is not an IPv4 address in digits and its address is not known,
+/// it is looked up meanwhile. Errors: a channel is closed, there is no fetch thread, too many names are sought, the clock cannot be
+/// read, or out of memory.
 pub fn hand_over<R: Wait + Clock>(
     rt: &R,
     alloc: Global,
@@ -69,21 +73,39 @@ pub fn hand_over<R: Wait + Clock>(
     name: String,
     port: u16,
     order: Order,
-) -> Result<(), Order> {
-    let Some(lane) = lane_of(lanes, order.fetch) else {
-        return Err(order);
-    };
-    let Some(server) = server_of(rt, alloc, names, name.as_str(), port) else {
-        return Err(order);
-    };
-    match lane.unbounded_send(Job { server, order }) {
+) -> Result<(), NotTaken> {
+    let lane = lane_of(lanes, u64::from(order.fetch)).ok_or(NotTaken)?;
+    let server = server_of(rt, alloc, names, name.as_str(), port).ok_or(NotTaken)?;
+    send(lane, server, Work::Fetch(order))
+}
+
+/// As `hand_over`, for a request that is passed on: it goes to the fetch thread of `number`.
+pub fn pass_over<R: Wait + Clock>(
+    rt: &R,
+    alloc: Global,
+    names: &NameDesk,
+    lanes: &[UnboundedSender<Job>],
+    number: u64,
+    name: &str,
+    port: u16,
+    passage: Passage,
+) -> Result<(), NotTaken> {
+    let lane = lane_of(lanes, number).ok_or(NotTaken)?;
+    let server = server_of(rt, alloc, names, name, port).ok_or(NotTaken)?;
+    send(lane, server, Work::Pass(passage))
+}
+
+// Sends a job to a fetch thread. Errors: the thread has ended, or out of memory.
+fn send(lane: &UnboundedSender<Job>, server: Server, work: Work) -> Result<(), NotTaken> {
+    match lane.unbounded_send(Job { server, work }) {
         Ok(()) => Ok(()),
-        Err(refused) => Err(refused.into_inner().order),
+        Err(_) => Err(NotTaken),
     }
 }
 
-// The address in digits, or one that is sought. Returns `None` as `hand_over` fails.
-fn server_of<R: Wait + Clock>(
+/// The server of this name: its address in digits, or one that is sought. Returns `None` if too many names are sought, the clock
+/// cannot be read, or out of memory.
+pub fn server_of<R: Wait + Clock>(
     rt: &R,
     alloc: Global,
     names: &NameDesk,

@@ -10,5 +10,6 @@ pub mod Seats
 pub mod Settled
 pub mod Shown
 pub mod Sitting
+pub mod Sizes
 pub mod Swaps
 pub mod Told

@@ -1,5 +1,5 @@
 //! A node and its book behind a mutex, for many threads.
-ghost use Rattle.std.specs.Prelude.{◌≡◌, ◌<◌, ◌≤◌, [], IfOk, OnOk, OnErr, IsErrOf, ◌↔◌, sum_by};
+ghost use Rattle.std.specs.Prelude.{◌≡◌, ◌<◌, ◌≤◌, [], IfOk, OnOk, OnErr, IsErrOf, ◌↔◌, sum_by, take};
 ghost use Rattle.std.specs.Arc.{arc_value};
 ghost use Rattle.node_core.specs.Happening.{arrives, happening};
 ghost use Rattle.neighbours.specs.Faults.{IsTable};
@@ -7,6 +7,8 @@ ghost use Rattle.plain_node.specs.Tally.{tally_of};
 ghost use Rattle.node_book.specs.Book.{IsLegal, count_of};
 ghost use Rattle.node_book.specs.Audited.{Audits, IsAudited};
 ghost use Rattle.node_book.specs.NeighbourView.{AreViews};
+ghost use Rattle.object_store.specs.Store.{fresh_at};
+ghost use Rattle.node_book.specs.Sizes.{AreSizes};
 ghost use Rattle.node_book.specs.Seats.{claim, receipted, opened_seats, opened_with_room};
 ghost use Rattle.node_book.specs.Settled.{Settles};
 ghost use Rattle.node_book.specs.Swaps.{is_swap};
@@ -17,9 +19,10 @@ use crate::ledgered::{Ledgered, Spent, SubmitFault};
 use crate::neighbour_view::{NeighbourView, views_of};
 use crate::seat::{RECEIPT_OCTETS, Seat, seats_of};
 use crate::settle::{Report, SettleFault};
+use crate::store_view::{Sizes, sizes_of, stored_at};
 use filter_slots::{Judged, Moment, Slots};
 use node_core::{Event, Out, Stats};
-use object_store::CacheKey;
+use object_store::{CacheKey, Entry};
 use std::alloc::Global;
 use std::marker::Model;
 use std::sync::atomic::{AtomicU64, Ordering};
@@ -213,6 +216,45 @@ impl<L: Ledger> Desk<L> {
         let node = ledgered.booked().node();
         node.facts();
         views_of(alloc, node)
+    }
+
+    /// How large the book and the store of its node are, all as of one moment. Waits for the mutex.
+    pub fn sizes<R: Wait>(&self, rt: &R) -> Sizes
+        ensures { (b : _) × IsLegal b × AreSizes b result }
+    {
+        let ledgered = self.ledgered.lock(rt);
+        ledgered.agrees();
+        sizes_of(ledgered.booked())
+    }
+
+    /// The stored objects that were used last, at most so many, with their keys, the most recently used first. Waits for the
+    /// mutex, for as long as it takes to share so many objects. Errors: allocation failure, or a reference count at its maximum.
+    pub fn newest<R: Wait>(
+        &self,
+        rt: &R,
+        alloc: Global,
+        most: usize,
+    ) -> Result<Vec<(CacheKey, Entry)>, NoMemory>
+        ensures { IfOk result (λ newest. (b : _) × IsLegal b × (newest.items ≡ take most b.present.plain.store.pairs)) }
+    {
+        let ledgered = self.ledgered.lock(rt);
+        ledgered.agrees();
+        ledgered.booked().node().store().newest(alloc, most)
+    }
+
+    /// What is stored under a key, shared, or `None` if nothing there is fresh at `now`. Waits for the mutex. Errors: a reference
+    /// count at its maximum.
+    pub fn stored<R: Wait>(
+        &self,
+        rt: &R,
+        key: &[u8],
+        now: Moment,
+    ) -> Result<Option<Entry>, NoMemory>
+        ensures { IfOk result (λ found. (b : _) × IsLegal b × (found ≡ fresh_at key.now now b.present.plain.store)) }
+    {
+        let ledgered = self.ledgered.lock(rt);
+        ledgered.agrees();
+        stored_at(ledgered.booked().node(), key, now)
     }
 
     /// The key of a pending fetch, shared, or `None` if no fetch of this number is pending. Waits for the mutex. Errors: a

@@ -21,6 +21,7 @@ mod receipts;
 mod seat;
 mod seated;
 mod settle;
+mod store_view;
 
 pub use booked::{BOOK_OCTETS, BookFault, Booked, Entry, MOST_VOLUME, Receipt, TakeFault, Volume};
 pub use clerk::{Clerk, Gate};
@@ -35,3 +36,4 @@ pub use seat::{RECEIPT_OCTETS, Seat};
 pub use seated::Seated;
 pub use settle::{Report, SettleFault};
 pub use std::alloc::AllocError as NoMemory;
+pub use store_view::Sizes;

@@ -25,7 +25,7 @@ use crate::stats::{Counters, Stats};
 use bpf_check::Checked;
 use filter_slots::{Datagram, End, Judged, Moment, Slot, Slots, Socket, cut};
 use neighbours::{Neighbour, Table};
-use object_store::CacheKey;
+use object_store::{CacheKey, Store};
 use plain_node::{Config, Core, Mode, NodeFault, Out, Outcome};
 use std::alloc::Global;
 use std::marker::Model;
@@ -109,6 +109,13 @@ impl Node {
         ensures { result.now ≡ self.now.plain.rows }
     {
         self.core.neighbours()
+    }
+
+    /// The store: its limits, and the stored objects by key.
+    pub fn store(&self) -> &Store
+        ensures { result.now ≡ self.now.plain.store }
+    {
+        self.core.store()
     }
 
     /// The key of a pending fetch, or `None` if no fetch of this number is pending.

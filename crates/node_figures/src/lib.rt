@@ -1,8 +1,10 @@
-//! The counters and the neighbours of a node as JSON, for its administration. Each public function returns one line that ends in
+//! The counters, the neighbours and the stored objects of a node as JSON, for its administration. Each public function returns one line that ends in
 //! LF, or `None` if out of memory.
 //!
-//! Tested by: itself, exact texts; tests/serve.
+//! Tested by: crates/test_operator, exact texts; tests/serve.
 #![tactic(auto)]
+
+mod storage;
 
 use filter_slots::{End, Socket};
 use json::Writer;
@@ -11,6 +13,8 @@ use node_core::{Counters, Stats};
 use serde::Serialize;
 use std::alloc::{AllocError, Global};
 use std::net::Ipv4Addr;
+pub use storage::{store_text, stored_text};
+use traffic_figures::{NeighbourCounts, write_neighbour_counts};
 
 /// The counters of a socket.
 #[derive(Drop, Serialize)]
@@ -63,6 +67,20 @@ pub fn neighbours_text(alloc: Global, views: &[NeighbourView]) -> Option<String>
     Some(text)
 }
 
+/// The state of each neighbour, as `neighbours_text` shows it, and what is counted of it. Both lists are in the order of the
+/// configuration.
+pub fn neighbour_figures_text(
+    alloc: Global,
+    views: &[NeighbourView],
+    counts: &[NeighbourCounts],
+) -> Option<String> {
+    let mut list = Writer::new(Vec::new(alloc));
+    write_figures(alloc, &mut list, views, counts).ok()?;
+    let mut text = String::from_utf8(list.into_inner()).ok()?;
+    text.push('\n').ok()?;
+    Some(text)
+}
+
 // serde_json writes a float with as few digits as it needs, and a time has three decimals or none. So the list is written token
 // by token, by the writer on which serde_json stands.
 fn write_views(
@@ -72,13 +90,31 @@ fn write_views(
 ) -> Result<(), AllocError> {
     list.begin_array()?;
     for view in views {
+        list.begin_object()?;
         write_view(alloc, list, view)?;
+        list.end_object()?;
     }
     list.end_array()
 }
 
+fn write_figures(
+    alloc: Global,
+    list: &mut Writer,
+    views: &[NeighbourView],
+    counts: &[NeighbourCounts],
+) -> Result<(), AllocError> {
+    list.begin_array()?;
+    for (view, counts) in views.iter().zip(counts) {
+        list.begin_object()?;
+        write_view(alloc, list, view)?;
+        write_neighbour_counts(list, counts)?;
+        list.end_object()?;
+    }
+    list.end_array()
+}
+
+// The members of a neighbour's object that tell its state.
 fn write_view(alloc: Global, list: &mut Writer, view: &NeighbourView) -> Result<(), AllocError> {
-    list.begin_object()?;
     list.key("end")?;
     list.string(end_text(alloc, view.end)?.as_str())?;
     list.key("protocol")?;
@@ -90,8 +126,7 @@ fn write_view(alloc: Global, list: &mut Writer, view: &NeighbourView) -> Result<
     list.key("misses")?;
     list.u64(u64::from(view.misses))?;
     list.key("filter")?;
-    list.boolean(view.has_filter)?;
-    list.end_object()
+    list.boolean(view.has_filter)
 }
 
 fn end_text(alloc: Global, end: End) -> Result<String, AllocError> {
@@ -123,6 +158,3 @@ fn write_time(alloc: Global, list: &mut Writer, time: Option<u32>) -> Result<(),
         list.null()
     }
 }
-
-#[cfg(test)]
-mod tests;

@@ -1,4 +1,5 @@
-//! The HTTP body of a response: the octets of a text, or of a stored object that many responses share, at most 64 KiB a frame.
+//! The HTTP body of a response: the octets of a text, or of a stored object that many responses share or of a part of it, at most
+//! 64 KiB a frame.
 //!
 //! Contracts see a body as the octets that remain. They prove that the frames are those octets in order, that the body ends only
 //! when none remain, and that the size hint is exact; an allocation failure loses nothing.
@@ -6,7 +7,7 @@
 //! Tested by: crates/test_edge.
 #![tactic(auto)]
 
-ghost use Rattle.std.specs.Prelude.{◌≡◌, Some, length};
+ghost use Rattle.std.specs.Prelude.{◌≡◌, Some, length, take, drop};
 ghost use Rattle.http_body.specs.SizeHint.{exact};
 ghost use Rattle.object_body.specs.Octets.{source_octets};
 ghost use Rattle.object_body.specs.Pieces.{in_pieces};
@@ -25,6 +26,8 @@ const PIECE: usize = 64 * 1024;
 #[derive(Drop)]
 enum Source {
     Object(SharedObject),
+    // So many octets at the beginning of an object's.
+    Front(SharedObject, usize),
     Text(Vec<u8>),
 }
 
@@ -34,12 +37,24 @@ impl Source {
     {
         match self {
             Source::Object(object) => object.get().body(),
+            Source::Front(object, end) => up_to(object.get().body(), *end),
             Source::Text(text) => text.as_slice(),
         }
     }
 }
 
-/// The octets of an object or of a text, in frames of at most 64 KiB. Contracts see the octets that remain.
+// The first octets, of which there are at most so many.
+fn up_to(octets: &[u8], end: usize) -> &[u8]
+    ensures { result.now ≡ take end octets.now }
+{
+    if end < octets.len() {
+        &octets[..end]
+    } else {
+        octets
+    }
+}
+
+/// The octets of an object, of a part of it or of a text, in frames of at most 64 KiB. Contracts see the octets that remain.
 #[derive(Drop)]
 pub struct Portions {
     alloc: Global,
@@ -65,6 +80,17 @@ impl Portions {
             alloc,
             source: Source::Object(object),
             next: 0,
+        }
+    }
+
+    /// The octets of the body of `object` from the place `first` to the one before `end`, counted from 0.
+    pub fn of_part(alloc: Global, object: SharedObject, first: usize, end: usize) -> Portions
+        ensures { result ≡ drop first (take end object.body) }
+    {
+        Portions {
+            alloc,
+            source: Source::Front(object, end),
+            next: first,
         }
     }
 

@@ -86,6 +86,27 @@ pub(crate) fn copy_pairs(pairs: &Pairs, alloc: Global) -> Result<Pairs, AllocErr
     Ok(copy)
 }
 
+// The pairs that were used last, at most so many, the most recently used first. Keys and objects are shared.
+pub(crate) fn newest_pairs(
+    pairs: &Pairs,
+    alloc: Global,
+    most: usize,
+) -> Result<Vec<(CacheKey, Entry)>, AllocError>
+    ensures { IfOk result (λ newest. newest.items ≡ take most pairs.now.entries) }
+{
+    let mut newest = Vec::new(alloc);
+    let mut rest = pairs.iter();
+    'newest: while newest.len() < most {
+        let Some((key, entry)) = rest.next() else {
+            break;
+        };
+        let key = key.share()?;
+        let entry = entry.share()?;
+        newest.push((key, entry))?;
+    }
+    Ok(newest)
+}
+
 // Inserts a pair with a new key at the front.
 fn add_pair(pairs: &mut Pairs, key: CacheKey, entry: Entry) -> Result<(), AllocError>
     requires absent { entry_at key pairs.old.entries ≡ None }

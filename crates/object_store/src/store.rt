@@ -1,15 +1,15 @@
 //! The store.
 
-ghost use Rattle.std.specs.Prelude.{◌≡◌, ◌≤◌, ◌↔◌, [], IsTrue, IsOk, IfOk, IfErr, IsSome, OnOk, OnErr, is_some, option_copied};
+ghost use Rattle.std.specs.Prelude.{◌≡◌, ◌≤◌, ◌↔◌, [], IsTrue, IsOk, IfOk, IfErr, IsSome, OnOk, OnErr, is_some, length, option_copied, take};
 ghost use Rattle.std.specs.Borrow.{sem};
-ghost use Rattle.object_store.specs.Pairs.{entry_at, size_of};
+ghost use Rattle.object_store.specs.Pairs.{entry_at, size_of, total_size};
 ghost use Rattle.object_store.specs.Store.{AreLimits, IsPutFault, IsStore, IsStoreFault, after_get, after_put, after_remove, fresh_at};
 ghost use Rattle.object_store.specs.Lending.{ends_as};
 
 use crate::entry::{Entry, size};
 use crate::faults::{PutFault, StoreFault};
 use crate::key::CacheKey;
-use crate::pairs::{Pairs, copy_pairs, evict, put_pair};
+use crate::pairs::{Pairs, copy_pairs, evict, newest_pairs, put_pair};
 use bpf_run::Moment;
 use lru::LruCache;
 use std::alloc::{AllocError, Global};
@@ -29,6 +29,8 @@ pub struct Store {
     most_octets: u32,
     sum: u64,
     pairs: Pairs,
+    // Number of pairs evicted since the store was made, modulo 2^64. No contract mentions it.
+    evicted: u64,
 }
 
 impl Model for Store {
@@ -59,6 +61,7 @@ impl Store {
             most_octets: octets,
             sum: 0,
             pairs,
+            evicted: 0,
         })
     }
 
@@ -72,6 +75,7 @@ impl Store {
             most_octets: self.most_octets,
             sum: self.sum,
             pairs,
+            evicted: self.evicted,
         })
     }
 
@@ -80,6 +84,33 @@ impl Store {
         ensures { IsStore self.now }
     {
         let _ = self.pairs.len();
+    }
+
+    /// Number of entries, those that are no longer fresh among them.
+    pub fn len(&self) -> usize
+        ensures { result ≡ length self.now.pairs }
+    {
+        self.pairs.len()
+    }
+
+    /// Octets of all keys and entries.
+    pub fn octets(&self) -> u64
+        ensures { result ≡ total_size self.now.pairs }
+    {
+        self.sum
+    }
+
+    /// Number of entries that had to make room for others since the store was made, modulo 2^64.
+    pub fn evictions(&self) -> u64 {
+        self.evicted
+    }
+
+    /// The entries that were used last, at most so many, with their keys, the most recently used first; those that are no longer
+    /// fresh among them. Keys and objects are shared. Errors: an allocation failed, or a reference count would overflow.
+    pub fn newest(&self, alloc: Global, most: usize) -> Result<Vec<(CacheKey, Entry)>, AllocError>
+        ensures { IfOk result (λ newest. newest.items ≡ take most self.now.pairs) }
+    {
+        newest_pairs(&self.pairs, alloc, most)
     }
 
     /// Returns the entry of a key and marks it most recently used. A stale entry is removed, and `None` returned.
@@ -189,7 +220,10 @@ impl Store {
                 Err((PutFault::NoMemory, key, entry))
             }
             Ok(sum) => {
+                let before = self.pairs.len();
                 self.sum = evict(&mut self.pairs, sum, self.most_entries, self.most_octets);
+                let gone = before.wrapping_sub(self.pairs.len());
+                self.evicted = self.evicted.wrapping_add(gone as u64);
                 Ok(())
             }
         }

@@ -186,6 +186,13 @@ impl Core {
         &self.table
     }
 
+    /// The store.
+    pub fn store(&self) -> &Store
+        ensures { result.now ≡ self.now.store }
+    {
+        &self.store
+    }
+
     /// The key of a pending fetch, or `None` if the fetch isn't pending.
     pub fn key_of(&self, fetch: u32) -> Option<&CacheKey>
         ensures { option_copied result ≡ option_map (λ (f : PendingFetch). f.key) (fetch_of fetch self.now.fetches.list) }

@@ -1,20 +1,44 @@
 //! Client requests on their way to the node.
 use crate::clock::{micros_since, now};
+use crate::handing::{Call, Returned, TakeCalls, hand_over};
 use crate::node_handle::NodeHandle;
-use crate::proxy_state::ProxyState;
+use crate::proxy_state::{ProxyState, end_at};
+use crate::storage::Purger;
 use crossbeam_channel::Sender;
-use forwarding::{Field, Waiting, end_in_digits};
+use forwarding::{Field, Profile, Waiting, end_in_digits};
 use futures::channel::oneshot;
-use http_rules::{PassFault, TargetFault, classify, end_to_end, has_come_back, key_of};
-use http_traffic::{Asked, Asking, Forward, Front, How, Outcome, Told};
+use http_rules::{
+    Mirror, PassFault, Stored, StoredAnswer, TargetFault, answer_to, choose, classify,
+    content_range, end_to_end, has_come_back, is_in_not_modified, is_plain_request, key_of,
+    may_validate, mirrored, unsatisfied_range,
+};
+use http_traffic::{Asked, Asking, FollowUp, Forward, Front, How, Outcome, PassOn, Shape, Told};
 use node_core::{Event, Mode, Network};
-use object_store::CacheKey;
+use object_store::{CacheKey, Object};
 use std::alloc::{AllocError, Global};
-use std::net::Ipv4Addr;
+use std::io;
+use std::net::{Ipv4Addr, SocketAddr};
 use std::sync::ledger::Ledger;
 use std::sync::{Arc, Mutex, Wait};
 use std::time::{Clock, Instant};
 use traffic_figures::{AnswerNote, Course};
+
+/// Whose requests are taken, and what they stand for.
+#[derive(Drop)]
+pub struct FrontRules {
+    /// Networks whose clients are admitted.
+    pub allowed: Vec<Network>,
+    /// What targets in origin form stand for.
+    pub mirrors: Vec<Mirror>,
+    /// Takes objects out of the store that a request has changed.
+    pub purger: Purger,
+}
+
+/// Serves a front, whichever it is.
+pub trait ServeFront: Drop {
+    /// Serves it until clients are to end.
+    fn serve<F: Front + FollowUp + PassOn>(self, front: F) -> io::Result<()>;
+}
 
 /// Submits client requests to the node and counts the answers. Owned by the client thread.
 #[derive(Drop)]
@@ -25,8 +49,7 @@ pub struct NodeFront<R, L: Ledger> {
     pub proxy: Arc<ProxyState<L>>,
     /// The thread's handle to the node. Only this thread locks it; a second owner takes the seat back after the server ends.
     pub node: Arc<Mutex<NodeHandle<R, L>>>,
-    /// Networks whose clients are admitted.
-    pub allowed: Vec<Network>,
+    pub rules: FrontRules,
     /// The number of the last client; the first one is 1.
     pub last: u64,
     /// Answers to give before the proxy stops; 0 means no limit.
@@ -40,19 +63,42 @@ struct Request {
     key: CacheKey,
     fields: Vec<Field>,
     looped: Option<CacheKey>,
+    validates: bool,
 }
 
-/// The node's view of a request in this mode. Errors: the HTTP status to answer.
-fn request_of(alloc: Global, asked: &Asked, mode: Mode) -> Result<Request, u16> {
-    let key = match key_of(alloc, asked.target.as_str()) {
-        Ok(key) => key,
-        Err(TargetFault::NotHttp) => return Err(400),
-        Err(TargetFault::TooLong) => return Err(414),
-        Err(TargetFault::NoMemory) => return Err(503),
+/// The key of what a request asks for: its target, or the URL that stands for it at one of these mirrors. Errors: the HTTP status to
+/// answer.
+fn key_for(alloc: Global, mirrors: &[Mirror], asked: &Asked) -> Result<CacheKey, u16> {
+    let target = asked.target.as_str();
+    let Ok(url) = mirrored(alloc, mirrors, target) else {
+        return Err(503);
     };
+    let key = match &url {
+        Some(url) => key_of(alloc, url.as_str()),
+        None => key_of(alloc, target),
+    };
+    key.map_err(|fault| match fault {
+        TargetFault::NotHttp => 400,
+        TargetFault::TooLong => 414,
+        TargetFault::NoMemory => 503,
+    })
+}
+
+/// The node's view of a request for this key in this mode, which has CDN-Loop fields only if `is_marked`. A private fetch for it may ask
+/// the origin about what is there unless the request itself wants another answer. Errors: the HTTP status to answer.
+fn request_of(
+    alloc: Global,
+    asked: &Asked,
+    key: CacheKey,
+    mode: Mode,
+    is_marked: bool,
+) -> Result<Request, u16> {
     let fields = match mode {
         Mode::Private => passed_on(alloc, asked).map_err(status_of)?,
-        Mode::Shared | Mode::Cached => loop_fields(alloc, asked).map_err(|_| 503u16)?,
+        Mode::Shared | Mode::Cached if is_marked => {
+            loop_fields(alloc, asked).map_err(|_| 503u16)?
+        }
+        Mode::Shared | Mode::Cached => Vec::new(alloc),
     };
     let looped = match mode {
         Mode::Shared if !fields.is_empty() => Some(key.share().map_err(|_| 503u16)?),
@@ -62,25 +108,42 @@ fn request_of(alloc: Global, asked: &Asked, mode: Mode) -> Result<Request, u16> 
         key,
         fields,
         looped,
+        validates: mode == Mode::Private && may_validate(&asked.head),
     })
 }
 
 /// The status for a request whose fields are not passed on.
-fn status_of(fault: PassFault) -> u16 {
+pub(crate) fn status_of(fault: PassFault) -> u16 {
     match fault {
         PassFault::TooManyNames => 400,
         PassFault::NoMemory => 503,
     }
 }
 
+/// Whether a request has CDN-Loop fields.
+fn has_marks(asked: &Asked) -> bool {
+    asked.head.contains_key("cdn-loop")
+}
+
 /// The CDN-Loop fields of a request (RFC 8586), which a shared fetch for it forwards as well.
 fn loop_fields(alloc: Global, asked: &Asked) -> Result<Vec<Field>, AllocError> {
     let mut fields = Vec::new(alloc);
-    for value in asked.head.get_all("cdn-loop").iter() {
-        let name = b"cdn-loop".to_vec(alloc)?;
+    add_values(alloc, &mut fields, asked, "cdn-loop")?;
+    Ok(fields)
+}
+
+/// Adds the fields of this name that a request has.
+pub(crate) fn add_values(
+    alloc: Global,
+    fields: &mut Vec<Field>,
+    asked: &Asked,
+    name: &'static str,
+) -> Result<(), AllocError> {
+    for value in asked.head.get_all(name).iter() {
+        let name = name.as_bytes().to_vec(alloc)?;
         fields.push((name, value.as_bytes().to_vec(alloc)?))?;
     }
-    Ok(fields)
+    Ok(())
 }
 
 /// The fields of a request that a private fetch forwards: the end-to-end fields without Host, Expect and those that describe the
@@ -110,18 +173,27 @@ fn forward_of(mode: Mode, actions: usize) -> Forward {
 }
 
 impl<R: Wait + Clock + Drop, L: Ledger> NodeFront<R, L> {
+    /// Has this front served. That it takes the calls of one is looked at here, where little else is in sight, since each function that
+    /// hands it over looks at all of it.
+    pub fn served_by<S: ServeFront>(self, server: S) -> io::Result<()> {
+        let has_passages = self.proxy.passes.has_any();
+        hand_over(self, has_passages, server)
+    }
+
     /// Registers a client as waiting. Returns the receiver of its answer.
     fn expect(
         &self,
         client: u64,
         fields: Vec<Field>,
         looped: Option<CacheKey>,
+        validates: bool,
     ) -> Result<oneshot::Receiver<Outcome>, AllocError> {
         let (reply, answer) = oneshot::channel(self.alloc)?;
         let waiting = Waiting {
             reply,
             fields,
             looped,
+            validates,
             fetch: None,
         };
         let mut mailbox = self.proxy.mailbox.lock(&self.rt);
@@ -135,14 +207,14 @@ impl<R: Wait + Clock + Drop, L: Ledger> NodeFront<R, L> {
     }
 
     /// Submits an event. Returns the number of its actions, or `None` if it was refused.
-    fn take(&self, event: Event) -> Option<usize> {
+    pub(crate) fn take(&self, event: Event) -> Option<usize> {
         self.node.lock(&self.rt).take(event).ok()
     }
 
     /// Errors: 508 if a request has come through this cache before, 403 if its host is an address in digits that may not be fetched
-    /// from.
-    fn check(&self, asked: &Asked, key: &CacheKey) -> Result<(), u16> {
-        if has_come_back(&asked.head, self.proxy.loop_mark.as_slice()) {
+    /// from. A request has CDN-Loop fields only if `is_marked`.
+    pub(crate) fn check(&self, asked: &Asked, key: &CacheKey, is_marked: bool) -> Result<(), u16> {
+        if is_marked && has_come_back(&asked.head, self.proxy.loop_mark.as_slice()) {
             return Err(508);
         }
         match end_in_digits(key.as_slice()) {
@@ -151,18 +223,75 @@ impl<R: Wait + Clock + Drop, L: Ledger> NodeFront<R, L> {
         }
     }
 
-    /// Submits a request in this mode, as a new client. Errors: the HTTP status to answer.
-    fn request(&mut self, asked: &Asked, mode: Mode) -> Result<Asking, u16> {
+    /// The key of what a request asks for. Errors: the HTTP status to answer.
+    pub(crate) fn key(&self, asked: &Asked) -> Result<CacheKey, u16> {
+        key_for(self.alloc, self.rules.mirrors.as_slice(), asked)
+    }
+
+    /// How a request is answered by the published rules, if these are in force. Errors: the HTTP status to answer.
+    fn published_mode(&self, asked: &Asked) -> Result<Option<Mode>, u16> {
+        match self.proxy.profile {
+            Profile::Published => Ok(Some(classify(asked.method.as_str(), &asked.head)?)),
+            Profile::Rfc9111(_) => Ok(None),
+        }
+    }
+
+    /// How a request for this key is answered. Errors: the HTTP status to answer.
+    pub(crate) fn mode(&self, asked: &Asked, key: &CacheKey) -> Result<Mode, u16> {
+        match self.published_mode(asked)? {
+            Some(mode) => Ok(mode),
+            None => self.fresh_mode(asked, key),
+        }
+    }
+
+    /// How a request for this key is answered by RFC 9111. Errors: the HTTP status to answer.
+    fn fresh_mode(&self, asked: &Asked, key: &CacheKey) -> Result<Mode, u16> {
+        let stored = self.stored_for(asked, key);
+        choose(asked.method.as_str(), &asked.head, stored)
+    }
+
+    /// What is stored under a key, where that makes a difference to the request. An object that cannot get one more owner counts as
+    /// not stored.
+    fn stored_for(&self, asked: &Asked, key: &CacheKey) -> Option<Stored> {
+        let head = &asked.head;
+        let is_plain = asked.method.as_str() == "GET"
+            && !head.contains_key("cache-control")
+            && !head.contains_key("range");
+        if is_plain {
+            return None;
+        }
+        let now = now(&self.rt, &self.proxy.timeline);
+        let found = self.proxy.desk.stored(&self.rt, key.as_slice(), now);
+        let entry = found.unwrap_or(None)?;
+        let object = entry.object.get();
+        let stay = now.millis().saturating_sub(entry.at.millis()) / 1000;
+        let stay = u32::try_from(stay).unwrap_or(u32::MAX);
+        Some(Stored {
+            age: object.age().saturating_add(stay),
+            life: object.life().saturating_sub(stay),
+        })
+    }
+
+    /// Submits a request for this key in this mode, as a new client. It has CDN-Loop fields only if `is_marked`. Errors: the HTTP
+    /// status to answer.
+    fn request(
+        &mut self,
+        asked: &Asked,
+        key: CacheKey,
+        mode: Mode,
+        is_marked: bool,
+    ) -> Result<Asking, u16> {
         let Request {
             key,
             fields,
             looped,
-        } = request_of(self.alloc, asked, mode)?;
-        self.check(asked, &key)?;
+            validates,
+        } = request_of(self.alloc, asked, key, mode, is_marked)?;
+        self.check(asked, &key, is_marked)?;
         let began = Instant::now(&self.rt).ok();
         self.last = self.last.saturating_add(1);
         let client = self.last;
-        let Ok(answer) = self.expect(client, fields, looped) else {
+        let Ok(answer) = self.expect(client, fields, looped, validates) else {
             return Err(503);
         };
         let event = Event::Request {
@@ -184,34 +313,86 @@ impl<R: Wait + Clock + Drop, L: Ledger> NodeFront<R, L> {
     }
 }
 
-impl<R: Wait + Clock + Drop, L: Ledger> Front for NodeFront<R, L> {
+impl<R: Wait + Clock + Drop, L: Ledger> TakeCalls for NodeFront<R, L> {
+    fn take_call(&mut self, call: Call<'_>) -> Returned {
+        match call {
+            Call::Allows(address) => Returned::Whether(self.allows(address)),
+            Call::Road(method) => Returned::Road(self.road_of(method)),
+            Call::Ask(asked) => Returned::Asking(self.ask(asked)),
+            Call::AskAlone(asked) => Returned::Asking(self.ask_alone(asked)),
+            Call::Shape(asked, object) => Returned::Shape(self.shape(asked, object)),
+            Call::IsLarge(asked) => Returned::Whether(self.is_beside_node(asked).unwrap_or(false)),
+            Call::PassOn(asked, content) => Returned::Passing(self.pass(asked, content)),
+            Call::Tunnel(asked) => Returned::Tunnel(self.lead(asked)),
+            Call::Admits(server) => Returned::Whether(self.admits(server)),
+            Call::Gone(client) => self.gone(client),
+            Call::Answered => self.answered(),
+            Call::Tell(told) => self.tell(told),
+            Call::Passed(asked, status, head) => {
+                self.clear_changed(asked, status, head);
+                Returned::Nothing
+            }
+        }
+    }
+}
+
+impl<R: Wait + Clock + Drop, L: Ledger> NodeFront<R, L> {
     fn allows(&mut self, address: Ipv4Addr) -> bool {
         let octets = address.octets();
-        self.allowed.iter().any(|network| network.contains(octets))
+        self.rules
+            .allowed
+            .iter()
+            .any(|network| network.contains(octets))
     }
 
     fn ask(&mut self, asked: &Asked) -> Result<Asking, u16> {
-        let mode = classify(asked.method.as_str(), &asked.head)?;
-        self.request(asked, mode)
+        if asked.method.as_str() == "GET" && is_plain_request(&asked.head) {
+            let key = self.key(asked)?;
+            return self.request(asked, key, Mode::Shared, false);
+        }
+        let published = self.published_mode(asked)?;
+        let key = self.key(asked)?;
+        let mode = match published {
+            Some(mode) => mode,
+            None => self.fresh_mode(asked, &key)?,
+        };
+        self.request(asked, key, mode, has_marks(asked))
     }
 
     fn ask_alone(&mut self, asked: &Asked) -> Result<Asking, u16> {
-        self.request(asked, Mode::Private)
+        let key = self.key(asked)?;
+        self.request(asked, key, Mode::Private, has_marks(asked))
     }
 
-    fn gone(&mut self, client: u64) {
+    fn shape(&mut self, asked: &Asked, object: &Object) -> Shape {
+        match self.proxy.profile {
+            Profile::Published => Shape::Whole,
+            Profile::Rfc9111(_) => shape_of(self.alloc, asked, object).unwrap_or(Shape::Whole),
+        }
+    }
+
+    fn admits(&mut self, server: SocketAddr) -> bool {
+        match end_at(server) {
+            Some(end) => self.proxy.passes.admits(&self.rt, end),
+            None => false,
+        }
+    }
+
+    fn gone(&mut self, client: u64) -> Returned {
         self.forget(client);
         let _ = self.take(Event::Gone { client });
+        Returned::Nothing
     }
 
-    fn answered(&mut self) {
+    fn answered(&mut self) -> Returned {
         if self.left == 1 {
             let _ = self.stop.send(&self.rt, ());
         }
         self.left = self.left.saturating_sub(1);
+        Returned::Nothing
     }
 
-    fn tell(&mut self, told: &Told<'_>) {
+    fn tell(&mut self, told: &Told<'_>) -> Returned {
         let how = how_of(told);
         let micros = micros_since(&self.rt, told.began);
         self.proxy.figures.note_answer(note_of(told, how, micros));
@@ -219,7 +400,52 @@ impl<R: Wait + Clock + Drop, L: Ledger> Front for NodeFront<R, L> {
             let millis = micros.unwrap_or(0) / 1_000;
             log.write(&self.rt, self.alloc, told, how, millis);
         }
+        Returned::Nothing
     }
+}
+
+/// What of an object its request is answered with by RFC 9110: all of one that is not stored (RFC 9111, section 4.3.2), and all where
+/// the request is plain. Errors: out of memory.
+fn shape_of(alloc: Global, asked: &Asked, object: &Object) -> Result<Shape, AllocError> {
+    if object.status() != 200 || object.life() == 0 || is_plain_request(&asked.head) {
+        return Ok(Shape::Whole);
+    }
+    if is_part(object.head()) {
+        return Ok(Shape::Whole);
+    }
+    let (fields, length) = (object.head(), object.body().len());
+    let answer = answer_to(asked.method.as_str(), &asked.head, fields, length);
+    Ok(match answer {
+        StoredAnswer::Whole => Shape::Whole,
+        StoredAnswer::NotModified => Shape::NotModified(validators_of(alloc, fields)?),
+        StoredAnswer::Part { first, last } => Shape::Part {
+            first,
+            last,
+            range: content_range(alloc, first, last, length)?,
+        },
+        StoredAnswer::Unsatisfiable => Shape::Unsatisfiable(unsatisfied_range(alloc, length)?),
+    })
+}
+
+/// Whether an object with status 200 says that it is a part or parts of another one (RFC 9110, sections 14.4 and 14.6), as it should not.
+fn is_part(fields: &[Field]) -> bool {
+    fields.iter().any(|(name, value)| {
+        let (name, value) = (name.as_slice(), value.as_slice());
+        name == b"content-range".as_slice()
+            || (name == b"content-type".as_slice() && value.starts_with(b"multipart/byteranges"))
+    })
+}
+
+/// The fields of an object that a 304 has (RFC 9110, section 15.4.5). Errors: out of memory.
+fn validators_of(alloc: Global, fields: &[(Vec<u8>, Vec<u8>)]) -> Result<Vec<Field>, AllocError> {
+    let mut kept = Vec::new(alloc);
+    for (name, value) in fields {
+        if is_in_not_modified(name.as_slice()) {
+            let (name, value) = (name.as_slice(), value.as_slice());
+            kept.push((name.to_vec(alloc)?, value.to_vec(alloc)?))?;
+        }
+    }
+    Ok(kept)
 }
 
 /// How a request was answered. It was by the proxy itself where nothing was fetched for it: what is not stored and was to come from
@@ -239,7 +465,7 @@ fn note_of(told: &Told<'_>, how: How, micros: Option<u64>) -> AnswerNote {
             How::Hit => Course::Hit,
             How::Fetch(Forward::Miss) => Course::Miss,
             How::Fetch(Forward::Collapsed) => Course::Collapsed,
-            How::Fetch(Forward::Bypass) => Course::Bypass,
+            How::Fetch(Forward::Bypass) | How::Passed => Course::Bypass,
             How::Own => Course::Own,
         },
         status: told.status.unwrap_or(0),

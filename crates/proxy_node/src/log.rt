@@ -66,14 +66,14 @@ fn course_of(how: How) -> Course {
         How::Hit => Course::Hit,
         How::Fetch(Forward::Miss) => Course::Miss,
         How::Fetch(Forward::Collapsed) => Course::Collapsed,
-        How::Fetch(Forward::Bypass) => Course::Bypass,
+        How::Fetch(Forward::Bypass) | How::Passed => Course::Bypass,
         How::Own => Course::Own,
     }
 }
 
 fn supplier_of(supplier: traffic::Supplier) -> Supplier {
     match supplier {
-        traffic::Supplier::Origin => Supplier::Origin,
+        traffic::Supplier::Origin | traffic::Supplier::Confirmed => Supplier::Origin,
         traffic::Supplier::Neighbour(place) => Supplier::Neighbour(place),
     }
 }

@@ -3,6 +3,7 @@ ghost use Rattle.std.specs.Prelude.{◌≡◌};
 ghost use Rattle.node_book.specs.Audited.{IsAudited};
 
 use crate::limits::EVENTS_AN_AUDIT;
+use crate::neighbour_counts::{note_query, note_reply};
 use crate::proxy_state::{Attempt, ProxyState};
 use capture_tap::Recorder;
 use crossbeam_channel::Sender;
@@ -211,21 +212,24 @@ impl<R: Wait + Clock + Drop, L: Ledger> NodeHandle<R, L> {
         }
     }
 
-    // Queues a datagram for the query thread. On an allocation failure it is dropped, as UDP may drop any.
+    // Queues a datagram for the query thread, and counts it if it is a query to a neighbour. On an allocation failure it is dropped, as
+    // UDP may drop any. All queries to neighbours come this way: only a client's request opens a round, and it comes through the
+    // client thread; what the query thread sends by itself are answers.
     fn queue(&self, socket: Socket, to: End, payload: &[u8]) {
         let Some(outbox) = &self.outbox else {
             return;
         };
-        let Ok(payload) = payload.to_vec(self.alloc) else {
+        let Ok(octets) = payload.to_vec(self.alloc) else {
             return;
         };
         let outgoing = Outgoing {
             socket,
             to,
-            payload,
+            payload: octets,
         };
         if outbox.to.send(&self.rt, outgoing).is_ok() {
             outbox.bell.ring();
+            note_query(&self.proxy.figures, &self.proxy.ends, socket, to, payload);
         }
     }
 }
@@ -269,6 +273,7 @@ impl<R: Wait + Clock + Drop, L: Ledger> Clerk for NodeHandle<R, L> {
             .submit_judged(&self.rt, alloc, &mut self.seat, judged, now, out);
         if submitted.is_ok() {
             self.recorder.note(&self.rt, &self.proxy.tap, judged);
+            note_reply(&self.proxy.figures, &self.proxy.ends, judged);
             self.audit();
         }
         submitted

@@ -1,12 +1,14 @@
 //! All that the texts of figures show, gathered from the node and the threads.
 use crate::clock::date_seconds;
 use crate::log::AccessLog;
+use crate::passes::Passes;
 use crate::proxy_state::ProxyState;
 use node_book::NeighbourView;
 use node_core::Counters;
 use std::alloc::{AllocError, AllocGlobal, Global};
 use std::fs;
 use std::fs::Files;
+use std::io::Read;
 use std::sync::Wait;
 use std::sync::atomic::Ordering;
 use std::sync::ledger::Ledger;
@@ -24,6 +26,7 @@ pub fn page_of<R: Wait + Clock + Files + AllocGlobal, L: Ledger>(
 ) -> Result<Page, AllocError> {
     let uptime = uptime_of(rt, proxy.started);
     let stats = proxy.desk.stats(rt);
+    let sizes = proxy.desk.sizes(rt);
     let (waiting, fetching) = waiting_in(rt, proxy);
     Ok(Page {
         figures: proxy.figures.snapshot(alloc)?,
@@ -31,6 +34,7 @@ pub fn page_of<R: Wait + Clock + Files + AllocGlobal, L: Ledger>(
         uptime,
         started: date_seconds(rt).checked_sub(uptime),
         resident: resident_octets(rt),
+        open_files: open_files(rt),
         sockets: Some(Sockets {
             icp: socket_figures(stats.icp),
             htcp: socket_figures(stats.htcp),
@@ -39,14 +43,34 @@ pub fn page_of<R: Wait + Clock + Files + AllocGlobal, L: Ledger>(
         connections: Some(proxy.connections.load(Ordering::SeqCst) as u64),
         fetching: Some(fetching),
         waiting: Some(waiting),
-        objects: None,
-        stored: None,
-        evictions: None,
+        streams: streams_of(&proxy.passes),
+        tunnels: tunnels_of(&proxy.passes),
+        objects: Some(sizes.objects as u64),
+        stored: Some(sizes.octets),
+        evictions: Some(sizes.evictions),
         swaps: Some(proxy.desk.swaps()),
-        book: None,
-        events: None,
+        book: Some(sizes.base),
+        events: Some(sizes.events),
         log: proxy.log.as_ref().map(log_lines),
     })
+}
+
+// How many requests are being passed on. `None` if none ever are.
+fn streams_of(passes: &Passes) -> Option<u64> {
+    if passes.has_streams() {
+        Some(passes.streams.taken())
+    } else {
+        None
+    }
+}
+
+// How many tunnels are open. `None` if there never are any.
+fn tunnels_of(passes: &Passes) -> Option<u64> {
+    if passes.has_tunnels() {
+        Some(passes.tunnels.taken())
+    } else {
+        None
+    }
 }
 
 // Seconds since an instant; 0 if the clock could not be read.
@@ -72,6 +96,27 @@ fn resident_octets<R: Files + AllocGlobal>(rt: &R) -> Option<u64> {
     let text = str::from_utf8(text.as_slice()).ok()?;
     let pages: u64 = text.split(' ').nth(1)?.parse().ok()?;
     pages.checked_mul(PAGE_OCTETS)
+}
+
+// The files that are open, by the names in Linux's /proc/self/fd: without `.`, `..`, and the one that this opens. `None` if they can't
+// be read.
+fn open_files<R: Files>(rt: &R) -> Option<u64> {
+    let mut listing = rt.open_dir("/proc/self/fd/").ok()?;
+    let mut piece = [0; 4096];
+    let mut names: u64 = 0;
+    for _ in 0..u64::MAX {
+        let count = listing.read(&mut piece).ok()?;
+        if count == 0 {
+            break;
+        }
+        names = names.saturating_add(ends_in(&piece[..count]));
+    }
+    names.checked_sub(3)
+}
+
+// How many names end in these octets of a listing: each ends with a NUL.
+fn ends_in(piece: &[u8]) -> u64 {
+    piece.iter().filter(|octet| **octet == 0).count() as u64
 }
 
 fn socket_figures(counters: Counters) -> SocketFigures {

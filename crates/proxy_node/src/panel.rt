@@ -1,18 +1,21 @@
 //! Administration of the node: filters, counters and captures.
+use crate::clock::now;
 use crate::limits::{RETRIES, RETRY_MILLIS};
 use crate::node_handle::NodeHandle;
 use crate::overview::page_of;
+use crate::storage::{Obstacle, Purger, kept, key_in, limit_of};
 use bpf_asm::to_text;
 use bpf_check::Checked;
 use capture_tap::{CaptureLimits, QUERY_LINE, TapFault};
 use filter_files::{FilesFault, Filter, read_filters};
-use filter_slots::Slot;
+use filter_slots::{Moment, Slot};
 use filter_text::{ProgramFault, read_program};
 use futures::channel::mpsc;
 use http_rules::{is_administrator, is_authorized};
-use http_traffic::{Asked, CaptureFault, Panel, PutFault};
+use http_traffic::{Asked, CaptureFault, Figures, Panel, PutFault, StoreFault, StoreOrder};
 use node_core::Event;
-use node_figures::{neighbours_text, stats_text};
+use node_figures::{neighbour_figures_text, neighbours_text, stats_text, store_text, stored_text};
+use object_store::{CacheKey, Entry};
 use serve_config::FilterFile;
 use std::alloc::{AllocError, AllocGlobal, Global};
 use std::fs::Files;
@@ -20,7 +23,7 @@ use std::sync::atomic::Ordering;
 use std::sync::ledger::Ledger;
 use std::sync::{Arc, Mutex, Wait};
 use std::time::{Clock, Duration};
-use std::{mem, thread};
+use std::{io, mem, thread};
 use traffic_figures::{Page, clients_text, metrics_text};
 
 /// Installs and removes filters, reads counters, and begins captures. Owned by the administration thread, the only one that swaps filters.
@@ -34,9 +37,23 @@ pub struct NodePanel<R, L: Ledger> {
     pub token: Option<String>,
     /// The files of the configuration's filters.
     pub files: Vec<FilterFile>,
+    /// Takes objects out of the store.
+    pub purger: Purger,
+}
+
+/// Serves a panel, whichever it is.
+pub trait ServePanel: Drop {
+    /// Serves it until administration is to end.
+    fn serve<P: Panel>(self, panel: P) -> io::Result<()>;
 }
 
 impl<R: Wait + Clock + Files + AllocGlobal + Drop, L: Ledger> NodePanel<R, L> {
+    /// Has this panel served. That it is a panel is looked at here, where little else is in sight, since each function that hands it
+    /// over looks at all of it.
+    pub fn served_by<S: ServePanel>(self, server: S) -> io::Result<()> {
+        server.serve(self)
+    }
+
     // The port that administration is served on.
     fn port(&self) -> u16 {
         let node = self.node.lock(&self.rt);
@@ -64,8 +81,85 @@ impl<R: Wait + Clock + Files + AllocGlobal + Drop, L: Ledger> NodePanel<R, L> {
         Err(AllocError)
     }
 
+    // The moment of what is asked now.
+    fn moment(&self) -> Moment {
+        now(&self.rt, &self.node.lock(&self.rt).proxy().timeline)
+    }
+
+    // The objects that were used last, as JSON, and how much is stored.
+    fn list(&self, query: &str) -> Result<Vec<u8>, StoreFault> {
+        let (alloc, moment) = (self.alloc, self.moment());
+        let most = limit_of(alloc, query)?;
+        let node = self.node.lock(&self.rt);
+        let desk = &node.proxy().desk;
+        let Ok(newest) = desk.newest(&self.rt, alloc, most) else {
+            return Err(StoreFault::NoMemory);
+        };
+        let sizes = desk.sizes(&self.rt);
+        octets_of(store_text(alloc, sizes, newest.as_slice(), moment))
+    }
+
+    // What is stored under a key. Errors: nothing fresh, or out of memory.
+    fn entry(&self, key: &CacheKey) -> Result<Entry, StoreFault> {
+        let moment = self.moment();
+        let node = self.node.lock(&self.rt);
+        match node.proxy().desk.stored(&self.rt, key.as_slice(), moment) {
+            Ok(Some(entry)) => Ok(entry),
+            Ok(None) => Err(StoreFault::NotStored),
+            Err(_) => Err(StoreFault::NoMemory),
+        }
+    }
+
+    // What is stored under a percent-encoded URL, as JSON.
+    fn stored(&self, url: &str) -> Result<Vec<u8>, StoreFault> {
+        let key = key_in(self.alloc, url)?;
+        let entry = self.entry(&key)?;
+        octets_of(stored_text(self.alloc, &key, &entry, self.moment()))
+    }
+
+    // Takes the object of a percent-encoded URL out of the store, and off the shelf even if it is no longer stored. Shows nothing.
+    fn remove(&self, url: &str) -> Result<Vec<u8>, StoreFault> {
+        let key = key_in(self.alloc, url)?;
+        self.node.lock(&self.rt).proxy().unshelve(&self.rt, &key);
+        let _ = self.entry(&key)?;
+        let moment = self.moment();
+        let event = self.purger.event(self.alloc, &key, moment)?;
+        if self.node.lock(&self.rt).take(event).is_err() {
+            return Err(StoreFault::NoMemory);
+        }
+        match self.entry(&key) {
+            Err(StoreFault::NotStored) => Ok(Vec::new(self.alloc)),
+            Err(fault) => Err(fault),
+            Ok(_) => Err(kept(self.alloc, Obstacle::StillStored)),
+        }
+    }
+
+    // The counters of both sockets, as JSON.
+    fn socket_figures(&self) -> Result<Vec<u8>, AllocError> {
+        let stats = self.node.lock(&self.rt).proxy().desk.stats(&self.rt);
+        line_of(stats_text(self.alloc, stats))
+    }
+
+    // The state of each neighbour, as JSON.
+    fn neighbour_states(&self) -> Result<Vec<u8>, AllocError> {
+        let alloc = self.alloc;
+        let node = self.node.lock(&self.rt);
+        let views = node.proxy().desk.neighbours(&self.rt, alloc)?;
+        line_of(neighbours_text(alloc, views.as_slice()))
+    }
+
+    // The state of each neighbour and what is counted of it, as JSON.
+    fn neighbour_figures(&self) -> Result<Vec<u8>, AllocError> {
+        let alloc = self.alloc;
+        let node = self.node.lock(&self.rt);
+        let proxy = node.proxy();
+        let views = proxy.desk.neighbours(&self.rt, alloc)?;
+        let counts = proxy.figures.by_neighbour(alloc)?;
+        line_of(neighbour_figures_text(alloc, views.as_slice(), counts.as_slice()))
+    }
+
     // All that the texts of figures show.
-    fn page(&mut self) -> Result<Page, AllocError> {
+    fn page(&self) -> Result<Page, AllocError> {
         let node = self.node.lock(&self.rt);
         page_of(&self.rt, self.alloc, node.proxy())
     }
@@ -84,6 +178,22 @@ fn filters_in<R: Files + AllocGlobal>(
             Ok(line) => Err(PutFault::NoFilter(line.into_bytes())),
             Err(_) => Err(PutFault::NoMemory),
         },
+    }
+}
+
+/// The octets of a line. Errors: there is none, for want of memory.
+fn line_of(line: Option<String>) -> Result<Vec<u8>, AllocError> {
+    match line {
+        Some(line) => Ok(line.into_bytes()),
+        None => Err(AllocError),
+    }
+}
+
+/// The octets of a text. Errors: there is none, for want of memory.
+fn octets_of(text: Option<String>) -> Result<Vec<u8>, StoreFault> {
+    match text {
+        Some(text) => Ok(text.into_bytes()),
+        None => Err(StoreFault::NoMemory),
     }
 }
 
@@ -141,25 +251,21 @@ impl<R: Wait + Clock + Files + AllocGlobal + Drop, L: Ledger> Panel for NodePane
         }
     }
 
-    fn stats(&mut self) -> Result<Vec<u8>, AllocError> {
-        let stats = self.node.lock(&self.rt).proxy().desk.stats(&self.rt);
-        match stats_text(self.alloc, stats) {
-            Some(text) => Ok(text.into_bytes()),
-            None => Err(AllocError),
+    fn figures(&mut self, figures: Figures) -> Result<Vec<u8>, AllocError> {
+        match figures {
+            Figures::Sockets => self.socket_figures(),
+            Figures::Neighbours => self.neighbour_states(),
+            Figures::NeighbourFigures => self.neighbour_figures(),
+            Figures::Clients => clients_text(self.alloc, &self.page()?),
+            Figures::Metrics => metrics_text(self.alloc, &self.page()?),
         }
     }
 
-    fn neighbours(&mut self) -> Result<Vec<u8>, AllocError> {
-        let alloc = self.alloc;
-        let views = self
-            .node
-            .lock(&self.rt)
-            .proxy()
-            .desk
-            .neighbours(&self.rt, alloc)?;
-        match neighbours_text(alloc, views.as_slice()) {
-            Some(text) => Ok(text.into_bytes()),
-            None => Err(AllocError),
+    fn store(&mut self, asked: &str, order: StoreOrder) -> Result<Vec<u8>, StoreFault> {
+        match (asked.strip_prefix('/'), order) {
+            (Some(url), StoreOrder::Show) => self.stored(url),
+            (Some(url), StoreOrder::Remove) => self.remove(url),
+            (None, _) => self.list(asked),
         }
     }
 
@@ -188,16 +294,6 @@ impl<R: Wait + Clock + Files + AllocGlobal + Drop, L: Ledger> Panel for NodePane
 
     fn stop(&mut self) {
         self.node.lock(&self.rt).proxy().stop(&self.rt);
-    }
-
-    fn metrics(&mut self) -> Result<Vec<u8>, AllocError> {
-        let page = self.page()?;
-        metrics_text(self.alloc, &page)
-    }
-
-    fn clients(&mut self) -> Result<Vec<u8>, AllocError> {
-        let page = self.page()?;
-        clients_text(self.alloc, &page)
     }
 
     fn capture(&mut self, query: Option<&str>) -> Result<mpsc::Receiver<Vec<u8>>, CaptureFault> {

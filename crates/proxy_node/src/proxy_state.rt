@@ -1,18 +1,23 @@
 //! State shared by the threads of a proxy.
 use crate::log::AccessLog;
+use crate::neighbour_counts::NeighbourEnds;
+use crate::notices::Notices;
+use crate::passes::Passes;
 use capture_tap::Tap;
 use crossbeam_channel::Sender;
 use filter_slots::End;
-use forwarding::{Destination, Field, Flight, Mailbox, Peer, origin_of, peer_of, via};
+use forwarding::{Destination, Field, Flight, Mailbox, Peer, Profile, origin_of, peer_of, via};
 use futures::channel::mpsc::UnboundedSender;
 use futures::channel::oneshot;
-use http_rules::OriginRules;
+use http_rules::{OriginRules, conditions_for};
 use http_traffic as serving;
-use http_traffic::{Admit, Job, Order, Supplier};
+use http_traffic::{Admit, Job, Order, Passage, Server, Supplier};
 use mio_queries::Timeline;
-use name_lookup::{NameDesk, hand_over};
+use name_lookup::{NameDesk, hand_over, pass_over, server_of};
 use node_book::Desk;
 use node_core::{Action, Answer, Mode, NoMemory};
+use object_shelf::Shelf;
+use object_store::{CacheKey, SharedObject};
 use peer_select::Source;
 use plain_node::MAX_PENDING_FETCHES;
 use std::alloc::{AllocError, Global};
@@ -63,16 +68,29 @@ pub struct ProxyState<L: Ledger> {
     pub peers: Vec<Peer>,
     /// Time limit of a fetch.
     pub fetching: Duration,
+    /// The rules by which responses are kept and requests answered from what is stored.
+    pub profile: Profile,
+    /// What origins are asked about; `None` if they are asked for whole objects alone. Locked to look for an object, to put one there,
+    /// or to take one away.
+    pub shelf: Option<Mutex<Shelf>>,
+    /// What passes the proxy without the node.
+    pub passes: Passes,
+    /// The fields of each shared fetch.
+    pub shared_fields: Vec<Field>,
     /// The port that administration is served on: the configuration's, and once its socket is bound that of the socket.
     pub admin_port: AtomicU16,
     /// Where the administration hands a capture to the query thread.
     pub tap: Tap,
-    /// Counts answers and fetches.
+    /// Counts answers, fetches, and datagrams to and from the neighbours.
     pub figures: Figures,
+    /// Tells which neighbour a datagram goes to or comes from.
+    pub ends: NeighbourEnds,
     /// The number of open connections of clients.
     pub connections: Arc<AtomicUsize>,
     /// Where lines about answers go, if anywhere, and their form.
     pub log: Option<AccessLog>,
+    /// Where notices of what fails go, if they are asked for.
+    pub notices: Option<Notices>,
     /// The version of the program.
     pub version: &'static str,
     /// When the proxy started, for its uptime. `None` if the clock could not be read.
@@ -168,13 +186,16 @@ impl<L: Ledger> ProxyState<L> {
         };
         let destination = self.destination(alloc, wanted.source, key.as_slice());
         let destination = destination.ok_or(AllocError)?;
-        let fields = self.fields(rt, alloc, wanted, key.as_slice())?;
+        let asked = self.asked_about(rt, wanted, key.as_slice());
+        let fields = self.fields(rt, alloc, wanted, key.as_slice(), asked.as_ref())?;
         let (sender, receiver) = oneshot::channel(alloc)?;
         let now = Instant::now(rt).ok();
         let flight = wanted.flight(now);
         let deadline = now.and_then(|now| now.checked_add(self.fetching));
         let deadline = deadline.ok_or(AllocError)?;
-        self.mailbox.lock(rt).begin(wanted.fetch, flight, sender)?;
+        self.mailbox
+            .lock(rt)
+            .begin(wanted.fetch, flight, asked, sender)?;
         let Destination {
             name,
             port,
@@ -232,14 +253,32 @@ impl<L: Ledger> ProxyState<L> {
         }
     }
 
+    /// The object that the origin is asked about by a fetch of `key`: what is on the shelf, unless the client that owns the fetch
+    /// wants another answer.
+    fn asked_about<R: Wait>(&self, rt: &R, wanted: Wanted, key: &[u8]) -> Option<SharedObject> {
+        let shelf = self.shelf.as_ref()?;
+        let is_plain = match wanted.owner {
+            Some(client) => self.mailbox.lock(rt).validates(client),
+            None => true,
+        };
+        if !is_plain || !matches!(wanted.source, Source::Origin) {
+            return None;
+        }
+        let shelf = shelf.lock(rt);
+        let object = shelf.get(key)?;
+        object.share().ok()
+    }
+
     /// The request fields of a fetch of `key` other than Host: those of the client that owns a private fetch, or the CDN-Loop
-    /// fields of one that waits for a shared one; `only-if-cached` for a sibling; CDN-Loop and Via of this cache.
+    /// fields of one that waits for a shared one and the fields of all shared ones; the conditions of the object that is asked about;
+    /// `only-if-cached` for a sibling; CDN-Loop and Via of this cache.
     fn fields<R: Wait>(
         &self,
         rt: &R,
         alloc: Global,
         wanted: Wanted,
         key: &[u8],
+        asked: Option<&SharedObject>,
     ) -> Result<Vec<Field>, AllocError> {
         let mut fields = match wanted.owner {
             Some(client) => {
@@ -249,16 +288,72 @@ impl<L: Ledger> ProxyState<L> {
                     .fields_for(alloc, client, wanted.fetch)?;
                 kept.ok_or(AllocError)?
             }
-            None => self.mailbox.lock(rt).loop_fields(alloc, key)?,
+            None => self.shared(rt, alloc, key)?,
         };
+        if let Some(object) = asked {
+            for field in conditions_for(alloc, object.get().head())? {
+                fields.push(field)?;
+            }
+        }
         if wanted.only_if_cached {
             let name = b"cache-control".to_vec(alloc)?;
             fields.push((name, b"only-if-cached".to_vec(alloc)?))?;
         }
+        self.add_marks(alloc, &mut fields)?;
+        Ok(fields)
+    }
+
+    /// The fields of a shared fetch of `key`: the CDN-Loop fields of a client that waits for it, and those of all shared fetches.
+    fn shared<R: Wait>(&self, rt: &R, alloc: Global, key: &[u8]) -> Result<Vec<Field>, AllocError> {
+        let mut fields = self.mailbox.lock(rt).loop_fields(alloc, key)?;
+        for (name, value) in &self.shared_fields {
+            fields.push((name.to_vec(alloc)?, value.to_vec(alloc)?))?;
+        }
+        Ok(fields)
+    }
+
+    /// Adds CDN-Loop and Via of this cache. Errors: out of memory.
+    pub fn add_marks(&self, alloc: Global, fields: &mut Vec<Field>) -> Result<(), AllocError> {
         let mark = self.loop_mark.to_vec(alloc)?;
         fields.push((b"cdn-loop".to_vec(alloc)?, mark))?;
         fields.push(via(alloc, self.name.as_bytes())?)?;
-        Ok(fields)
+        Ok(())
+    }
+
+    /// Sends a request that is passed on to a fetch thread, that of `number`. Errors: it was not taken.
+    pub fn pass_on<R: Wait + Clock>(
+        &self,
+        rt: &R,
+        alloc: Global,
+        number: u64,
+        name: &str,
+        port: u16,
+        passage: Passage,
+    ) -> Result<(), NoMemory> {
+        let lanes = self.lanes.lock(rt);
+        let Some(lanes) = &*lanes else {
+            return Err(AllocError);
+        };
+        let (names, jobs) = (&lanes.names, lanes.jobs.as_slice());
+        match pass_over(rt, alloc, names, jobs, number, name, port, passage) {
+            Ok(()) => Ok(()),
+            Err(_) => Err(AllocError),
+        }
+    }
+
+    /// The server of this name. Returns `None` if it cannot be looked up now.
+    pub fn server_of<R: Wait + Clock>(
+        &self,
+        rt: &R,
+        alloc: Global,
+        name: &str,
+        port: u16,
+    ) -> Option<Server> {
+        let lanes = self.lanes.lock(rt);
+        match &*lanes {
+            Some(lanes) => server_of(rt, alloc, &lanes.names, name, port),
+            None => None,
+        }
     }
 
     /// Whether a server may be fetched from as an origin.
@@ -266,8 +361,9 @@ impl<L: Ledger> ProxyState<L> {
         self.origins.lock(rt).admits(server)
     }
 
-    /// Adds a bound socket of this cache, which is never fetched from. Errors: out of memory.
+    /// Adds a bound socket of this cache, which is never fetched from and which no tunnel leads to. Errors: out of memory.
     pub fn add_own<R: Wait>(&self, rt: &R, end: End) -> Result<(), AllocError> {
+        self.passes.add_own(rt, end)?;
         Ok(self.origins.lock(rt).own.push(end)?)
     }
 
@@ -279,6 +375,13 @@ impl<L: Ledger> ProxyState<L> {
     /// Removes a recorded attempt, which the caller reports to the node.
     pub fn next_failure<R: Wait>(&self, rt: &R) -> Option<Attempt> {
         self.failed.lock(rt).pop()
+    }
+
+    /// Takes what is on the shelf under a key away.
+    pub fn unshelve<R: Wait>(&self, rt: &R, key: &CacheKey) {
+        if let Some(shelf) = &self.shelf {
+            shelf.lock(rt).remove(key.as_slice());
+        }
     }
 
     /// Asks the proxy to end; the second time, ends the time that open connections have for that.
@@ -310,16 +413,21 @@ pub struct Origins<R, L: Ledger> {
 
 impl<R: Wait + Drop, L: Ledger> Admit for Origins<R, L> {
     fn admits(&self, server: SocketAddr) -> bool {
-        match server.ip() {
-            IpAddr::V4(address) => self.proxy.admits(
-                &self.rt,
-                End {
-                    addr: address.octets(),
-                    port: server.port(),
-                },
-            ),
-            IpAddr::V6(_) => false,
+        match end_at(server) {
+            Some(end) => self.proxy.admits(&self.rt, end),
+            None => false,
         }
+    }
+}
+
+/// An IPv4 address and its port; `None` for another address.
+pub(crate) fn end_at(server: SocketAddr) -> Option<End> {
+    match server.ip() {
+        IpAddr::V4(address) => Some(End {
+            addr: address.octets(),
+            port: server.port(),
+        }),
+        IpAddr::V6(_) => None,
     }
 }
 

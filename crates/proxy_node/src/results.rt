@@ -4,11 +4,12 @@ use crate::limits::{RETRIES, RETRY_MILLIS};
 use crate::node_handle::NodeHandle;
 use crossbeam_channel::Sender;
 use fetch_chain::Submit;
-use forwarding::{Flight, object_of, refusal};
-use http_rules::PassFault;
-use http_traffic::{FetchEnd, Fetched, Page, Supplier};
+use forwarding::{Exchange, Flight, Landed, Life, Profile, confirmed, object_of, refusal};
+use http_rules::has_validator;
+use http_traffic::{FetchEnd, FetchFault, Fetched, Page, Supplier};
 use httpdate::HttpDate;
-use node_core::{Event, Outcome};
+use node_core::{Event, Mode, Outcome};
+use object_store::{CacheKey, SharedObject};
 use std::alloc::Global;
 use std::sync::Wait;
 use std::sync::ledger::Ledger;
@@ -19,16 +20,22 @@ use traffic_figures::{FetchNote, FetchOutcome, FetchedFrom};
 /// The status with which a cache refuses a request that has come back to it (RFC 5842, section 7.2).
 const LOOP_DETECTED: u16 = 508;
 
+/// The status of a response to a request with conditions that are not met (RFC 9110, section 15.4.5).
+const NOT_MODIFIED: u16 = 304;
+
 /// Whether a page says only that its neighbour would have asked this cache again, so that the next source is to be asked.
 fn is_for_the_next(flight: Flight, page: &Page) -> bool {
     !flight.is_origin() && page.status == LOOP_DETECTED
 }
 
 /// Whom the object of a fetch comes from: nobody if it was refused.
-fn supplier_of(flight: Flight, end: &FetchEnd) -> Option<Supplier> {
+fn supplier_of(landed: &Landed, end: &FetchEnd) -> Option<Supplier> {
     match end {
         FetchEnd::Refused => None,
-        FetchEnd::Whole(_) | FetchEnd::Failed => Some(flight.supplier),
+        FetchEnd::Whole(page) if page.status == NOT_MODIFIED && landed.asked.is_some() => {
+            Some(Supplier::Confirmed)
+        }
+        FetchEnd::Whole(_) | FetchEnd::Failed(_) => Some(landed.flight.supplier),
     }
 }
 
@@ -45,25 +52,108 @@ pub struct Results<R, L: Ledger> {
 }
 
 impl<R: Wait + Clock + Drop, L: Ledger> Results<R, L> {
-    fn outcome(&self, flight: Flight, end: FetchEnd) -> Outcome {
+    // The key of a fetch, where responses are kept by RFC 9111; otherwise nothing depends on it.
+    fn key_of(&self, fetch: u32) -> Option<CacheKey> {
+        let proxy = self.node.proxy();
+        match proxy.profile {
+            Profile::Published => None,
+            Profile::Rfc9111(_) => proxy.desk.key_of(&self.rt, fetch).unwrap_or(None),
+        }
+    }
+
+    // The response that a page stands for: what was asked about, if it is a 304 that confirms this, and otherwise itself. `None` for
+    // a 304 that fits nothing: that of another object, and one that nobody's conditions have asked for. Then the object goes, so that
+    // the next fetch asks for the whole of it.
+    fn whole_of(
+        &self,
+        key: Option<&CacheKey>,
+        flight: Flight,
+        asked: Option<SharedObject>,
+        page: Page,
+    ) -> Option<Page> {
+        let proxy = self.node.proxy();
+        if page.status != NOT_MODIFIED {
+            return Some(page);
+        }
+        let Some(asked) = asked else {
+            let is_theirs = proxy.shelf.is_none() || flight.mode != Mode::Shared;
+            return if is_theirs { Some(page) } else { None };
+        };
+        let whole = confirmed(self.alloc, &page.head, asked.get());
+        if whole.is_none()
+            && let Some(key) = key
+        {
+            proxy.unshelve(&self.rt, key);
+        }
+        whole
+    }
+
+    // Puts an object on the shelf that is stored and can be asked about. Where memory is short, or if it is too large for the shelf,
+    // it is not put there.
+    fn shelve(&self, key: Option<&CacheKey>, object: &SharedObject) {
+        let Some(shelf) = &self.node.proxy().shelf else {
+            return;
+        };
+        if object.get().life() == 0 || !has_validator(object.get().head()) {
+            return;
+        }
+        if let Some(key) = key
+            && let Ok(key) = key.share()
+            && let Ok(object) = object.share()
+        {
+            let _ = shelf.lock(&self.rt).put(key, object);
+        }
+    }
+
+    // The age of a response, and for how long it may be stored.
+    fn life_of(&self, key: Option<&CacheKey>, flight: Flight, page: &Page) -> Life {
+        let received = date_seconds(&self.rt);
+        let took = micros_since(&self.rt, flight.began).unwrap_or(0) / 1_000_000;
+        let exchange = Exchange {
+            mode: flight.mode,
+            url: match key {
+                Some(key) => key.as_slice(),
+                None => b"",
+            },
+            requested: received.saturating_sub(took),
+            received,
+        };
+        self.node.proxy().profile.life_of(exchange, page)
+    }
+
+    // The object of a response that came on this date. `None` for a 304 that fits nothing, if there are too many names in Connection,
+    // or if out of memory.
+    fn object_in(
+        &self,
+        fetch: u32,
+        landed: Landed,
+        page: Page,
+        date: &[u8],
+    ) -> Option<SharedObject> {
+        let Landed { flight, asked } = landed;
+        let key = self.key_of(fetch);
+        let page = self.whole_of(key.as_ref(), flight, asked, page)?;
+        let life = self.life_of(key.as_ref(), flight, &page);
+        let name = self.node.proxy().name.as_bytes();
+        let object = object_of(self.alloc, name, life, page, date).ok()?;
+        self.shelve(key.as_ref(), &object);
+        Some(object)
+    }
+
+    fn outcome(&self, fetch: u32, landed: Landed, end: FetchEnd) -> Outcome {
         let Ok(date) = HttpDate::from_unix_secs(date_seconds(&self.rt)) else {
             return Outcome::Failed;
         };
-        let name = self.node.proxy().name.as_bytes();
+        let date = date.to_bytes();
         let object = match end {
-            FetchEnd::Whole(page) if is_for_the_next(flight, &page) => return Outcome::Failed,
-            FetchEnd::Whole(page) => {
-                let date = date.to_bytes();
-                object_of(self.alloc, name, flight.mode, page, date.as_slice())
-            }
-            FetchEnd::Refused => {
-                refusal(self.alloc, date.to_bytes().as_slice()).map_err(PassFault::from)
-            }
-            FetchEnd::Failed => return Outcome::Failed,
+            FetchEnd::Whole(page) if is_for_the_next(landed.flight, &page) => None,
+            FetchEnd::Whole(page) => self.object_in(fetch, landed, page, date.as_slice()),
+            FetchEnd::Refused => refusal(self.alloc, date.as_slice()).ok(),
+            FetchEnd::Failed(_) => None,
         };
         match object {
-            Ok(object) => Outcome::Object(object),
-            Err(_) => Outcome::Failed,
+            Some(object) => Outcome::Object(object),
+            None => Outcome::Failed,
         }
     }
 
@@ -72,11 +162,11 @@ impl<R: Wait + Clock + Drop, L: Ledger> Results<R, L> {
         let (outcome, octets) = match end {
             FetchEnd::Whole(page) => (FetchOutcome::Whole, page.body.len() as u64),
             FetchEnd::Refused => (FetchOutcome::Refused, 0),
-            FetchEnd::Failed => (FetchOutcome::Failed, 0),
+            FetchEnd::Failed(_) => (FetchOutcome::Failed, 0),
         };
         let note = FetchNote {
             from: match flight.supplier {
-                Supplier::Origin => FetchedFrom::Origin,
+                Supplier::Origin | Supplier::Confirmed => FetchedFrom::Origin,
                 Supplier::Neighbour(place) => FetchedFrom::Neighbour(place),
             },
             outcome,
@@ -84,6 +174,29 @@ impl<R: Wait + Clock + Drop, L: Ledger> Results<R, L> {
             micros: micros_since(&self.rt, flight.began),
         };
         self.node.proxy().figures.note_fetch(note);
+    }
+
+    // Tells why a fetch failed, if that is asked for. One that the node does not have any more is not wanted by anybody.
+    fn tell(&self, fetch: u32, supplier: Supplier, fault: FetchFault) {
+        let proxy = self.node.proxy();
+        let Some(notices) = &proxy.notices else {
+            return;
+        };
+        if let Ok(Some(key)) = proxy.desk.key_of(&self.rt, fetch) {
+            let url = key.as_slice();
+            notices.tell_fetch(&self.rt, self.alloc, fetch, url, supplier, fault);
+        }
+    }
+
+    // Notes that the body of a fetch's response was too large, where such responses are passed on.
+    fn note_large(&self, fetch: u32, fault: FetchFault) {
+        let proxy = self.node.proxy();
+        if fault != FetchFault::TooLarge || proxy.passes.large.is_none() {
+            return;
+        }
+        if let Ok(Some(key)) = proxy.desk.key_of(&self.rt, fetch) {
+            proxy.passes.note_large(&self.rt, key);
+        }
     }
 
     fn take(
@@ -117,10 +230,15 @@ impl<R: Wait + Clock + Drop, L: Ledger> Submit<Fetched> for Results<R, L> {
             attempt,
             end,
         } = done;
-        let flight = self.node.proxy().mailbox.lock(&self.rt).end(fetch);
+        let landed = self.node.proxy().mailbox.lock(&self.rt).end(fetch);
+        let flight = landed.flight;
         self.note(flight, &end);
-        let supplier = supplier_of(flight, &end);
-        let outcome = self.outcome(flight, end);
+        if let FetchEnd::Failed(fault) = &end {
+            self.tell(fetch, flight.supplier, *fault);
+            self.note_large(fetch, *fault);
+        }
+        let supplier = supplier_of(&landed, &end);
+        let outcome = self.outcome(fetch, landed, end);
         if self.take(fetch, attempt, supplier, outcome) {
             return;
         }

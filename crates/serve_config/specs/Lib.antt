@@ -1,6 +1,11 @@
 pub mod Addresses
 pub mod Files
 pub mod Group
+pub mod Mirrors
 pub mod Origins
 pub mod Own
+pub mod Passing
+pub mod Refresh
+pub mod SharedFields
 pub mod Tokens
+pub mod Words

@@ -1,5 +1,5 @@
--- Neighbours that are this cache itself.
-use Rattle.std.specs.Prelude.{[], ◌∷◌, bytes_eq, ◌==◌, ◌&&◌, ◌||◌, Bool}
+-- Neighbours that are this cache itself, and own sockets that are in each other's way.
+use Rattle.std.specs.Prelude.{ℕ, [], ◌∷◌, bytes_eq, ◌==◌, ◌&&◌, ◌||◌, not, Bool}
 use Rattle.neighbours.specs.declared.neighbour.Neighbour.{Neighbour}
 use Rattle.neighbours.specs.Rows.{same_end}
 use Rattle.serve_config.specs.declared.settings.Settings.{Settings}
@@ -18,3 +18,13 @@ fetches_self settings neighbour =
 -- whether a neighbour is this cache itself
 abbrev pub is_self : Settings → Neighbour → Bool
 is_self settings neighbour = queries_self settings neighbour || fetches_self settings neighbour
+
+-- whether two sockets of one protocol at one address can't both have these ports; at port 0 the system chooses a free one
+abbrev pub clashes : ℕ → ℕ → Bool
+clashes port other = not (port == 0) && (port == other)
+
+-- whether the two query sockets, or the sockets for clients and for administration, can't both be bound
+abbrev pub shares_port : Settings → Bool
+shares_port settings =
+    clashes settings.node.icp.port settings.node.htcp.port
+    || (bytes_eq settings.address (127 ∷ 0 ∷ 0 ∷ 1 ∷ []) && clashes settings.http_port settings.admin_port)

@@ -8,14 +8,22 @@
 
 mod fault;
 mod filters;
+mod freshness;
 mod group;
+mod mirrors;
 mod own;
+mod passing;
 mod place;
 mod settings;
 mod shape;
+mod shared_fields;
 mod token;
 mod value;
 
 pub use fault::Fault;
 pub use filters::FilterFile;
-pub use settings::{LogFormat, Settings};
+pub use freshness::{Freshness, RefreshRule, UrlPart};
+pub use mirrors::MirrorPath;
+pub use passing::{Large, PassedMethod};
+pub use settings::{LogFormat, LogLevel, Settings};
+pub use shared_fields::SharedField;

@@ -1,8 +1,8 @@
-//! Neighbours that are this cache itself.
+//! Neighbours that are this cache itself, and own sockets that are in each other's way.
 ghost use Rattle.std.specs.Prelude.{◌≡◌, IfOk, false, is_some};
 ghost use Rattle.std.specs.List.{list_any};
 ghost use Rattle.neighbours.specs.Rows.{same_end};
-ghost use Rattle.serve_config.specs.Own.{queries_self, fetches_self, is_self};
+ghost use Rattle.serve_config.specs.Own.{queries_self, fetches_self, is_self, clashes, shares_port};
 
 use crate::fault::Fault;
 use crate::place::Place;
@@ -63,4 +63,27 @@ fn fetches_self(settings: &Settings, neighbour: &Neighbour) -> bool
 {
     (neighbour.end.addr == settings.address && neighbour.http_port == settings.http_port)
         || (neighbour.end.addr == [127, 0, 0, 1] && neighbour.http_port == settings.admin_port)
+}
+
+/// Checks that this cache's own sockets can stand beside one another: not both query sockets at one port, and not clients and
+/// administration, which is at 127.0.0.1. Port 0 is whichever is free. Errors: the first two that can't, at the key of the latter.
+pub(crate) fn check_ports(alloc: Global, settings: &Settings) -> Result<(), Fault>
+    ensures { IfOk result (λ u. shares_port settings.now ≡ false) }
+{
+    if clashes(settings.node.icp.port, settings.node.htcp.port) {
+        let place = Place::whole().key("htcp_port");
+        return Err(Fault::value(alloc, place, "icp_port is the same port at this address"));
+    }
+    if settings.address == [127, 0, 0, 1] && clashes(settings.http_port, settings.admin_port) {
+        let place = Place::whole().key("admin_port");
+        return Err(Fault::value(alloc, place, "http_port is the same port at this address"));
+    }
+    Ok(())
+}
+
+// Whether two sockets of one protocol at one address can't both have these ports.
+fn clashes(port: u16, other: u16) -> bool
+    ensures { result ≡ clashes port other }
+{
+    port != 0 && port == other
 }

@@ -38,10 +38,11 @@ const TOP: [Known; 16] = [
 ];
 
 /// The keys that a configuration may leave out.
-const OPTIONAL: [Known; 10] = [
+const OPTIONAL: [Known; 22] = [
     ("receipt_octets", Kind::Number),
     ("book_octets", Kind::Number),
     ("fetch_octets", Kind::Number),
+    ("shelf_octets", Kind::Number),
     ("address_connections", Kind::Number),
     ("deny_origins", Kind::List),
     ("origin_ports", Kind::List),
@@ -49,6 +50,17 @@ const OPTIONAL: [Known; 10] = [
     ("access_log", Kind::Text),
     ("access_log_format", Kind::Text),
     ("filters", Kind::Object),
+    ("log_level", Kind::Text),
+    ("freshness", Kind::Text),
+    ("refresh", Kind::List),
+    ("mirrors", Kind::Object),
+    ("methods", Kind::List),
+    ("connect_ports", Kind::List),
+    ("large", Kind::Text),
+    ("streams", Kind::Number),
+    ("tunnels", Kind::Number),
+    ("fetch_seconds", Kind::Number),
+    ("shared_fields", Kind::Object),
 ];
 
 /// The keys of `filters`, each of which may be left out.
@@ -56,6 +68,16 @@ const FILTERS: [Known; 3] = [
     ("icp", Kind::Text),
     ("htcp", Kind::Text),
     ("neighbours", Kind::Object),
+];
+
+/// The keys of a rule of `refresh`.
+const RULE: [Known; 1] = [("seconds", Kind::Number)];
+
+/// The keys that such a rule may leave out.
+const RULE_OPTIONAL: [Known; 3] = [
+    ("suffix", Kind::Text),
+    ("prefix", Kind::Text),
+    ("override", Kind::Truth),
 ];
 
 /// The keys of a signing key.
@@ -102,12 +124,14 @@ fn is_whole(value: &Value) -> bool {
 }
 
 /// Checks the keys and kinds of a whole configuration. Errors: the first fault, of the top-level keys before those of the lists,
-/// and `filters` last.
+/// then `filters`, and `refresh` last.
 pub(crate) fn check(alloc: Global, value: &Value) -> Result<(), Fault> {
     check_object(alloc, value, Place::whole(), &TOP, &OPTIONAL)?;
     check_items(alloc, value, "allowed", Kind::Text)?;
     check_items(alloc, value, "deny_origins", Kind::Text)?;
     check_items(alloc, value, "origin_ports", Kind::Number)?;
+    check_items(alloc, value, "methods", Kind::Text)?;
+    check_items(alloc, value, "connect_ports", Kind::Number)?;
     for (i, key) in items(value, "keys").iter().enumerate() {
         check_object(alloc, key, Place::item("keys", i), &KEY, &[])?;
     }
@@ -120,7 +144,8 @@ pub(crate) fn check(alloc: Global, value: &Value) -> Result<(), Fault> {
             &[],
         )?;
     }
-    check_filters(alloc, value)
+    check_filters(alloc, value)?;
+    check_rules(alloc, value)
 }
 
 // Checks the object at `filters`, if there is one. The keys of its neighbours are checked with their values.
@@ -135,6 +160,15 @@ fn check_filters(alloc: Global, value: &Value) -> Result<(), Fault> {
     for (key, file) in files.iter() {
         let place = Place::object("filters.neighbours").key(key.as_str());
         check_kind(alloc, Some(file), place, Kind::Text)?;
+    }
+    Ok(())
+}
+
+// Checks the items of `refresh`, if there are any.
+fn check_rules(alloc: Global, value: &Value) -> Result<(), Fault> {
+    for (i, rule) in items(value, "refresh").iter().enumerate() {
+        let place = Place::item("refresh", i);
+        check_object(alloc, rule, place, &RULE, &RULE_OPTIONAL)?;
     }
     Ok(())
 }

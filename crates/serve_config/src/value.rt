@@ -1,6 +1,11 @@
 //! Parsing single values of a configuration.
-ghost use Rattle.std.specs.Prelude.{◌≡◌, ◌≤◌, IfOk, IfSome, true};
+ghost use Rattle.std.specs.Prelude.{◌≡◌, ◌≤◌, IfOk, IfSome, Some, true};
+ghost use Rattle.std.specs.List.{list_all};
+ghost use Rattle.serde_json.specs.Find.{get};
+ghost use Rattle.serde_json.specs.View.{view};
 ghost use Rattle.serve_config.specs.Addresses.{is_host};
+ghost use Rattle.serve_config.specs.Refresh.{IsVisible, is_visible};
+ghost use Rattle.serve_config.specs.Words.{word_or};
 
 use crate::fault::Fault;
 use crate::place::Place;
@@ -18,6 +23,24 @@ pub(crate) fn text<'a>(
     match object.get(place.name()).and_then(Value::as_str) {
         Some(text) => Ok(text),
         None => Err(Fault::shape(alloc, place, "not a text")),
+    }
+}
+
+/// The word at this key of the configuration, or `usual` if there is no such key.
+pub(crate) fn word<'a>(
+    alloc: Global,
+    object: &'a Value,
+    key: &str,
+    usual: &'a str,
+) -> Result<&'a str, Fault>
+    ensures { IfOk result (λ word. word_or usual.now (get key.now (view object.now)) ≡ Some word.now) }
+{
+    let Some(value) = object.get(key) else {
+        return Ok(usual);
+    };
+    match value.as_str() {
+        Some(word) => Ok(word),
+        None => Err(Fault::shape(alloc, Place::whole().key(key), "not a text")),
     }
 }
 
@@ -155,13 +178,22 @@ pub(crate) fn visible<'a>(
     alloc: Global,
     object: &'a Value,
     place: Place<'_>,
-) -> Result<&'a str, Fault> {
+) -> Result<&'a str, Fault>
+    ensures { IfOk result (λ text. IsVisible text.now) }
+{
     let text = text(alloc, object, place)?;
     if text.is_empty() {
         return Err(Fault::value(alloc, place, "empty"));
     }
-    if !text.bytes().all(|c| 0x21 <= c && c <= 0x7e) {
+    if !is_visible(text.as_bytes()) {
         return Err(Fault::text(alloc, place, text, "has an octet outside 0x21 to 0x7e"));
     }
     Ok(text)
+}
+
+// Whether all octets are visible ASCII.
+fn is_visible(text: &[u8]) -> bool
+    ensures { result ≡ list_all is_visible text.now }
+{
+    text.iter().all(|&octet| 0x21 <= octet && octet <= 0x7e)
 }

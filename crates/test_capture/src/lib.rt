@@ -1,5 +1,6 @@
-//! Tests of reading captures (`capture`): frames of each link type and with each fault, and classic and pcapng files of both
-//! byte orders, made by hand. No contract is proved here beyond the safety of the tests.
+//! Tests of captures: reading (`capture`), with frames of each link type and with each fault, and classic and pcapng files of both
+//! byte orders, made by hand; and the blocks that are written (`capture_file`). No contract is proved here beyond the safety of the
+//! tests.
 //! Tested by: nothing; its `#[test]` functions are the tests.
 #![tactic(auto)]
 
@@ -9,3 +10,5 @@ mod blocks;
 mod files;
 #[cfg(test)]
 mod frames;
+#[cfg(test)]
+mod written;

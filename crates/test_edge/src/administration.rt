@@ -6,7 +6,7 @@ use crossbeam_channel::unbounded;
 use filter_slots::Slot;
 use futures::channel::{mpsc, oneshot};
 use http_clients::serve_admin;
-use http_traffic::{Asked, CaptureFault, Panel, PutFault};
+use http_traffic::{Asked, CaptureFault, Figures, Panel, PutFault, StoreFault, StoreOrder};
 use std::alloc::{AllocError, AllocGlobal, Global};
 use std::test::Fail;
 use std::thread;
@@ -60,12 +60,30 @@ impl Panel for Board {
         }
     }
 
-    fn stats(&mut self) -> Result<Vec<u8>, AllocError> {
-        b"{}".to_vec(self.alloc)
+    fn figures(&mut self, figures: Figures) -> Result<Vec<u8>, AllocError> {
+        let text: &[u8] = match figures {
+            Figures::Sockets => b"{}",
+            Figures::Neighbours => b"[]",
+            Figures::NeighbourFigures => b"[{\"queries\":0}]",
+            Figures::Clients => b"{\"clients\":1}",
+            Figures::Metrics => b"wabretos_hits_total 1\n",
+        };
+        text.to_vec(self.alloc)
     }
 
-    fn neighbours(&mut self) -> Result<Vec<u8>, AllocError> {
-        b"[]".to_vec(self.alloc)
+    fn store(&mut self, asked: &str, order: StoreOrder) -> Result<Vec<u8>, StoreFault> {
+        let shown: &[u8] = match asked {
+            "" => b"[]",
+            _ => asked.as_bytes(),
+        };
+        let line = shown.to_vec(self.alloc);
+        match (asked, order, line) {
+            (_, _, Err(_)) => Err(StoreFault::NoMemory),
+            ("?limit=0", _, Ok(line)) => Err(StoreFault::NoQuestion(line)),
+            ("/http:%2F%2Fnone%2F" | "/http:%2F%2Fb%2F", _, _) => Err(StoreFault::NotStored),
+            ("/http:%2F%2Fkept%2F", StoreOrder::Remove, Ok(line)) => Err(StoreFault::Kept(line)),
+            (_, _, Ok(line)) => Ok(line),
+        }
     }
 
     fn reload(&mut self) -> Result<(), PutFault> {
@@ -89,14 +107,6 @@ impl Panel for Board {
         } else if let Some(hurry) = self.hurry.take() {
             let _ = hurry.send(());
         }
-    }
-
-    fn metrics(&mut self) -> Result<Vec<u8>, AllocError> {
-        b"wabretos_hits_total 1\n".to_vec(self.alloc)
-    }
-
-    fn clients(&mut self) -> Result<Vec<u8>, AllocError> {
-        b"{\"clients\":1}".to_vec(self.alloc)
     }
 
     fn capture(&mut self, query: Option<&str>) -> Result<mpsc::Receiver<Vec<u8>>, CaptureFault> {
@@ -123,7 +133,54 @@ fn two_pieces(alloc: Global) -> Result<mpsc::Receiver<Vec<u8>>, AllocError> {
 }
 
 // Requests in order, and the parts that each response must contain.
-const ADMINISTRATION: [(&[u8], [&[u8]; 2]); 43] = [
+const ADMINISTRATION: [(&[u8], [&[u8]; 2]); 57] = [
+    (
+        b"GET /store HTTP/1.1\r\nHost: o\r\nConnection: close\r\n\r\n",
+        [b"\r\ncontent-type: application/json\r\n", b"\r\n\r\n[]"],
+    ),
+    (
+        b"GET /store?limit=7 HTTP/1.1\r\nHost: o\r\nConnection: close\r\n\r\n",
+        [b"HTTP/1.1 200 OK", b"\r\n\r\n?limit=7"],
+    ),
+    (
+        b"GET /store?limit=0 HTTP/1.1\r\nHost: o\r\nConnection: close\r\n\r\n",
+        [b"HTTP/1.1 400 Bad Request", b"\r\n\r\n?limit=0"],
+    ),
+    (
+        b"GET /store/http:%2F%2Fa%2F HTTP/1.1\r\nHost: o\r\nConnection: close\r\n\r\n",
+        [b"HTTP/1.1 200 OK", b"\r\n\r\n/http:%2F%2Fa%2F"],
+    ),
+    (
+        b"GET /store/http:%2F%2Fnone%2F HTTP/1.1\r\nHost: o\r\nConnection: close\r\n\r\n",
+        [b"HTTP/1.1 404 Not Found", b"/store/http:%2F%2Fnone%2F\n"],
+    ),
+    (
+        b"GET /stored HTTP/1.1\r\nHost: o\r\nConnection: close\r\n\r\n",
+        [b"HTTP/1.1 404 Not Found", b"/stored\n"],
+    ),
+    (
+        b"DELETE /store/http:%2F%2Fa%2F HTTP/1.1\r\nHost: o\r\nConnection: close\r\n\r\n",
+        [b"HTTP/1.1 204 No Content", b""],
+    ),
+    (
+        b"DELETE /store/http:%2F%2Fkept%2F HTTP/1.1\r\nHost: o\r\nConnection: close\r\n\r\n",
+        [b"HTTP/1.1 409 Conflict", b"\r\n\r\n/http:%2F%2Fkept%2F"],
+    ),
+    (
+        b"DELETE /store/http:%2F%2Fb%2F HTTP/1.1\r\nHost: o\r\nConnection: close\r\n\r\n",
+        [b"HTTP/1.1 404 Not Found", b"/store/http:%2F%2Fb%2F\n"],
+    ),
+    (
+        b"DELETE /store HTTP/1.1\r\nHost: o\r\nConnection: close\r\n\r\n",
+        [b"HTTP/1.1 404 Not Found", b"/store\n"],
+    ),
+    (
+        b"DELETE /store/http:%2F%2Fa%2F HTTP/1.1\r\nHost: o\r\nX-Forged: 1\r\nConnection: close\r\n\r\n",
+        [
+            b"HTTP/1.1 401 Unauthorized",
+            b"\r\nwww-authenticate: Bearer\r\n",
+        ],
+    ),
     (
         b"POST /filters/reload HTTP/1.1\r\nHost: o\r\nConnection: close\r\n\r\n",
         [b"HTTP/1.1 204 No Content", b""],
@@ -208,6 +265,11 @@ const ADMINISTRATION: [(&[u8], [&[u8]; 2]); 43] = [
             b"\r\nwww-authenticate: Bearer\r\n",
         ],
     ),
+    // Its content, which never comes, is not awaited.
+    (
+        b"PUT /filter/icp HTTP/1.1\r\nHost: o\r\nX-Forged: 1\r\nContent-Length: 6\r\n\r\n",
+        [b"HTTP/1.1 401 Unauthorized", b"\r\nconnection: close\r\n"],
+    ),
     (
         b"DELETE /other HTTP/1.1\r\nHost: o\r\nX-Forged: 1\r\n\r\n",
         [
@@ -276,6 +338,17 @@ const ADMINISTRATION: [(&[u8], [&[u8]; 2]); 43] = [
     (
         b"GET /stats/neighbours HTTP/1.1\r\nHost: o\r\n\r\n",
         [b"HTTP/1.1 200 OK", b"\r\n\r\n[]"],
+    ),
+    (
+        b"GET /stats/neighbours/figures HTTP/1.1\r\nHost: o\r\n\r\n",
+        [
+            b"content-type: application/json",
+            b"\r\n\r\n[{\"queries\":0}]",
+        ],
+    ),
+    (
+        b"GET /stats/neighbours/ HTTP/1.1\r\nHost: o\r\n\r\n",
+        [b"HTTP/1.1 404 Not Found", b""],
     ),
     (
         b"GET /stats HTTP/1.1\r\nHost: o\r\n\r\n",

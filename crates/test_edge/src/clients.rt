@@ -5,7 +5,7 @@ use std::io::{ErrorKind, Read, Write};
 use std::net::{Net, OpenStream, SocketAddr, TcpStream};
 use std::time::Duration;
 
-/// Sends octets to a server, and returns what it sends back until it closes or is silent for a second.
+/// Sends octets to a server, and returns what it sends back until it closes or is silent for five seconds.
 pub(crate) fn exchange<R: Net>(
     rt: &R,
     alloc: Global,
@@ -13,7 +13,7 @@ pub(crate) fn exchange<R: Net>(
     octets: &[u8],
 ) -> io::Result<Vec<u8>> {
     let mut socket = TcpStream::connect(rt, server)?;
-    socket.set_read_timeout(Some(Duration::from_millis(1000)))?;
+    socket.set_read_timeout(Some(Duration::from_secs(5)))?;
     socket.write_all(octets)?;
     let mut all = Vec::new(alloc);
     let mut piece = [0; 4096];
@@ -26,14 +26,14 @@ pub(crate) fn exchange<R: Net>(
     Ok(all)
 }
 
-/// Whether a server closes the connection after these octets, with at most two seconds of silence.
+/// Whether a server closes the connection after these octets, with at most ten seconds of silence.
 pub(crate) fn is_ended_after<R: Net>(
     rt: &R,
     server: SocketAddr,
     octets: &[u8],
 ) -> io::Result<bool> {
     let mut socket = TcpStream::connect(rt, server)?;
-    socket.set_read_timeout(Some(Duration::from_millis(2000)))?;
+    socket.set_read_timeout(Some(Duration::from_secs(10)))?;
     socket.write_all(octets)?;
     let mut piece = [0; 4096];
     for _ in 0..100 {

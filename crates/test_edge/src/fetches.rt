@@ -5,7 +5,7 @@ use fetch_chain::Submit;
 use futures::channel::mpsc::{UnboundedSender, unbounded};
 use futures::channel::oneshot;
 use http_fetches::run_fetches;
-use http_traffic::{FetchEnd, Fetched, Job, Order, Server};
+use http_traffic::{FetchEnd, FetchFault, Fetched, Job, Order, Server, Work};
 use std::alloc::Global;
 use std::net::{SocketAddr, TcpListener};
 use std::test::Fail;
@@ -32,7 +32,7 @@ pub(crate) fn order_of<R: Clock>(
     target: &str,
 ) -> Result<(Order, oneshot::Sender<()>), Fail> {
     let (keep, wanted) = oneshot::channel(alloc)?;
-    let Some(deadline) = Instant::now(rt)?.checked_add(Duration::from_millis(1500)) else {
+    let Some(deadline) = Instant::now(rt)?.checked_add(Duration::from_secs(5)) else {
         return Err(io::Error::other("no time").into());
     };
     let order = Order {
@@ -69,28 +69,35 @@ pub(crate) fn ask<R: Clock>(
 ) -> Result<oneshot::Sender<()>, Fail> {
     let (order, keep) = order_of(rt, alloc, fetch, target)?;
     let server = server_of(alloc, server)?;
-    if jobs.unbounded_send(Job { server, order }).is_err() {
+    let work = Work::Fetch(order);
+    if jobs.unbounded_send(Job { server, work }).is_err() {
         return Err(io::Error::other("no thread").into());
     }
     Ok(keep)
 }
 
-// A target, and the status and body to be fetched, or `None` if the fetch has to fail.
-const CASES: [(&str, Option<(u16, &[u8])>); 14] = [
-    ("/good", Some((200, b"hello"))),
-    ("/twice", Some((200, b"hello"))),
-    ("/differ", None),
-    ("/close", Some((404, b"hello"))),
-    ("/chunked", Some((200, b"hello"))),
-    ("/cut", None),
-    ("/coded", None),
-    ("/short", None),
-    ("/many", Some((200, b"hellohello"))),
-    ("/more", None),
-    ("/upgrade", None),
-    ("/slow", Some((200, b"hello"))),
-    ("/never", None),
-    ("/drip", None),
+// The status and body of a fetch, or why it failed.
+type End<'a> = Result<(u16, &'a [u8]), FetchFault>;
+
+// A target, and how its fetch has to end.
+const CASES: [(&str, End<'static>); 17] = [
+    ("/good", Ok((200, b"hello"))),
+    ("/twice", Ok((200, b"hello"))),
+    ("/differ", Err(FetchFault::NotHttp)),
+    ("/close", Ok((404, b"hello"))),
+    ("/chunked", Ok((200, b"hello"))),
+    ("/cut", Err(FetchFault::Cut)),
+    ("/coded", Err(FetchFault::NotHttp)),
+    ("/short", Err(FetchFault::Cut)),
+    ("/many", Ok((200, b"hellohello"))),
+    ("/more", Err(FetchFault::TooLarge)),
+    ("/upgrade", Err(FetchFault::Cut)),
+    ("/slow", Ok((200, b"hello"))),
+    ("/never", Err(FetchFault::Time)),
+    ("/drip", Err(FetchFault::Time)),
+    ("/nothing", Err(FetchFault::Cut)),
+    ("/half", Err(FetchFault::Cut)),
+    ("/mail", Err(FetchFault::NotHttp)),
 ];
 
 // An address where no server listens: a port that was bound and closed again.
@@ -115,24 +122,28 @@ fn ask_all(
     keeps.push(ask(rt, alloc, &jobs, Some(nowhere(rt)?), 101, "/good")?)?;
     keeps.push(ask(rt, alloc, &jobs, None, 102, "/good")?)?;
     drop(jobs);
-    thread::sleep(rt, Duration::from_millis(300));
+    thread::sleep(rt, Duration::from_millis(500));
     drop(unwanted);
     Ok(keeps)
 }
 
-// The status and body of a fetch, or `None` if it failed.
-pub(crate) fn page_of(done: &Fetched) -> Option<(u16, &[u8])> {
+// How a fetch ended, or `None` if its server was not admitted.
+pub(crate) fn end_of(done: &Fetched) -> Option<End<'_>> {
     match &done.end {
-        FetchEnd::Whole(page) => Some((page.status, page.body.as_slice())),
-        FetchEnd::Refused | FetchEnd::Failed => None,
+        FetchEnd::Whole(page) => Some(Ok((page.status, page.body.as_slice()))),
+        FetchEnd::Refused => None,
+        FetchEnd::Failed(fault) => Some(Err(*fault)),
     }
 }
 
-// The expected result of a fetch: that of its case, or a failure if it belongs to none.
-fn wanted_of(fetch: u32) -> Option<(u16, &'static [u8])> {
-    match CASES.get(fetch as usize) {
-        Some((_, wanted)) => *wanted,
-        None => None,
+// How a fetch has to end: as its case says, or as one of those that `ask_all` adds to them.
+fn wanted_of(fetch: u32) -> Option<End<'static>> {
+    match (CASES.get(fetch as usize), fetch) {
+        (Some((_, wanted)), _) => Some(*wanted),
+        (None, 100) => Some(Err(FetchFault::Cancelled)),
+        (None, 101) => Some(Err(FetchFault::Connect)),
+        (None, 102) => Some(Err(FetchFault::Lookup)),
+        (None, _) => None,
     }
 }
 
@@ -150,7 +161,7 @@ fn each_by_itself(rt: HostRuntime) -> Result<(), Fail> {
     let seat = Kept {
         all: Vec::new(alloc),
     };
-    let limits = fetch_limits(10, Duration::from_millis(500));
+    let limits = fetch_limits(10, Duration::from_secs(4));
     let rules = fetch_rules(alloc, 1000)?;
     let fetches = thread::spawn(&rt, move || -> io::Result<Option<Kept>> {
         let mut seat = seat;
@@ -164,8 +175,8 @@ fn each_by_itself(rt: HostRuntime) -> Result<(), Fail> {
     drop(keeps);
     assert_eq!(rt; seat.all.len(), CASES.len() + 3);
     for done in &seat.all {
-        let got = page_of(done);
-        eprintln!(rt; "{} {}", done.fetch, got.is_some())?;
+        let got = end_of(done);
+        eprintln!(rt; "{} {:?}", done.fetch, got)?;
         assert_eq!(rt; got, wanted_of(done.fetch));
     }
     let _ = origin.join(&rt);
@@ -185,7 +196,11 @@ fn a_server_that_is_not_admitted(rt: HostRuntime) -> Result<(), Fail> {
     let mut order = order;
     order.is_origin = false;
     let server = Server::At(server);
-    assert!(rt; jobs.unbounded_send(Job { server, order }).is_ok());
+    let job = Job {
+        server,
+        work: Work::Fetch(order),
+    };
+    assert!(rt; jobs.unbounded_send(job).is_ok());
     drop(jobs);
     let origin = thread::spawn(&rt, move || origin::serve(rt, alloc, listener, 1))?;
     let mut rules = fetch_rules(alloc, 1000)?;
@@ -198,13 +213,13 @@ fn a_server_that_is_not_admitted(rt: HostRuntime) -> Result<(), Fail> {
         work,
         &mut seat,
         rules,
-        fetch_limits(10, Duration::from_millis(500)),
+        fetch_limits(10, Duration::from_secs(4)),
     )?;
     drop((refused, taken));
     assert_eq!(rt; seat.all.len(), 2);
     for done in &seat.all {
         assert_eq!(rt; matches!(done.end, FetchEnd::Refused), done.fetch == 0);
-        assert_eq!(rt; page_of(done).is_some(), done.fetch == 1);
+        assert_eq!(rt; matches!(done.end, FetchEnd::Whole(_)), done.fetch == 1);
     }
     let _ = origin.join(&rt);
     Ok(())

@@ -1,7 +1,8 @@
 //! Tests of the network edge over loopback: `client_streams`, `object_body`, `fetch_chain`, `http_clients`, `http_fetches` and
 //! `name_lookup`, against clients and origin servers on plain sockets. Nothing here has a contract that another crate uses.
 //!
-//! Tested by: src/administration.rt, src/budget.rt, src/fetches.rt, src/names.rt, src/path.rt, src/seats.rt, src/servers.rt, src/told.rt.
+//! Tested by: src/administration.rt, src/budget.rt, src/fetches.rt, src/names.rt, src/passages.rt, src/path.rt, src/seats.rt,
+//! src/servers.rt, src/shapes.rt, src/told.rt, src/tunnels.rt.
 #![tactic(auto)]
 
 #[cfg(test)]
@@ -19,10 +20,16 @@ mod names;
 #[cfg(test)]
 mod origin;
 #[cfg(test)]
+mod passages;
+#[cfg(test)]
 mod path;
 #[cfg(test)]
 mod seats;
 #[cfg(test)]
 mod servers;
 #[cfg(test)]
+mod shapes;
+#[cfg(test)]
 mod told;
+#[cfg(test)]
+mod tunnels;

@@ -10,14 +10,14 @@ use std::net::SocketAddr;
 use std::sync::Arc;
 use std::time::Duration;
 
-/// Limits of a server that are short enough for a test to wait until they pass.
+/// Limits of a server that are short enough for a test to wait until they pass, and long beside what a busy machine takes for a step.
 pub(crate) fn serve_limits() -> ServeLimits {
     ServeLimits {
         still: StreamTimeouts {
-            idle: Duration::from_millis(600),
-            head: Duration::from_millis(300),
-            content: Duration::from_millis(300),
-            taking: Duration::from_millis(600),
+            idle: Duration::from_millis(900),
+            head: Duration::from_millis(1200),
+            content: Duration::from_millis(1200),
+            taking: Duration::from_millis(3000),
         },
         connections: client_limits(64, 64),
         grace: Duration::from_millis(200),

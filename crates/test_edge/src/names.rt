@@ -244,8 +244,8 @@ fn names_are_looked_up(rt: HostRuntime) -> Result<(), Fail> {
         let Ok(Some(job)) = work.try_next() else {
             panic!(rt; "no job");
         };
-        let Job { server, order } = job;
-        drop(order);
+        let Job { server, work } = job;
+        drop(work);
         assert_eq!(rt; address_of(alloc, server)?.as_str(), wanted);
     }
     assert!(rt; matches!(other.try_next(), Ok(None)));

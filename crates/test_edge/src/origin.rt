@@ -37,6 +37,8 @@ fn text_for(target: &str) -> &'static [u8] {
         "/many" => b"HTTP/1.1 200 OK\r\nContent-Length: 10\r\n\r\nhellohello",
         "/more" => b"HTTP/1.1 200 OK\r\nContent-Length: 11\r\n\r\nhellohello!",
         "/upgrade" => b"HTTP/1.1 101 Switching Protocols\r\n\r\n",
+        "/half" => b"HTTP/1.1 200 OK\r\nContent-Len",
+        "/mail" => b"220 origin ESMTP\r\n",
         "/minute" => {
             b"HTTP/1.1 200 OK\r\nContent-Length: 2\r\nCache-Control: max-age=60\r\n\r\nhi"
         }
@@ -44,7 +46,7 @@ fn text_for(target: &str) -> &'static [u8] {
     }
 }
 
-// Answers one request: `/never` not at all, `/slow` after 100 ms, `/drip` with an octet every 200 ms.
+// Answers one request: `/never` not at all, `/slow` after 100 ms, `/drip` with an octet every 800 ms.
 fn answer<R: Clock>(rt: &R, alloc: Global, socket: TcpStream) -> io::Result<()> {
     let head = head_of(alloc, &socket)?;
     let target = head.as_str().split(' ').nth(1).unwrap_or("");
@@ -61,7 +63,7 @@ fn answer<R: Clock>(rt: &R, alloc: Global, socket: TcpStream) -> io::Result<()> 
         "/drip" => {
             (&socket).write_all(b"HTTP/1.1 200 OK\r\nContent-Length: 10\r\n\r\n")?;
             for _ in 0..9 {
-                thread::sleep(rt, Duration::from_millis(200));
+                thread::sleep(rt, Duration::from_millis(800));
                 (&socket).write_all(b"x")?;
             }
             Ok(())

@@ -12,7 +12,8 @@ use futures::channel::{mpsc, oneshot};
 use http_clients::serve_clients;
 use http_fetches::{FetchLimits, run_fetches};
 use http_traffic::{
-    Asked, Asking, FetchEnd, Fetched, Forward, Front, Job, Order, Outcome, Supplier, Told,
+    Asked, Asking, FetchEnd, Fetched, FollowUp, Forward, Front, Job, Order, Outcome, PassOn,
+    Supplier, Told,
 };
 use name_lookup::{NameDesk, NameLimits, hand_over, open_names};
 use object_store::{Object, SharedObject};
@@ -106,7 +107,9 @@ impl<R: Wait + Clock + Copy> Front for Asks<R> {
     fn ask_alone(&mut self, _asked: &Asked) -> Result<Asking, u16> {
         Err(503)
     }
+}
 
+impl<R: Wait + Clock + Copy> FollowUp for Asks<R> {
     fn gone(&mut self, _client: u64) {}
 
     fn answered(&mut self) {
@@ -121,6 +124,8 @@ impl<R: Wait + Clock + Copy> Front for Asks<R> {
     fn tell(&mut self, _told: &Told<'_>) {}
 }
 
+impl<R: Wait + Clock + Copy> PassOn for Asks<R> {}
+
 // Stores the fetched object in the table, and answers the client.
 #[derive(Drop)]
 struct Puts<R> {
@@ -134,7 +139,7 @@ impl<R: Wait + Copy> Submit<Fetched> for Puts<R> {
         let mut table = self.table.lock(&self.rt);
         let answer = match done.end {
             FetchEnd::Whole(page) => object_of(self.alloc, page.status, page.body),
-            FetchEnd::Refused | FetchEnd::Failed => None,
+            FetchEnd::Refused | FetchEnd::Failed(_) => None,
         };
         if let Some(waiting) = table.waiting.take() {
             let _ = match answer {

@@ -24,8 +24,8 @@ struct Step(usize, &'static [u8], Seen);
 // Limits in whose time nobody is too slow.
 fn patient_limits(connections: ClientLimits) -> ServeLimits {
     let mut limits = serve_limits();
-    limits.still.idle = Duration::from_secs(20);
-    limits.still.head = Duration::from_secs(20);
+    limits.still.idle = Duration::from_secs(50);
+    limits.still.head = Duration::from_secs(50);
     limits.connections = connections;
     limits
 }
@@ -40,7 +40,7 @@ fn take_steps<R: Net>(rt: &R, alloc: Global, server: SocketAddr, steps: &[Step])
         let Some(socket) = sockets.get_mut(*connection) else {
             return Err(io::Error::other("a step leaves out a connection"));
         };
-        let millis = if *wanted == Silent { 400 } else { 5_000 };
+        let millis = if *wanted == Silent { 400 } else { 15_000 };
         let limit = Duration::from_millis(millis);
         if seen_after(socket, octets, limit) != *wanted {
             return Err(io::Error::other("something else is seen"));

@@ -5,7 +5,7 @@ use client_streams::{Accept, AcceptedClients, Patient, Refusal, SharedStage, Sto
 use crossbeam_channel::{Sender, unbounded};
 use futures::channel::oneshot;
 use http_clients::serve_clients;
-use http_traffic::{Asked, Asking, Forward, Front, How, Outcome, Supplier, Told};
+use http_traffic::{Asked, Asking, FollowUp, Forward, Front, How, Outcome, PassOn, Supplier, Told};
 use object_store::{Object, SharedObject};
 use std::alloc::{AllocError, AllocGlobal, Global};
 use std::net::{Ipv4Addr, Net, SocketAddr, SocketAddrV4};
@@ -150,7 +150,9 @@ impl<R: Wait + AllocGlobal + Copy> Front for Script<R> {
             target => self.accept(target, Forward::Bypass),
         }
     }
+}
 
+impl<R: Wait + AllocGlobal + Copy> FollowUp for Script<R> {
     fn gone(&mut self, client: u64) {
         self.gone.store(client, Ordering::SeqCst);
     }
@@ -178,6 +180,8 @@ impl<R: Wait + AllocGlobal + Copy> Front for Script<R> {
         }
     }
 }
+
+impl<R: Wait + AllocGlobal + Copy> PassOn for Script<R> {}
 
 /// What ends a server, and the two senders of it.
 pub(crate) fn new_stops(
@@ -421,7 +425,11 @@ fn clients_are_answered(rt: HostRuntime) -> Result<(), Fail> {
         let got = exchange(&rt, alloc, server_address, sent)?;
         compare(&rt, alloc, got.as_slice(), wanted.as_slice(), unwanted)?;
     }
-    thread::sleep(&rt, Duration::from_millis(200));
+    for _ in 0..1_000 {
+        if left.load(Ordering::SeqCst) != 12 {
+            thread::sleep(&rt, Duration::from_millis(10));
+        }
+    }
     assert_eq!(rt; left.load(Ordering::SeqCst), 12);
     assert!(rt; comes_whole(&rt, alloc, server_address)?);
     assert!(rt; silent_ones_are_ended(&rt, server_address)?);
@@ -442,6 +450,8 @@ struct Refusing<R> {
 
 impl<R: Clock + Copy> Accept for Refusing<R> {
     type Serving = Refusal<R>;
+
+    fn opened(&mut self) {}
 
     fn has_seat(&self, _: SocketAddr) -> bool {
         false

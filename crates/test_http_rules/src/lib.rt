@@ -4,10 +4,24 @@
 #![tactic(auto)]
 
 #[cfg(test)]
+mod conditions;
+#[cfg(test)]
 mod doors;
 #[cfg(test)]
+mod freshness;
+#[cfg(test)]
+mod freshness_keys;
+#[cfg(test)]
 mod heads;
+#[cfg(test)]
+mod passing;
+#[cfg(test)]
+mod passing_keys;
+#[cfg(test)]
+mod plain;
 #[cfg(test)]
 mod rules;
 #[cfg(test)]
 mod settings;
+#[cfg(test)]
+mod validation;

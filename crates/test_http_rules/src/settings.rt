@@ -4,11 +4,11 @@ use serve_config::Settings;
 use std::alloc::Global;
 use std::test::Fail;
 
-const GOOD: &str =
+pub(crate) const GOOD: &str =
     r#"{"address": "127.0.0.1", "icp_port": 3130, "htcp_port": 4827, "http_port": 3128, "admin_port": 3129, "name": "a", "allowed": ["10.0.0.0/8"], "miss_nofetch": false, "origin": true, "entries": 1000, "octets": 1048576, "body_limit": 65536, "volume": 1024, "stop_after": 2, "keys": [{"name": "k", "secret": "0aFF"}], "neighbours": [{"kind": "parent", "protocol": "htcp", "address": "10.0.0.2", "query_port": 4827, "http_port": 3128, "weight": 7, "key": "k"}]}"#;
 
-// Parses the good configuration with `old` replaced by `new`; returns `read`, or the text of the fault.
-fn told(alloc: Global, old: &str, new: &str) -> Result<String, Fail> {
+/// Parses the good configuration with `old` replaced by `new`; returns `read`, or the text of the fault.
+pub(crate) fn told(alloc: Global, old: &str, new: &str) -> Result<String, Fail> {
     let text = GOOD.replace(alloc, old, new)?;
     Ok(match Settings::read(alloc, text.as_bytes()) {
         Ok(_) => String::from_str(alloc, "read")?,
@@ -206,7 +206,7 @@ const UNREACHABLE: [(&str, &str, &str); 12] = [
 ];
 
 // The same, for the keys that bound and guard what clients and strangers can do.
-const GUARDS: [(&str, &str); 25] = [
+const GUARDS: [(&str, &str); 28] = [
     (r#""fetch_octets": 1"#, "read"),
     (r#""fetch_octets": 1073741824"#, "read"),
     (
@@ -216,6 +216,12 @@ const GUARDS: [(&str, &str); 25] = [
     (
         r#""fetch_octets": 1073741825"#,
         "config fault 3\nfetch_octets: 1073741825 is above 1073741824",
+    ),
+    (r#""shelf_octets": 0"#, "read"),
+    (r#""shelf_octets": 1073741824"#, "read"),
+    (
+        r#""shelf_octets": 1073741825"#,
+        "config fault 3\nshelf_octets: 1073741825 is above 1073741824",
     ),
     (r#""address_connections": 1"#, "read"),
     (r#""address_connections": 4096"#, "read"),
@@ -279,8 +285,8 @@ const GUARDS: [(&str, &str); 25] = [
     ),
 ];
 
-// Parses the good configuration with one more key.
-fn told_with(alloc: Global, key: &str) -> Result<String, Fail> {
+/// Parses the good configuration with one more key.
+pub(crate) fn told_with(alloc: Global, key: &str) -> Result<String, Fail> {
     let new = format!(in alloc; "{key}, \"volume\"")?;
     told(alloc, r#""volume""#, new.as_str())
 }
@@ -319,7 +325,7 @@ fn what_is_left_out_is_none(rt: HostRuntime) -> Result<(), Fail> {
     let settings = Settings::read(rt.alloc(), GOOD.as_bytes())?;
     assert!(rt; settings.fetch_octets.is_none() && settings.address_connections.is_none());
     assert!(rt; settings.deny_origins.is_none() && settings.origin_ports.is_none());
-    assert!(rt; settings.admin_token.is_none());
+    assert!(rt; settings.admin_token.is_none() && settings.shelf_octets.is_none());
     Ok(())
 }
 

@@ -81,8 +81,41 @@ fn take_again(
     hand_in(alloc, booked, given, out).map_err(|_| Trouble::Twice)
 }
 
-/// Hands a line's input to a book. If that fails, checks that the book is unchanged, and tries again.
+/// Hands an input to a book whose node agrees with `node`. If that fails, checks that the book is unchanged, and tries again.
+fn take_or_again(
+    alloc: Global,
+    booked: &mut Booked,
+    node: &Node,
+    given: &Given,
+    needs_some: bool,
+    out: &mut Out,
+) -> Result<Receipt, Trouble> {
+    let (count, kept) = counts_of(booked);
+    match hand_in(alloc, booked, given, out) {
+        Ok(receipt) => Ok(receipt),
+        Err(fault) => {
+            is_due(fault, needs_some)?;
+            take_again(alloc, booked, (node, count, kept), given, out)
+        }
+    }
+}
+
+/// The same, with a copy of the node made before.
 fn take_at_last(
+    alloc: Global,
+    booked: &mut Booked,
+    given: &Given,
+    needs_some: bool,
+    out: &mut Out,
+) -> Result<Receipt, Trouble> {
+    let node = copy_of(alloc, booked.node())?;
+    let receipt = take_or_again(alloc, booked, &node, given, needs_some, out);
+    drop(node);
+    receipt
+}
+
+/// Hands a line's input to a book.
+fn take_line(
     alloc: Global,
     booked: &mut Booked,
     line: &Line,
@@ -90,15 +123,9 @@ fn take_at_last(
     out: &mut Out,
 ) -> Result<Receipt, Trouble> {
     let given = made(|| given_for(alloc, line, booked.node().programs(), way))?;
-    let node = copy_of(alloc, booked.node())?;
-    let (count, kept) = counts_of(booked);
-    match hand_in(alloc, booked, &given, out) {
-        Ok(receipt) => Ok(receipt),
-        Err(fault) => {
-            is_due(fault, needs_some(line, &given))?;
-            take_again(alloc, booked, (&node, count, kept), &given, out)
-        }
-    }
+    let receipt = take_at_last(alloc, booked, &given, needs_some(line, &given), out);
+    drop(given);
+    receipt
 }
 
 /// Turns a book if it is full; turning needs no memory.
@@ -111,19 +138,58 @@ fn turn_if_full(alloc: Global, booked: &mut Booked) -> Result<(), Trouble> {
     counted(booked.count() == count && booked.base() == count && booked.entries().is_empty())
 }
 
-/// Runs a scenario by a book, which is turned when full, and compares its actions with these tallies.
-pub fn by_take(alloc: Global, story: &Story, tallies: &[Tally], way: Way) -> Result<(), Trouble> {
-    let mut booked = made(|| book_of(alloc, story))?;
-    let mut out = room(alloc)?;
+/// Hands a line to a book, which is turned when full, after so many others, and compares its actions and its receipt with this tally.
+fn take_told(
+    alloc: Global,
+    booked: &mut Booked,
+    told: (&Line, &Tally, u64),
+    way: Way,
+    out: &mut Out,
+) -> Result<(), Trouble> {
+    let (line, tally, number) = told;
+    turn_if_full(alloc, booked)?;
+    let receipt = take_line(alloc, booked, line, way, out)?;
+    if out.tally() != *tally {
+        return Err(Trouble::Actions);
+    }
+    counted(receipt.number == number && receipt.tally == *tally && booked.has(&receipt))
+}
+
+/// Hands the lines of a scenario to a book.
+fn take_lines(
+    alloc: Global,
+    booked: &mut Booked,
+    story: &Story,
+    tallies: &[Tally],
+    way: Way,
+    out: &mut Out,
+) -> Result<(), Trouble> {
     let mut number = 0u64;
-    for (line, tally) in story.lines.iter().zip(tallies) {
-        turn_if_full(alloc, &mut booked)?;
-        let receipt = take_at_last(alloc, &mut booked, line, way, &mut out)?;
-        if out.tally() != *tally {
-            return Err(Trouble::Actions);
-        }
-        counted(receipt.number == number && receipt.tally == *tally && booked.has(&receipt))?;
+    for told in story.lines.iter().zip(tallies) {
+        take_told(alloc, booked, (told.0, told.1, number), way, out)?;
         number = number.saturating_add(1);
     }
     counted(booked.count() == number)
+}
+
+/// The same, with a buffer.
+fn take_story(
+    alloc: Global,
+    booked: &mut Booked,
+    story: &Story,
+    tallies: &[Tally],
+    way: Way,
+) -> Result<(), Trouble> {
+    let mut out = room(alloc)?;
+    let ended = take_lines(alloc, booked, story, tallies, way, &mut out);
+    drop(out);
+    ended
+}
+
+/// Runs a scenario by a book, which is turned when full, and compares its actions with these tallies.
+pub fn by_take(alloc: Global, story: &Story, tallies: &[Tally], way: Way) -> Result<(), Trouble> {
+    let mut booked = made(|| book_of(alloc, story))?;
+    let ended = take_story(alloc, &mut booked, story, tallies, way);
+    drop(booked);
+    ended
 }

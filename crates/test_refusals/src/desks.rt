@@ -22,12 +22,20 @@ struct View {
     is_fetching: bool,
 }
 
+/// Whether fetch 1 is under way, or `None` when out of memory.
+fn is_fetching<L: Ledger, R: Wait>(rt: &R, desk: &Desk<L>) -> Option<bool> {
+    let key = desk.key_of(rt, 1).ok()?;
+    Some(key.is_some())
+}
+
 /// A snapshot of a desk, or `None` when out of memory.
 fn shown<L: Ledger, R: Wait>(rt: &R, alloc: Global, desk: &Desk<L>) -> Option<View> {
+    let is_fetching = is_fetching(rt, desk)?;
+    let neighbours = desk.neighbours(rt, alloc).ok()?;
     Some(View {
         stats: desk.stats(rt),
-        neighbours: desk.neighbours(rt, alloc).ok()?,
-        is_fetching: desk.key_of(rt, 1).ok()?.is_some(),
+        neighbours,
+        is_fetching,
     })
 }
 
@@ -68,7 +76,50 @@ fn hand_in<L: Ledger, R: Wait>(
     }
 }
 
-/// Submits an input by a seat. If that fails, checks that desk and seat are unchanged, and tries again.
+/// Checks that a desk and a seat that refused an input are unchanged.
+fn is_unchanged<L: Ledger, R: Wait>(
+    rt: &R,
+    alloc: Global,
+    desk: &Desk<L>,
+    before: &View,
+    out: &Out,
+) -> Result<(), Trouble> {
+    let after = shown_at_last(rt, alloc, desk)?;
+    let is_same = is_same(before, &after);
+    drop(after);
+    if is_same && out.actions().is_empty() {
+        return Ok(());
+    }
+    Err(Trouble::Changed)
+}
+
+/// Submits an input by a seat of a desk that looks like `before`. If that fails, checks that desk and seat are unchanged, and
+/// tries again.
+fn submit_or_again<L: Ledger, R: Wait>(
+    rt: &R,
+    alloc: Global,
+    desk: &Desk<L>,
+    before: &View,
+    seat: &mut Seat<L>,
+    given: &Given,
+    is_needless: bool,
+    out: &mut Out,
+) -> Result<u64, Trouble> {
+    let receipts = seat.len();
+    if let Ok(number) = hand_in(rt, alloc, desk, seat, given, out) {
+        return Ok(number);
+    }
+    if is_needless {
+        return Err(Trouble::NeedsNone);
+    }
+    if seat.len() != receipts {
+        return Err(Trouble::Changed);
+    }
+    is_unchanged(rt, alloc, desk, before, out)?;
+    hand_in(rt, alloc, desk, seat, given, out).map_err(|_| Trouble::Twice)
+}
+
+/// The same, with a snapshot made before.
 fn submit_at_last<L: Ledger, R: Wait>(
     rt: &R,
     alloc: Global,
@@ -78,18 +129,10 @@ fn submit_at_last<L: Ledger, R: Wait>(
     is_needless: bool,
     out: &mut Out,
 ) -> Result<u64, Trouble> {
-    let (before, receipts) = (shown_at_last(rt, alloc, desk)?, seat.len());
-    if let Ok(number) = hand_in(rt, alloc, desk, seat, given, out) {
-        return Ok(number);
-    }
-    if is_needless {
-        return Err(Trouble::NeedsNone);
-    }
-    let is_same = seat.len() == receipts && is_same(&before, &shown_at_last(rt, alloc, desk)?);
-    if !is_same || !out.actions().is_empty() {
-        return Err(Trouble::Changed);
-    }
-    hand_in(rt, alloc, desk, seat, given, out).map_err(|_| Trouble::Twice)
+    let before = shown_at_last(rt, alloc, desk)?;
+    let number = submit_or_again(rt, alloc, desk, &before, seat, given, is_needless, out);
+    drop(before);
+    number
 }
 
 /// The programs in force at a desk.
@@ -97,7 +140,75 @@ fn programs_of<L: Ledger, R: Wait>(rt: &R, desk: &Desk<L>) -> Result<Slots, Trou
     desk.programs(rt).map_err(|_| Trouble::Twice)
 }
 
-/// Submits a scenario by one seat, and compares its actions with these tallies. Returns the number of events taken.
+/// The input for a line, by the programs in force at a desk.
+fn given_at<L: Ledger, R: Wait>(
+    rt: &R,
+    alloc: Global,
+    desk: &Desk<L>,
+    line: &Line,
+    way: Way,
+) -> Result<Given, Trouble> {
+    let programs = programs_of(rt, desk)?;
+    let given = made(|| given_for(alloc, line, &programs, way));
+    drop(programs);
+    given
+}
+
+/// Submits a line by a seat.
+fn submit_line<L: Ledger, R: Wait>(
+    rt: &R,
+    alloc: Global,
+    desk: &Desk<L>,
+    seat: &mut Seat<L>,
+    line: &Line,
+    way: Way,
+    out: &mut Out,
+) -> Result<u64, Trouble> {
+    let given = given_at(rt, alloc, desk, line, way)?;
+    let is_needless = !needs_some(line, &given);
+    let number = submit_at_last(rt, alloc, desk, seat, &given, is_needless, out);
+    drop(given);
+    number
+}
+
+/// Submits a line by a seat after so many others, and compares its actions with this tally.
+fn submit_told<L: Ledger, R: Wait>(
+    rt: &R,
+    alloc: Global,
+    desk: &Desk<L>,
+    seat: &mut Seat<L>,
+    told: (&Line, &Tally, u64),
+    way: Way,
+    out: &mut Out,
+) -> Result<(), Trouble> {
+    let (line, tally, count) = told;
+    let number = submit_line(rt, alloc, desk, seat, line, way, out)?;
+    if out.tally() != *tally {
+        return Err(Trouble::Actions);
+    }
+    counted(number == count)
+}
+
+/// Submits these lines by one seat, and compares their actions with these tallies. Returns the number of events taken.
+fn submit_lines<L: Ledger, R: Wait>(
+    rt: &R,
+    alloc: Global,
+    desk: &Desk<L>,
+    seat: &mut Seat<L>,
+    lines: &[Line],
+    tallies: &[Tally],
+    way: Way,
+    out: &mut Out,
+) -> Result<u64, Trouble> {
+    let mut count = 0u64;
+    for told in lines.iter().zip(tallies) {
+        submit_told(rt, alloc, desk, seat, (told.0, told.1, count), way, out)?;
+        count = count.saturating_add(1);
+    }
+    Ok(count)
+}
+
+/// The same, with a buffer.
 fn submitted<L: Ledger, R: Wait>(
     rt: &R,
     alloc: Global,
@@ -108,19 +219,9 @@ fn submitted<L: Ledger, R: Wait>(
     way: Way,
 ) -> Result<u64, Trouble> {
     let mut out = room(alloc)?;
-    let mut count = 0u64;
-    for (line, tally) in lines.iter().zip(tallies) {
-        let programs = programs_of(rt, desk)?;
-        let given = made(|| given_for(alloc, line, &programs, way))?;
-        let is_needless = !needs_some(line, &given);
-        let number = submit_at_last(rt, alloc, desk, seat, &given, is_needless, &mut out)?;
-        if out.tally() != *tally {
-            return Err(Trouble::Actions);
-        }
-        counted(number == count)?;
-        count = count.saturating_add(1);
-    }
-    Ok(count)
+    let count = submit_lines(rt, alloc, desk, seat, lines, tallies, way, &mut out);
+    drop(out);
+    count
 }
 
 /// The desk of a scenario and its one seat, or `None` when out of memory.
@@ -147,6 +248,51 @@ fn book_at_last(alloc: Global, story: &Story) -> Result<Booked, Trouble>
     book_of(alloc, story).ok_or(Trouble::Twice)
 }
 
+/// Whether a report accounts for this many events.
+fn is_whole(report: &Report, count: u64) -> bool {
+    report.count == count && report.base.checked_add(report.matched) == Some(count)
+}
+
+/// Settles the book of a desk at which so many events were submitted.
+fn settled<L: Ledger>(desk: Desk<L>, seats: Vec<Seat<L>>, count: u64) -> Result<(), Trouble> {
+    match desk.settle(seats) {
+        Ok(report) => counted(is_whole(&report, count)),
+        Err(_) => Err(Trouble::Book),
+    }
+}
+
+/// Submits a scenario by the first of these seats.
+fn submitted_by_first<L: Ledger, R: Wait>(
+    rt: &R,
+    alloc: Global,
+    desk: &Desk<L>,
+    seats: &mut [Seat<L>],
+    story: &Story,
+    tallies: &[Tally],
+    way: Way,
+) -> Result<u64, Trouble> {
+    match seats.first_mut() {
+        Some(seat) => submitted(rt, alloc, desk, seat, story.lines, tallies, way),
+        None => Err(Trouble::Book),
+    }
+}
+
+/// Submits a scenario by the one seat of a desk, and settles its book.
+fn submit_and_settle<L: Ledger, R: Wait>(
+    rt: &R,
+    alloc: Global,
+    desk: Desk<L>,
+    mut seats: Vec<Seat<L>>,
+    story: &Story,
+    tallies: &[Tally],
+    way: Way,
+) -> Result<(), Trouble> {
+    let submitted = submitted_by_first(rt, alloc, &desk, &mut seats, story, tallies, way);
+    let settled = settled(desk, seats, submitted.unwrap_or(0));
+    submitted?;
+    settled
+}
+
 /// Runs a scenario at a desk with one seat, and settles its book at the end. Returns `false` if the desk could not be opened
 /// for lack of memory.
 pub fn by_submit<L: Ledger, R: Wait>(
@@ -162,23 +308,11 @@ pub fn by_submit<L: Ledger, R: Wait>(
     requires one { blank.parts ≡ 1 }
 {
     let booked = book_at_last(alloc, story)?;
-    let Some((desk, mut seats)) = desk_of::<L>(alloc, blank, booked) else {
-        return Ok(false);
-    };
-    let Some(mut seat) = seats.pop() else {
-        return Err(Trouble::Book);
-    };
-    let count = submitted(rt, alloc, &desk, &mut seat, story.lines, tallies, way)?;
-    if seats.push(seat).is_err() {
-        return Err(Trouble::Book);
+    match desk_of::<L>(alloc, blank, booked) {
+        Some((desk, seats)) => {
+            submit_and_settle(rt, alloc, desk, seats, story, tallies, way)?;
+            Ok(true)
+        }
+        None => Ok(false),
     }
-    match desk.settle(seats) {
-        Ok(report) if is_whole(report, count) => Ok(true),
-        _ => Err(Trouble::Book),
-    }
-}
-
-/// Whether a report accounts for this many events.
-fn is_whole(report: Report, count: u64) -> bool {
-    report.count == count && report.base.checked_add(report.matched) == Some(count)
 }

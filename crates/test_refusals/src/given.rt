@@ -7,7 +7,7 @@ use std::alloc::Global;
 use std::sync::Arc;
 
 /// How inputs are handed in.
-#[derive(Clone, Copy, PartialEq, Eq)]
+#[derive(Clone, Copy)]
 pub enum Way {
     /// All as events.
     Events,
@@ -24,27 +24,35 @@ pub enum Given {
     Judged(Judged, Moment),
 }
 
-/// A line's datagram judged by these programs.
-fn judged(alloc: Global, line: &Line, programs: &Slots) -> Option<Option<Judged>> {
-    match line.1 {
-        What::Comes(socket, last, octets) => {
-            let datagram = datagram_of(alloc, socket, last, octets)?;
-            Some(Some(programs.judge(datagram).ok()?))
-        }
-        _ => Some(None),
-    }
+/// The event of a line.
+fn event_for(alloc: Global, line: &Line) -> Option<Given> {
+    let event = event_of(alloc, line)?;
+    Some(Given::Event(Arc::new(alloc, event).ok()?))
+}
+
+/// A line's datagram judged by these programs, or another event.
+fn judged_for(alloc: Global, line: &Line, programs: &Slots) -> Option<Given> {
+    let What::Comes(socket, last, octets) = line.1 else {
+        return event_for(alloc, line);
+    };
+    let now = Moment::new(line.0)?;
+    let datagram = datagram_of(alloc, socket, last, octets)?;
+    Some(Given::Judged(programs.judge(datagram).ok()?, now))
+}
+
+/// The same by no program.
+fn judged_by_none(alloc: Global, line: &Line) -> Option<Given> {
+    let none = Slots::new(&[])?;
+    let given = judged_for(alloc, line, &none);
+    drop(none);
+    given
 }
 
 /// The input for a line in this way, given the programs in force; `None` when out of memory.
 pub fn given_for(alloc: Global, line: &Line, programs: &Slots, way: Way) -> Option<Given> {
-    let now = Moment::new(line.0)?;
-    let judged = match way {
-        Way::Events => None,
-        Way::Judged => judged(alloc, line, programs)?,
-        Way::Blind => judged(alloc, line, &Slots::new(&[])?)?,
-    };
-    match judged {
-        Some(judged) => Some(Given::Judged(judged, now)),
-        None => Some(Given::Event(Arc::new(alloc, event_of(alloc, line)?).ok()?)),
+    match way {
+        Way::Events => event_for(alloc, line),
+        Way::Judged => judged_for(alloc, line, programs),
+        Way::Blind => judged_by_none(alloc, line),
     }
 }

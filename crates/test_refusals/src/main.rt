@@ -52,9 +52,9 @@ fn tell_all<R: Wait + AllocGlobal>(rt: &R, story: &Story) -> Result<(), Trouble>
     let alloc = rt.alloc();
     let tallies = by_step(alloc, story)?;
     by_list(alloc, story, &tallies)?;
-    for way in [Way::Events, Way::Judged, Way::Blind] {
-        by_take(alloc, story, &tallies, way)?;
-        tell(rt, story, &tallies, way)?;
+    for way in &[Way::Events, Way::Judged, Way::Blind] {
+        by_take(alloc, story, &tallies, *way)?;
+        tell(rt, story, &tallies, *way)?;
     }
     Ok(())
 }

@@ -30,7 +30,7 @@ fn end_of(socket: Socket, last: u8) -> End {
 /// The name of the signing key, if the neighbour has it.
 fn key_name(alloc: Global, is_signed: bool) -> Option<Option<Octets>> {
     if is_signed {
-        return Some(Some(Octets::new(b"k".to_vec(alloc).ok()?)));
+        return Some(Some(octets_of(alloc, b"k")?));
     }
     Some(None)
 }
@@ -54,13 +54,21 @@ fn neighbours_of(alloc: Global, story: &Story) -> Option<Vec<Neighbour>> {
     Some(neighbours)
 }
 
+fn octets_of(alloc: Global, text: &[u8]) -> Option<Octets> {
+    Some(Octets::new(text.to_vec(alloc).ok()?))
+}
+
 /// The only signing key.
+fn key_of(alloc: Global) -> Option<Key> {
+    let name = octets_of(alloc, b"k")?;
+    let secret = octets_of(alloc, b"secret")?;
+    Some(Key { name, secret })
+}
+
+/// The signing keys: one.
 fn keys_of(alloc: Global) -> Option<Vec<Key>> {
+    let key = key_of(alloc)?;
     let mut keys = Vec::new(alloc);
-    let key = Key {
-        name: Octets::new(b"k".to_vec(alloc).ok()?),
-        secret: Octets::new(b"secret".to_vec(alloc).ok()?),
-    };
     keys.push(key).ok()?;
     Some(keys)
 }
@@ -144,20 +152,26 @@ fn ended(attempt: u16, outcome: Outcome, now: Moment) -> Event {
     }
 }
 
+/// The end of an attempt of fetch 1 with an object.
+fn given(alloc: Global, attempt: u16, status: u16, life: u32, now: Moment) -> Option<Event> {
+    let object = object_of(alloc, status, life)?;
+    Some(ended(attempt, Outcome::Object(object), now))
+}
+
+fn arrival(alloc: Global, socket: Socket, last: u8, octets: &str, now: Moment) -> Option<Event> {
+    let datagram = datagram_of(alloc, socket, last, octets)?;
+    Some(Event::Datagram { datagram, now })
+}
+
 /// The event of a line.
 pub fn event_of(alloc: Global, line: &Line) -> Option<Event> {
     let now = Moment::new(line.0)?;
     match line.1 {
-        What::Comes(socket, last, octets) => Some(Event::Datagram {
-            datagram: datagram_of(alloc, socket, last, octets)?,
-            now,
-        }),
+        What::Comes(socket, last, octets) => arrival(alloc, socket, last, octets, now),
         What::Asks(client, mode) => request_of(alloc, client, mode, now),
         What::Ticks => Some(Event::Timer { now }),
-        What::Gives(life) => Some(ended(0, Outcome::Object(object_of(alloc, 200, life)?), now)),
-        What::Lacks(attempt) => {
-            Some(ended(attempt, Outcome::Object(object_of(alloc, 504, 0)?), now))
-        }
+        What::Gives(life) => given(alloc, 0, 200, life, now),
+        What::Lacks(attempt) => given(alloc, attempt, 504, 0, now),
         What::Fails(attempt) => Some(ended(attempt, Outcome::Failed, now)),
         What::Leaves(client) => Some(Event::Gone { client }),
         What::Lets(slot, k) => swap_of(alloc, slot, k),

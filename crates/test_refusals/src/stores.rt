@@ -3,6 +3,7 @@ use crate::trouble::{Trouble, made};
 use filter_slots::Moment;
 use object_store::{CacheKey, Entry, Object, PutFault, SharedObject, Store, same_object};
 use std::alloc::Global;
+use std::mem::replace;
 
 /// Keys and body lengths of three pages; with their keys these are 60, 30 and 50 octets.
 const PAGES: [(&[u8], usize); 3] = [(b"http://a/", 51), (b"http://b/", 21), (b"http://c/", 41)];
@@ -88,27 +89,61 @@ fn refuses_large(alloc: Global, store: &mut Store) -> Result<(), Trouble> {
     }
 }
 
-/// Puts three pages into a store of 100 octets, which keeps the last two. Each page is put into a copy of the store first.
-pub fn by_put(alloc: Global) -> Result<(), Trouble> {
-    let mut store = made(|| Store::new(alloc, 10, 100).ok())?;
-    let mut held = [false; 3];
-    let afters = [
-        [true, false, false],
-        [true, true, false],
-        [false, true, true],
-    ];
-    for (page, after) in PAGES.iter().zip(afters) {
-        let mut copy = made(|| store.copy(alloc).ok())?;
-        put_at_last(alloc, &mut copy, *page, held)?;
-        if !holds(&store, held) || !holds(&copy, after) {
-            return Err(Trouble::Store);
-        }
-        store = copy;
-        held = after;
-    }
-    refuses_large(alloc, &mut store)?;
-    if holds(&store, held) {
+/// Puts a page into a copy of a store that holds these pages, and checks which pages both hold then.
+fn put_beside(
+    alloc: Global,
+    store: &Store,
+    copy: &mut Store,
+    page: (&[u8], usize),
+    held: [bool; 3],
+    after: [bool; 3],
+) -> Result<(), Trouble> {
+    put_at_last(alloc, copy, page, held)?;
+    if holds(store, held) && holds(copy, after) {
         return Ok(());
     }
     Err(Trouble::Store)
+}
+
+/// The same with a new copy, which replaces the store.
+fn put_in_copy(
+    alloc: Global,
+    store: &mut Store,
+    page: (&[u8], usize),
+    held: [bool; 3],
+    after: [bool; 3],
+) -> Result<(), Trouble> {
+    let mut copy = made(|| store.copy(alloc).ok())?;
+    let ended = put_beside(alloc, store, &mut copy, page, held, after);
+    drop(replace(store, copy));
+    ended
+}
+
+/// Which pages a store of 100 octets holds after each of them: the last two.
+const AFTERS: [[bool; 3]; 3] = [
+    [true, false, false],
+    [true, true, false],
+    [false, true, true],
+];
+
+/// Puts the pages into an empty store, and one that is too large.
+fn put_pages(alloc: Global, store: &mut Store) -> Result<(), Trouble> {
+    let mut held = [false; 3];
+    for (page, after) in PAGES.iter().zip(&AFTERS) {
+        put_in_copy(alloc, store, *page, held, *after)?;
+        held = *after;
+    }
+    refuses_large(alloc, store)?;
+    if holds(store, held) {
+        return Ok(());
+    }
+    Err(Trouble::Store)
+}
+
+/// Puts three pages into a store of 100 octets, which keeps the last two. Each page is put into a copy of the store first.
+pub fn by_put(alloc: Global) -> Result<(), Trouble> {
+    let mut store = made(|| Store::new(alloc, 10, 100).ok())?;
+    let ended = put_pages(alloc, &mut store);
+    drop(store);
+    ended
 }

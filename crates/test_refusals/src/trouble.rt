@@ -2,7 +2,7 @@
 use thiserror::Error;
 
 /// What a scenario found wrong.
-#[derive(Clone, Copy, Debug, PartialEq, Eq, Error)]
+#[derive(Clone, Copy, Debug, Error)]
 pub enum Trouble {
     /// Memory ran out twice in a row.
     #[error("no memory, twice in a row")]

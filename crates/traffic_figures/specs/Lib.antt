@@ -1,4 +1,5 @@
 pub mod Buckets
 pub mod Escapes
 pub mod Kinds
+pub mod Replies
 pub mod StatusClass

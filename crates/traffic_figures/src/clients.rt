@@ -1,15 +1,16 @@
-//! The figures of clients and fetches as JSON.
+//! The figures of clients and fetches as JSON, and those of a neighbour.
 
-use crate::figures::Snapshot;
+use crate::figures::{NeighbourCounts, Snapshot};
 use crate::kinds::{Course, FetchOutcome, StatusClass};
 use crate::lines::seconds_text;
 use crate::page::Page;
+use crate::replies::ReplyKind;
 use crate::times::{BOUNDS, Times, total};
 use json::Writer;
 use std::alloc::{AllocError, Global};
 
-/// The figures of clients and fetches as JSON: one line that ends in LF. What isn't known is `null`. Times are in seconds; the
-/// buckets count all times up to their bounds.
+/// The figures of clients and fetches as JSON: one line that ends in LF. What isn't known is `null`; numbers of what
+/// is passed on stand there only where something may be. Times are in seconds; the buckets count all times up to their bounds.
 ///
 /// It is written token by token, by the writer on which serde_json stands: serde_json gives a float as few digits as it needs, and
 /// sums of times have six decimals here.
@@ -25,11 +26,30 @@ pub fn clients_text(alloc: Global, page: &Page) -> Result<Vec<u8>, AllocError> {
     write_optional(&mut json, "connections", page.connections)?;
     write_optional(&mut json, "waiting", page.waiting)?;
     write_optional(&mut json, "fetching", page.fetching)?;
+    write_known(&mut json, "streams", page.streams)?;
+    write_known(&mut json, "tunnels", page.tunnels)?;
     write_log(&mut json, page)?;
     json.end_object()?;
     let mut text = json.into_inner();
     text.push(b'\n')?;
     Ok(text)
+}
+
+/// Writes what is counted of a neighbour, as the members `queries`, `replies` (by kind) and `fetches` (by outcome) of the object that
+/// is begun. Errors: out of memory.
+pub fn write_neighbour_counts(
+    json: &mut Writer,
+    counts: &NeighbourCounts,
+) -> Result<(), AllocError> {
+    write_count(json, "queries", counts.queries)?;
+    json.key("replies")?;
+    json.begin_object()?;
+    for kind in &ReplyKind::ALL {
+        write_count(json, kind.name(), counts.replies[kind.place()])?;
+    }
+    json.end_object()?;
+    json.key("fetches")?;
+    write_outcomes(json, &counts.fetches)
 }
 
 // A key and its number.
@@ -44,6 +64,14 @@ fn write_optional(json: &mut Writer, key: &str, count: Option<u64>) -> Result<()
     match count {
         Some(count) => json.u64(count),
         None => json.null(),
+    }
+}
+
+// A key and its number; nothing if there is none.
+fn write_known(json: &mut Writer, key: &str, count: Option<u64>) -> Result<(), AllocError> {
+    match count {
+        Some(count) => write_count(json, key, count),
+        None => Ok(()),
     }
 }
 

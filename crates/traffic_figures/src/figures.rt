@@ -1,6 +1,7 @@
 //! The counters that threads raise, and what they held when they were loaded, one after the other.
 
 use crate::kinds::{Course, FetchOutcome, FetchedFrom, StatusClass, class_of};
+use crate::replies::ReplyKind;
 use crate::times::{Histogram, Times, load_into};
 use std::alloc::{AllocError, Global};
 use std::array;
@@ -32,6 +33,48 @@ pub struct FetchNote {
     pub micros: Option<u64>,
 }
 
+// The counters of a neighbour.
+#[derive(Drop)]
+struct NeighbourCounters {
+    // By outcome.
+    fetches: [AtomicU64; 3],
+    queries: AtomicU64,
+    // By kind.
+    replies: [AtomicU64; 8],
+}
+
+impl NeighbourCounters {
+    fn new() -> NeighbourCounters {
+        NeighbourCounters {
+            fetches: zeros(),
+            queries: AtomicU64::new(0),
+            replies: zeros(),
+        }
+    }
+
+    fn load(&self) -> NeighbourCounts {
+        let mut counts = NeighbourCounts {
+            fetches: [0; 3],
+            queries: self.queries.load(Ordering::SeqCst),
+            replies: [0; 8],
+        };
+        load_into(&self.fetches, &mut counts.fetches);
+        load_into(&self.replies, &mut counts.replies);
+        counts
+    }
+}
+
+/// What the counters of a neighbour held.
+#[derive(Clone, Copy, Debug, PartialEq, Eq)]
+pub struct NeighbourCounts {
+    /// Fetches from it, by outcome (in the order of `FetchOutcome`).
+    pub fetches: [u64; 3],
+    /// Queries to it.
+    pub queries: u64,
+    /// Its replies, by kind (in the order of `ReplyKind`).
+    pub replies: [u64; 8],
+}
+
 /// The counters of a proxy since its start. Any thread raises them, without a lock; the threads share them in an `Arc`. A counter
 /// holds a number modulo 2^64.
 ///
@@ -50,8 +93,8 @@ pub struct Figures {
     hits: Histogram,
     forwarded: Histogram,
     fetched: Histogram,
-    // By place of the neighbour and outcome.
-    neighbours: Vec<[AtomicU64; 3]>,
+    // By place of the neighbour.
+    neighbours: Vec<NeighbourCounters>,
 }
 
 fn zeros<const N: usize>() -> [AtomicU64; N] {
@@ -63,7 +106,7 @@ impl Figures {
     pub fn new(alloc: Global, neighbours: usize) -> Result<Figures, AllocError> {
         let mut by_neighbour = Vec::with_capacity(alloc, neighbours)?;
         for _ in 0..neighbours {
-            by_neighbour.push(zeros())?;
+            by_neighbour.push(NeighbourCounters::new())?;
         }
         Ok(Figures {
             answers: [zeros(), zeros(), zeros(), zeros(), zeros()],
@@ -108,7 +151,7 @@ impl Figures {
         if let FetchedFrom::Neighbour(n) = fetch.from
             && let Some(counters) = self.neighbours.get(n)
         {
-            counters[outcome].fetch_add(1, Ordering::SeqCst);
+            counters.fetches[outcome].fetch_add(1, Ordering::SeqCst);
         }
         if fetch.outcome == FetchOutcome::Refused {
             return;
@@ -118,14 +161,33 @@ impl Figures {
         }
     }
 
-    /// What the counters hold. They are loaded one after the other: what threads count meanwhile may be in some of them.
-    pub fn snapshot(&self, alloc: Global) -> Result<Snapshot, AllocError> {
+    /// Counts a query to the neighbour at this place of the configuration, from 0. Where there is none, nothing is counted.
+    pub fn note_query(&self, neighbour: usize) {
+        if let Some(counters) = self.neighbours.get(neighbour) {
+            counters.queries.fetch_add(1, Ordering::SeqCst);
+        }
+    }
+
+    /// Counts a reply of the neighbour at this place of the configuration, from 0. Where there is none, nothing is counted.
+    pub fn note_reply(&self, neighbour: usize, kind: ReplyKind) {
+        if let Some(counters) = self.neighbours.get(neighbour) {
+            counters.replies[kind.place()].fetch_add(1, Ordering::SeqCst);
+        }
+    }
+
+    /// What the counters of each neighbour hold, in the order of the configuration. They are loaded one after the other. Errors: out
+    /// of memory.
+    pub fn by_neighbour(&self, alloc: Global) -> Result<Vec<NeighbourCounts>, AllocError> {
         let mut neighbours = Vec::with_capacity(alloc, self.neighbours.len())?;
         for counters in &self.neighbours {
-            let mut counts = [0; 3];
-            load_into(counters, &mut counts);
-            neighbours.push(counts)?;
+            neighbours.push(counters.load())?;
         }
+        Ok(neighbours)
+    }
+
+    /// What the counters hold. They are loaded one after the other: what threads count meanwhile may be in some of them.
+    pub fn snapshot(&self, alloc: Global) -> Result<Snapshot, AllocError> {
+        let neighbours = self.by_neighbour(alloc)?;
         let mut snapshot = Snapshot {
             answers: [[0; 6]; 5],
             content: [0; 5],
@@ -165,8 +227,8 @@ pub struct Snapshot {
     pub forwarded: Times,
     /// Of fetches.
     pub fetched: Times,
-    /// Fetches of each neighbour, by outcome.
-    pub neighbours: Vec<[u64; 3]>,
+    /// What is counted of each neighbour, in the order of the configuration.
+    pub neighbours: Vec<NeighbourCounts>,
 }
 
 impl Snapshot {

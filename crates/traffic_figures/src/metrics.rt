@@ -1,9 +1,10 @@
 //! The figures in the text format of Prometheus, version 0.0.4.
 
-use crate::figures::Snapshot;
+use crate::figures::{NeighbourCounts, Snapshot};
 use crate::kinds::{Course, FetchOutcome, StatusClass};
 use crate::lines::{Kind, put_family, put_histogram, put_one, put_sample, put_text, seconds_text};
 use crate::page::{NeighbourFigures, NeighbourState, Page, SocketFigures, Sockets};
+use crate::replies::ReplyKind;
 use std::alloc::{AllocError, Global};
 use std::net::Ipv4Addr;
 
@@ -55,6 +56,13 @@ fn put_program(out: &mut Vec<u8>, page: &Page) -> Result<(), AllocError> {
         Kind::Gauge,
         "Memory that the process holds.",
         page.resident,
+    )?;
+    put_one(
+        out,
+        "process_open_fds",
+        Kind::Gauge,
+        "Files and sockets that the process has open.",
+        page.open_files,
     )
 }
 
@@ -179,6 +187,7 @@ fn put_present(out: &mut Vec<u8>, page: &Page) -> Result<(), AllocError> {
         "Fetches under way.",
         page.fetching,
     )?;
+    put_passing(out, page)?;
     let Some(log) = page.log else {
         return Ok(());
     };
@@ -198,26 +207,43 @@ fn put_present(out: &mut Vec<u8>, page: &Page) -> Result<(), AllocError> {
     )
 }
 
+fn put_passing(out: &mut Vec<u8>, page: &Page) -> Result<(), AllocError> {
+    put_one(
+        out,
+        "wabretos_streams",
+        Kind::Gauge,
+        "Requests that are being passed on.",
+        page.streams,
+    )?;
+    put_one(
+        out,
+        "wabretos_tunnels",
+        Kind::Gauge,
+        "Open tunnels.",
+        page.tunnels,
+    )
+}
+
 fn put_node(out: &mut Vec<u8>, page: &Page) -> Result<(), AllocError> {
     put_one(
         out,
         "wabretos_stored_objects",
         Kind::Gauge,
-        "Stored objects.",
+        "Stored objects, those that are no longer fresh among them.",
         page.objects,
     )?;
     put_one(
         out,
         "wabretos_stored_bytes",
         Kind::Gauge,
-        "Content of the stored objects.",
+        "Stored objects and their keys.",
         page.stored,
     )?;
     put_one(
         out,
         "wabretos_evictions_total",
         Kind::Counter,
-        "Objects taken out of the store to make room.",
+        "Objects that had to make room for others in the store.",
         page.evictions,
     )?;
     put_one(
@@ -229,17 +255,17 @@ fn put_node(out: &mut Vec<u8>, page: &Page) -> Result<(), AllocError> {
     )?;
     put_one(
         out,
-        "wabretos_book_number",
-        Kind::Gauge,
-        "Number of the present volume of the log of events.",
-        page.book,
+        "wabretos_events_total",
+        Kind::Counter,
+        "Events that the node has taken: requests, clients that left, results of fetches, datagrams, ticks and filters.",
+        page.events,
     )?;
     put_one(
         out,
-        "wabretos_book_events",
+        "wabretos_book_first_event",
         Kind::Gauge,
-        "Events in the present volume of the log of events.",
-        page.events,
+        "Number, from 0, of the first event in the present volume of the log of events: so many were taken before it began.",
+        page.book,
     )
 }
 
@@ -285,12 +311,16 @@ struct Row {
     number: String,
     address: String,
     state: Option<NeighbourState>,
-    fetches: Option<[u64; 3]>,
+    counts: Option<NeighbourCounts>,
 }
 
 fn put_neighbours(out: &mut Vec<u8>, alloc: Global, page: &Page) -> Result<(), AllocError> {
     let rows = rows_of(alloc, page)?;
-    put_neighbour_fetches(out, &rows)?;
+    if rows.iter().any(|row| row.counts.is_some()) {
+        put_neighbour_fetches(out, &rows)?;
+        put_neighbour_queries(out, &rows)?;
+        put_neighbour_replies(out, &rows)?;
+    }
     for reading in &Reading::ALL {
         put_reading(out, alloc, &rows, *reading)?;
     }
@@ -304,7 +334,7 @@ fn rows_of(alloc: Global, page: &Page) -> Result<Vec<Row>, AllocError> {
             number: n.to_string(alloc)?,
             address: address_text(alloc, neighbour)?,
             state: neighbour.state,
-            fetches: page.figures.neighbours.get(n).copied(),
+            counts: page.figures.neighbours.get(n).copied(),
         })?;
     }
     Ok(rows)
@@ -320,9 +350,6 @@ fn address_text(alloc: Global, neighbour: &NeighbourFigures) -> Result<String, A
 
 fn put_neighbour_fetches(out: &mut Vec<u8>, rows: &[Row]) -> Result<(), AllocError> {
     let name = "wabretos_neighbour_fetches_total";
-    if !rows.iter().any(|row| row.fetches.is_some()) {
-        return Ok(());
-    }
     put_family(
         out,
         name,
@@ -330,8 +357,8 @@ fn put_neighbour_fetches(out: &mut Vec<u8>, rows: &[Row]) -> Result<(), AllocErr
         "Fetches from the neighbour that have ended, by outcome.",
     )?;
     for row in rows {
-        if let Some(counts) = &row.fetches {
-            put_row_fetches(out, name, row, counts)?;
+        if let Some(counts) = &row.counts {
+            put_row_fetches(out, name, row, &counts.fetches)?;
         }
     }
     Ok(())
@@ -350,6 +377,59 @@ fn put_row_fetches(
             ("outcome", outcome.name()),
         ];
         put_sample(out, name, &labels, counts[outcome.place()])?;
+    }
+    Ok(())
+}
+
+fn put_neighbour_queries(out: &mut Vec<u8>, rows: &[Row]) -> Result<(), AllocError> {
+    let name = "wabretos_neighbour_queries_total";
+    put_family(
+        out,
+        name,
+        Kind::Counter,
+        "Queries that were sent to the neighbour.",
+    )?;
+    for row in rows {
+        if let Some(counts) = &row.counts {
+            let labels = [
+                ("neighbour", row.number.as_str()),
+                ("address", row.address.as_str()),
+            ];
+            put_sample(out, name, &labels, counts.queries)?;
+        }
+    }
+    Ok(())
+}
+
+fn put_neighbour_replies(out: &mut Vec<u8>, rows: &[Row]) -> Result<(), AllocError> {
+    let name = "wabretos_neighbour_replies_total";
+    put_family(
+        out,
+        name,
+        Kind::Counter,
+        "Replies of the neighbour that the filters let through, by kind.",
+    )?;
+    for row in rows {
+        if let Some(counts) = &row.counts {
+            put_row_replies(out, name, row, &counts.replies)?;
+        }
+    }
+    Ok(())
+}
+
+fn put_row_replies(
+    out: &mut Vec<u8>,
+    name: &str,
+    row: &Row,
+    counts: &[u64; 8],
+) -> Result<(), AllocError> {
+    for kind in &ReplyKind::ALL {
+        let labels = [
+            ("neighbour", row.number.as_str()),
+            ("address", row.address.as_str()),
+            ("kind", kind.name()),
+        ];
+        put_sample(out, name, &labels, counts[kind.place()])?;
     }
     Ok(())
 }

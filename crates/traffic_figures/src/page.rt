@@ -70,6 +70,8 @@ pub struct Page {
     pub started: Option<u64>,
     /// Octets of memory that the program holds.
     pub resident: Option<u64>,
+    /// Files and sockets that the program has open.
+    pub open_files: Option<u64>,
     /// What the filters of the query sockets judged.
     pub sockets: Option<Sockets>,
     /// Each neighbour, in the order of the configuration.
@@ -80,17 +82,21 @@ pub struct Page {
     pub fetching: Option<u64>,
     /// Clients that wait for an answer.
     pub waiting: Option<u64>,
-    /// Stored objects.
+    /// Requests that are being passed on. `None` if none ever are.
+    pub streams: Option<u64>,
+    /// Open tunnels. `None` if there never are any.
+    pub tunnels: Option<u64>,
+    /// Stored objects, those that are no longer fresh among them.
     pub objects: Option<u64>,
-    /// Octets of the stored objects.
+    /// Octets of the stored objects and their keys.
     pub stored: Option<u64>,
-    /// Objects that were taken out of the store to make room, since the start.
+    /// Objects that had to make room for others in the store, since the start.
     pub evictions: Option<u64>,
     /// Filters installed and removed since the start.
     pub swaps: Option<u64>,
-    /// Number of the present volume of the log of events.
+    /// Events taken before the present volume of the log of events began.
     pub book: Option<u64>,
-    /// Events in the present volume of the log of events.
+    /// Events taken since the start.
     pub events: Option<u64>,
     /// The lines of the access log. `None` if there is none.
     pub log: Option<LogLines>,

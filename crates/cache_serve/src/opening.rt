@@ -1,0 +1,492 @@
+//! Starting the threads of a proxy.
+ghost use Rattle.std.specs.Prelude.{◌≡◌};
+
+use crate::fault::{Port, ServeFault};
+use crate::limits::{ADDRESS_CONNECTIONS, FETCH_OCTETS, FETCHERS, LOOK_UPS, ProxyLimits, SEATS};
+use crate::passing::allows_own;
+use crate::site::{Addresses, Equipment, Site};
+use crate::state::Given;
+use crate::tasks::{
+    AdministrationTask, BoundQueries, ClientTask, Ending, FetchTask, QueryTask, Task, ThreadConfig,
+    Work, no_memory, run_task,
+};
+use crate::writing::Writing;
+use crossbeam_channel::{Receiver, Sender, bounded, unbounded};
+use filter_files::Filter;
+use filter_slots::End;
+use futures::channel::{mpsc, oneshot};
+use http_fetches::Budget;
+use http_rules::Mirror;
+use http_traffic::Job;
+use log_writer::{LogTask, run_log};
+use name_lookup::{NameDesk, NameLimits, look_up, open_names};
+use node_core::{Config, Event, Network};
+use proxy_node::{FrontRules, Lanes, NodeHandle, Outbox, Outgoing, ProxyState, Purger, ThreadSeat};
+use serve_config::{FilterFile, MirrorPath, Settings};
+use std::alloc::{AllocError, AllocGlobal, Global};
+use std::fs::Files;
+use std::io::{Eprint, ErrorKind, Print};
+use std::net::{IpAddr, Ipv4Addr, Net, SocketAddr, SocketAddrV4};
+use std::random::RandomSource;
+use std::sync::atomic::Ordering;
+use std::sync::ledger::{Blank, Ledger};
+use std::sync::{Arc, Wait};
+use std::thread::{JoinHandle, Threads};
+use std::time::{Clock, Duration};
+use std::{mem, thread};
+
+/// A proxy whose threads are being started.
+#[derive(Drop)]
+pub(crate) struct Opening<R, L: Ledger> {
+    rt: R,
+    alloc: Global,
+    config: ThreadConfig,
+    site: Site<L>,
+}
+
+/// What the threads are started with, beside the shared state. `F` is a file.
+#[derive(Drop)]
+pub(crate) struct Orders<F> {
+    /// The filters that are in force from the first datagram on.
+    filters: Vec<Filter>,
+    /// What writes the access log, if there is one.
+    log: Option<LogTask<F>>,
+    /// What writes the notices, if they are asked for.
+    notices: Option<LogTask<F>>,
+    rules: FrontRules,
+    keeping: Keeping,
+    /// Receives a message when the grace of clients is to end early.
+    hurried: oneshot::Receiver<()>,
+}
+
+/// What the administration keeps of the settings.
+#[derive(Drop)]
+struct Keeping {
+    token: Option<String>,
+    files: Vec<FilterFile>,
+    purger: Purger,
+}
+
+/// What the administration keeps, which is taken out of the settings.
+fn keeping_of(alloc: Global, settings: &mut Settings) -> Result<Keeping, AllocError> {
+    Ok(Keeping {
+        purger: purger_of(alloc, &settings.node)?,
+        token: settings.admin_token.take(),
+        files: mem::replace(&mut settings.filters, Vec::new(alloc)),
+    })
+}
+
+/// What takes objects out of the store, with the first key of the configuration.
+fn purger_of(alloc: Global, config: &Config) -> Result<Purger, AllocError> {
+    let key = match config.keys.as_slice().first() {
+        Some(key) => Some(key.copy(alloc)?),
+        None => None,
+    };
+    Ok(Purger {
+        own: config.htcp,
+        is_allowed: allows_own(config),
+        key,
+    })
+}
+
+/// The two parts of a log, if there is one: where lines go, and what writes them.
+fn split<D: Drop, F: Drop>(log: Option<(D, LogTask<F>)>) -> (Option<D>, Option<LogTask<F>>) {
+    match log {
+        Some((log, writing)) => (Some(log), Some(writing)),
+        None => (None, None),
+    }
+}
+
+/// What the threads need of the settings.
+fn thread_config(settings: &Settings, limits: ProxyLimits) -> ThreadConfig {
+    let address = Ipv4Addr::from_octets(settings.address);
+    let mut limits = limits;
+    let an_address = settings.address_connections.unwrap_or(ADDRESS_CONNECTIONS);
+    limits.clients.connections.an_address = an_address as usize;
+    limits.fetching = Duration::from_secs(u64::from(settings.fetch_seconds));
+    ThreadConfig {
+        icp: settings.node.icp,
+        htcp: settings.node.htcp,
+        clients: SocketAddr::V4(SocketAddrV4::new(address, settings.http_port)),
+        admin_port: settings.admin_port,
+        body_limit: settings.body_limit as usize,
+        fetch_octets: settings.fetch_octets.unwrap_or(FETCH_OCTETS) as usize,
+        streams: settings.streams,
+        stop_after: settings.stop_after,
+        limits,
+    }
+}
+
+/// Whose requests are taken, and what they stand for.
+fn front_rules(alloc: Global, settings: &mut Settings) -> Result<FrontRules, AllocError> {
+    Ok(FrontRules {
+        allowed: networks_of(alloc, &settings.node)?,
+        mirrors: mirrors_of(alloc, mem::replace(&mut settings.mirrors, Vec::new(alloc)))?,
+        purger: purger_of(alloc, &settings.node)?,
+    })
+}
+
+/// The mirrors as the rules of caching have them. The configuration has them in the order of their paths, a path before each that
+/// begins with it; in reverse the first that fits a target is the longest.
+fn mirrors_of(alloc: Global, settings: Vec<MirrorPath>) -> Result<Vec<Mirror>, AllocError> {
+    let mut settings = settings;
+    let mut mirrors = Vec::with_capacity(alloc, settings.len())?;
+    for _ in 0..settings.len() {
+        if let Some(mirror) = settings.pop() {
+            let MirrorPath { path, url } = mirror;
+            mirrors.push(Mirror { path, url })?;
+        }
+    }
+    Ok(mirrors)
+}
+
+fn networks_of(alloc: Global, config: &Config) -> Result<Vec<Network>, AllocError> {
+    let mut networks = Vec::new(alloc);
+    for network in config.allowed.iter() {
+        networks.push(*network)?;
+    }
+    Ok(networks)
+}
+
+impl<R, L> Opening<R, L>
+where
+    L: Ledger + Send + Sync + 'static,
+    R: Threads
+        + Wait
+        + Net
+        + Clock
+        + RandomSource
+        + AllocGlobal
+        + Files
+        + Print
+        + Eprint
+        + Copy
+        + Send
+        + 'static,
+    R::Stream: Send + 'static,
+    R::Listener: Send + 'static,
+    R::File: Send + 'static,
+    R::Dir: Send + 'static,
+{
+    /// A proxy that has no thread yet, and what its threads are started with.
+    pub(crate) fn prepared(
+        rt: R,
+        blank: Blank,
+        mut settings: Settings,
+        equipment: Equipment<R::File>,
+        limits: ProxyLimits,
+    ) -> Result<(Opening<R, L>, Orders<R::File>), ServeFault>
+        requires name { blank.name ≡ L.name }
+        requires parts { blank.parts ≡ L.parts }
+        requires seats { blank.parts ≡ SEATS }
+    {
+        let alloc = rt.alloc();
+        let config = thread_config(&settings, limits);
+        let (log, log_task) = split(equipment.log);
+        let (notices, notices_task) = split(equipment.notices);
+        let (hurry, hurried) = oneshot::channel(alloc).map_err(no_memory)?;
+        let orders = Orders {
+            filters: equipment.filters,
+            log: log_task,
+            notices: notices_task,
+            rules: front_rules(alloc, &mut settings).map_err(no_memory)?,
+            keeping: keeping_of(alloc, &mut settings).map_err(no_memory)?,
+            hurried,
+        };
+        let given = Given {
+            connecting: config.limits.connecting,
+            fetching: config.limits.fetching,
+            log,
+            notices,
+            version: equipment.version,
+            hurry,
+        };
+        let site = Site::new(&rt, alloc, blank, settings, given)?;
+        let opening = Opening {
+            rt,
+            alloc,
+            config,
+            site,
+        };
+        Ok((opening, orders))
+    }
+
+    /// The proxy, if its threads were started. Else they are ended.
+    pub(crate) fn into_site(self, opened: Result<(), ServeFault>) -> Result<Site<L>, ServeFault> {
+        let Opening { rt, site, .. } = self;
+        match opened {
+            Ok(()) => Ok(site),
+            // A server's thread tells more of why its socket was not bound.
+            Err(fault) => match site.shut(rt) {
+                Err(told) => Err(told),
+                Ok(_) => Err(fault),
+            },
+        }
+    }
+
+    /// The next free seat, with the shared state.
+    fn seat(&mut self) -> Result<ThreadSeat<L>, ServeFault> {
+        let Some(seat) = self.site.spare.pop() else {
+            return Err(ServeFault::NoMemory);
+        };
+        ThreadSeat::new(&self.site.proxy, seat).map_err(no_memory)
+    }
+
+    /// One more owner of the shared state.
+    fn proxy(&self) -> Result<Arc<ProxyState<L>>, ServeFault> {
+        Arc::try_clone(&self.site.proxy).map_err(no_memory)
+    }
+
+    /// One more sender that asks the proxy to end.
+    fn end(&self) -> Result<Sender<(), Global>, ServeFault> {
+        self.site.end.clone().map_err(no_memory)
+    }
+
+    /// Starts a thread.
+    fn begin(&mut self, work: Work<L>) -> Result<JoinHandle<Ending<L>>, ServeFault> {
+        let (rt, task) = (self.rt, Task { work });
+        let Ok(thread) = thread::spawn(&rt, move || run_task(rt, task)) else {
+            return Err(ServeFault::NoMemory);
+        };
+        Ok(thread)
+    }
+
+    /// Starts a thread and keeps its handle.
+    fn keep(&mut self, work: Work<L>) -> Result<(), ServeFault> {
+        let thread = self.begin(work)?;
+        match self.site.threads.push(thread) {
+            Ok(()) => Ok(()),
+            Err(_) => Err(ServeFault::NoMemory),
+        }
+    }
+
+    /// Starts a thread that writes a log, if there is one.
+    fn open_log(&self, log: Option<LogTask<R::File>>) -> Result<Option<Writing>, ServeFault> {
+        let Some(task) = log else {
+            return Ok(None);
+        };
+        let rt = self.rt;
+        let (end, written) = bounded(self.alloc, 1).map_err(no_memory)?;
+        let write = move || {
+            run_log(&rt, task);
+            let _ = end.send(&rt, ());
+        };
+        let Ok(thread) = thread::spawn(&rt, write) else {
+            return Err(ServeFault::NoMemory);
+        };
+        Ok(Some(Writing { thread, written }))
+    }
+
+    /// Installs filters, as events of the node.
+    fn install(&mut self, filters: Vec<Filter>) -> Result<(), ServeFault> {
+        let mut node = NodeHandle::new(self.rt, self.alloc, self.seat()?, None);
+        let installed = install_all(&mut node, filters);
+        match self.site.spare.push(node.into_seat()) {
+            Ok(()) => installed,
+            Err(_) => Err(ServeFault::NoMemory),
+        }
+    }
+
+    /// Starts the threads, the query sockets' before the clients', since these send queries.
+    pub(crate) fn open(&mut self, orders: Orders<R::File>) -> Result<(), ServeFault> {
+        let Orders {
+            filters,
+            log,
+            notices,
+            rules,
+            keeping,
+            hurried,
+        } = orders;
+        self.site.writings.log = self.open_log(log)?;
+        self.site.writings.notices = self.open_log(notices)?;
+        self.install(filters)?;
+        self.open_fetchers()?;
+        let (outgoing, incoming) = unbounded(self.alloc).map_err(no_memory)?;
+        let queries = self.open_queries(incoming)?;
+        let bell = queries.bell.share().map_err(no_memory)?;
+        self.site.bell = Some(queries.bell);
+        let outbox = Outbox { to: outgoing, bell };
+        let clients = self.open_clients(rules, outbox, hurried)?;
+        self.add_own(clients)?;
+        let administration = self.open_administration(keeping)?;
+        self.add_own(administration)?;
+        self.site.addresses = Some(Addresses {
+            icp: queries.icp,
+            htcp: queries.htcp,
+            clients,
+            administration,
+        });
+        Ok(())
+    }
+
+    /// The octets that bodies under way may have, for all fetch threads.
+    fn budget(&self) -> Result<Arc<Budget>, AllocError> {
+        let budget = Budget::new(self.alloc, self.config.fetch_octets);
+        Ok(Arc::new(self.alloc, budget)?)
+    }
+
+    /// Has a bound socket never fetched from.
+    fn add_own(&self, bound: SocketAddr) -> Result<(), ServeFault> {
+        let IpAddr::V4(address) = bound.ip() else {
+            return Ok(());
+        };
+        let end = End {
+            addr: address.octets(),
+            port: bound.port(),
+        };
+        self.site.proxy.add_own(&self.rt, end).map_err(no_memory)
+    }
+
+    fn open_fetchers(&mut self) -> Result<(), ServeFault> {
+        let budget = self.budget().map_err(no_memory)?;
+        let mut lanes = Vec::with_capacity(self.alloc, FETCHERS).map_err(no_memory)?;
+        for _ in 0..FETCHERS {
+            let (to, jobs) = mpsc::unbounded(self.alloc).map_err(no_memory)?;
+            let _ = lanes.push(to);
+            let budget = Arc::try_clone(&budget).map_err(no_memory)?;
+            self.open_fetcher(jobs, budget)?;
+        }
+        let names = self.open_look_ups()?;
+        let lanes = Lanes { names, jobs: lanes };
+        *self.site.proxy.lanes.lock(&self.rt) = Some(lanes);
+        Ok(())
+    }
+
+    fn open_fetcher(
+        &mut self,
+        jobs: mpsc::UnboundedReceiver<Job>,
+        budget: Arc<Budget>,
+    ) -> Result<(), ServeFault> {
+        let proxy = self.proxy()?;
+        let end = self.end()?;
+        let fetches = FetchTask {
+            seat: self.seat()?,
+            jobs,
+            proxy,
+            budget,
+            octets: self.config.body_limit,
+            connecting: self.config.limits.connecting,
+            streams: self.config.streams,
+            end,
+        };
+        self.keep(Work::Fetches(fetches))
+    }
+
+    /// Starts the threads that look up names. They are not joined, since the system's resolver may hold each for as long as it
+    /// likes: a thread that is idle ends when the desk is dropped, and one that is held ends with the process. None of
+    /// them has a seat or a part of the shared state.
+    fn open_look_ups(&mut self) -> Result<NameDesk, ServeFault> {
+        let (desk, clerk) = open_names(self.alloc, NameLimits::usual()).map_err(no_memory)?;
+        for _ in 0..LOOK_UPS {
+            let (rt, clerk) = (self.rt, clerk.share().map_err(no_memory)?);
+            let Ok(thread) = thread::spawn(&rt, move || look_up(&rt, &clerk)) else {
+                return Err(ServeFault::NoMemory);
+            };
+            drop(thread);
+        }
+        Ok(desk)
+    }
+
+    fn open_queries(
+        &mut self,
+        outgoing: Receiver<Outgoing, Global>,
+    ) -> Result<BoundQueries, ServeFault> {
+        let (bound, heard) = unbounded(self.alloc).map_err(no_memory)?;
+        let is_ended = Arc::try_clone(&self.site.is_ended).map_err(no_memory)?;
+        let end = self.end()?;
+        let queries = QueryTask {
+            seat: self.seat()?,
+            icp: self.config.icp,
+            htcp: self.config.htcp,
+            outgoing,
+            bound,
+            is_ended,
+            end,
+        };
+        self.keep(Work::Queries(queries))?;
+        match heard.recv(&self.rt) {
+            Ok(bound) => bound,
+            Err(_) => Err(ServeFault::NoMemory),
+        }
+    }
+
+    fn open_clients(
+        &mut self,
+        rules: FrontRules,
+        outbox: Outbox,
+        hurried: oneshot::Receiver<()>,
+    ) -> Result<SocketAddr, ServeFault> {
+        let (stop, stopped) = oneshot::channel(self.alloc).map_err(no_memory)?;
+        let (bound, heard) = unbounded(self.alloc).map_err(no_memory)?;
+        let name = String::from_str(self.alloc, self.site.proxy.name.as_str()).map_err(no_memory)?;
+        let proxy = self.proxy()?;
+        let end = self.end()?;
+        let clients = ClientTask {
+            proxy,
+            seat: self.seat()?,
+            outbox,
+            config: self.config,
+            rules,
+            name,
+            bound,
+            stopped,
+            hurried,
+            end,
+        };
+        self.site.clients = Some(self.begin(Work::Clients(clients))?);
+        self.site.stop_clients = Some(stop);
+        heard
+            .recv(&self.rt)
+            .map_err(|_| ServeFault::Bind(Port::Clients, ErrorKind::Other))
+    }
+
+    fn open_administration(&mut self, keeping: Keeping) -> Result<SocketAddr, ServeFault> {
+        let Keeping {
+            token,
+            files,
+            purger,
+        } = keeping;
+        let (stop, stopped) = oneshot::channel(self.alloc).map_err(no_memory)?;
+        // Nothing ends the grace of administrators early: its sender is dropped here.
+        let (_, hurried) = oneshot::channel(self.alloc).map_err(no_memory)?;
+        let (bound, heard) = unbounded(self.alloc).map_err(no_memory)?;
+        let end = self.end()?;
+        let administration = AdministrationTask {
+            seat: self.seat()?,
+            config: self.config,
+            token,
+            files,
+            purger,
+            bound,
+            stopped,
+            hurried,
+            end,
+        };
+        self.keep(Work::Administration(administration))?;
+        self.site.stop_administration = Some(stop);
+        let Ok(address) = heard.recv(&self.rt) else {
+            return Err(ServeFault::Bind(Port::Administration, ErrorKind::Other));
+        };
+        let port = &self.site.proxy.admin_port;
+        port.store(address.port(), Ordering::SeqCst);
+        Ok(address)
+    }
+}
+
+/// Submits the swap of each filter. Errors: out of memory.
+fn install_all<R: Wait + Clock + Drop, L: Ledger>(
+    node: &mut NodeHandle<R, L>,
+    filters: Vec<Filter>,
+) -> Result<(), ServeFault> {
+    for filter in filters {
+        let Filter { slot, program } = filter;
+        let event = Event::Swap {
+            slot,
+            program: Some(program),
+        };
+        if node.take(event).is_err() {
+            return Err(ServeFault::NoMemory);
+        }
+    }
+    Ok(())
+}

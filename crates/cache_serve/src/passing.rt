@@ -1,0 +1,111 @@
+//! What passes the proxy without the node, as the settings say it.
+use forwarding::Peer;
+use http_rules::{OriginRules, is_unsafe};
+use neighbours::Role;
+use node_core::Config;
+use proxy_node::{LargeKeys, Passes, Places};
+use serve_config::{Large, Settings};
+use std::alloc::{AllocError, Global};
+use std::mem;
+use std::sync::Mutex;
+use std::time::Duration;
+
+/// How many seconds neither side of a request that is passed on may be without an octet.
+const STREAM_SECONDS: u64 = 60;
+
+/// How many seconds both sides of a tunnel may be without an octet.
+const TUNNEL_SECONDS: u64 = 300;
+
+/// What a configuration lacks that passes on methods which change what they ask for: what is stored of it is taken out of the store by a
+/// signed request of the cache to itself.
+#[derive(Clone, Copy, Debug, PartialEq, Eq)]
+pub enum MethodsFault {
+    /// A key to sign with.
+    NoKey,
+    /// That the cache may ask itself.
+    NotAllowed,
+}
+
+/// What a configuration lacks for the methods that it passes on, if anything.
+pub fn methods_fault(settings: &Settings) -> Option<MethodsFault> {
+    let is_safe = settings
+        .methods
+        .iter()
+        .all(|method| !is_unsafe(method.name()));
+    let config = &settings.node;
+    if is_safe {
+        None
+    } else if config.keys.is_empty() {
+        Some(MethodsFault::NoKey)
+    } else if !allows_own(config) {
+        Some(MethodsFault::NotAllowed)
+    } else {
+        None
+    }
+}
+
+/// Whether queries from the address of the HTCP socket are answered.
+pub(crate) fn allows_own(config: &Config) -> bool {
+    let own = config.htcp.addr;
+    config.allowed.iter().any(|network| network.contains(own))
+}
+
+/// What passes without the node, which is taken out of the settings. Tunnels lead to none of the networks that nothing is fetched from.
+pub(crate) fn passes_of(
+    alloc: Global,
+    settings: &mut Settings,
+    origins: &OriginRules,
+    connecting: Duration,
+) -> Result<Passes, AllocError> {
+    let connect_ports = mem::replace(&mut settings.connect_ports, Vec::new(alloc));
+    Ok(Passes {
+        methods: mem::replace(&mut settings.methods, Vec::new(alloc)),
+        ends: Mutex::new(ends_of(alloc, connect_ports.as_slice(), origins)?),
+        connect_ports,
+        large: large_of(alloc, settings.large)?,
+        streams: Places::new(alloc, settings.streams)?,
+        tunnels: Places::new(alloc, settings.tunnels)?,
+        stream_still: Duration::from_secs(STREAM_SECONDS),
+        tunnel_still: Duration::from_secs(TUNNEL_SECONDS),
+        connecting,
+        is_direct: settings.node.origin,
+        parent: parent_of(&settings.node),
+    })
+}
+
+/// Where tunnels may lead to: to these ports, and to servers that may be fetched from at another port.
+fn ends_of(alloc: Global, ports: &[u16], origins: &OriginRules) -> Result<OriginRules, AllocError> {
+    Ok(OriginRules {
+        own: Vec::new(alloc),
+        denied: copy_of(alloc, origins.denied.as_slice())?,
+        ports: Some(copy_of(alloc, ports)?),
+    })
+}
+
+fn copy_of<T: Copy + Drop>(alloc: Global, items: &[T]) -> Result<Vec<T>, AllocError> {
+    let mut copy = Vec::with_capacity(alloc, items.len())?;
+    for item in items {
+        copy.push(*item)?;
+    }
+    Ok(copy)
+}
+
+/// Room for the URLs of large answers, where these are passed on.
+fn large_of(alloc: Global, large: Large) -> Result<Option<Mutex<LargeKeys>>, AllocError> {
+    match large {
+        Large::Refuse => Ok(None),
+        Large::Stream => Ok(Some(Mutex::new(LargeKeys::new(alloc)?))),
+    }
+}
+
+/// The first parent of a configuration.
+fn parent_of(config: &Config) -> Option<Peer> {
+    let parent = config
+        .neighbours
+        .iter()
+        .find(|neighbour| neighbour.kind == Role::Parent)?;
+    Some(Peer {
+        end: parent.end,
+        http_port: parent.http_port,
+    })
+}

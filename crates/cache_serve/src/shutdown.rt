@@ -1,0 +1,124 @@
+//! The end of a proxy: its threads are joined, and the event log is settled.
+use crate::fault::ServeFault;
+use crate::site::Site;
+use crate::tasks::Ending;
+use crate::writing::Written;
+use futures::channel::oneshot;
+use node_book::{Desk, Report, Seat};
+use proxy_node::ProxyState;
+use std::sync::atomic::Ordering;
+use std::sync::ledger::Ledger;
+use std::sync::{Arc, Wait};
+use std::thread::Threads;
+use std::time::Clock;
+
+/// How a proxy ended.
+#[derive(Drop)]
+pub struct Finish {
+    /// The report of the event log.
+    pub report: Report,
+    /// Whether an administrator ended it.
+    pub was_asked: bool,
+    /// Whether all lines of the access log are written. They are not where what it is written to takes nothing.
+    pub is_logged: bool,
+    /// Whether all notices are written. They are not where standard error takes nothing.
+    pub is_told: bool,
+}
+
+impl<L: Ledger + Send + Sync + 'static> Site<L> {
+    /// Stops and joins all threads but those that look up names, and settles the event log. The clients' thread goes first, so that
+    /// fetches that are still under way have its grace. Returns the report, and which logs are written to their end.
+    pub(crate) fn shut<R: Threads + Wait + Clock + Copy>(
+        self,
+        rt: R,
+    ) -> Result<(Report, Written), ServeFault> {
+        let Site {
+            proxy,
+            threads,
+            clients,
+            writings,
+            spare,
+            is_ended,
+            bell,
+            stop_clients,
+            stop_administration,
+            ..
+        } = self;
+        let mut endings = Endings {
+            seats: spare,
+            fault: None,
+        };
+        tell_stop(stop_clients);
+        if let Some(clients) = clients {
+            endings.add(clients.join(&rt));
+        }
+        is_ended.store(true, Ordering::SeqCst);
+        if let Some(bell) = &bell {
+            bell.ring();
+        }
+        tell_stop(stop_administration);
+        proxy.close(&rt);
+        for thread in threads {
+            endings.add(thread.join(&rt));
+        }
+        let settled = settled(proxy, endings);
+        let written = writings.finish(&rt);
+        Ok((settled?, written))
+    }
+}
+
+/// What the threads that have ended gave back.
+#[derive(Drop)]
+struct Endings<L: Ledger> {
+    seats: Vec<Seat<L>>,
+    fault: Option<ServeFault>,
+}
+
+impl<L: Ledger> Endings<L> {
+    /// Adds what one more thread gave back. The first fault counts.
+    fn add(&mut self, ending: Ending<L>) {
+        let Ending { seat, fault } = ending;
+        if self.fault.is_none() {
+            self.fault = fault;
+        }
+        if let Some(seat) = seat
+            && self.seats.push(seat).is_err()
+        {
+            self.fault = Some(ServeFault::NoMemory);
+        }
+    }
+}
+
+/// Tells a server to stop.
+fn tell_stop(stop: Option<oneshot::Sender<()>>) {
+    if let Some(stop) = stop {
+        let _ = stop.send(());
+    }
+}
+
+/// Settles the event log, unless a thread ended with a fault.
+fn settled<L: Ledger>(
+    proxy: Arc<ProxyState<L>>,
+    endings: Endings<L>,
+) -> Result<Report, ServeFault> {
+    let Endings { seats, fault } = endings;
+    if let Some(fault) = fault {
+        return Err(fault);
+    }
+    let Some(proxy) = Arc::into_inner(proxy) else {
+        return Err(ServeFault::Settle);
+    };
+    let (is_astray, desk) = desk_of_state(proxy);
+    if is_astray {
+        return Err(ServeFault::Settle);
+    }
+    match desk.settle(seats) {
+        Ok(report) => Ok(report),
+        Err(_) => Err(ServeFault::Settle),
+    }
+}
+
+/// Whether an audit found a receipt that does not agree with the event log, and the desk.
+fn desk_of_state<L: Ledger>(proxy: ProxyState<L>) -> (bool, Desk<L>) {
+    (proxy.is_astray.into_inner(), proxy.desk)
+}

@@ -1,0 +1,332 @@
+//! The state that the threads of a proxy share, as it is at the start.
+ghost use Rattle.std.specs.Prelude.{◌≡◌, IfOk};
+ghost use Rattle.node_book.specs.Book.{count_of};
+
+use crate::fault::ServeFault;
+use crate::limits::SEATS;
+use crate::passing::passes_of;
+use crate::tasks::no_memory;
+use capture_tap::Tap;
+use crossbeam_channel::Sender;
+use forwarding::{Field, Mailbox, Peer, Profile};
+use futures::channel::oneshot;
+use http_rules::{OriginRules, RefreshRule, UrlPlace, loop_mark, usual_denials};
+use mio_queries::Timeline;
+use node_book::{BOOK_OCTETS, BookFault, Booked, Desk, RECEIPT_OCTETS, Seat};
+use node_core::{Config, Node};
+use object_shelf::Shelf;
+use proxy_node::{AccessLog, NeighbourEnds, Notices, Passes, ProxyState, no_failures};
+use serve_config::{Freshness, Settings, SharedField, UrlPart};
+use std::alloc::{AllocError, Global};
+use std::mem;
+use std::random::RandomSource;
+use std::sync::atomic::{AtomicBool, AtomicU16, AtomicUsize};
+use std::sync::ledger::{Blank, Ledger};
+use std::sync::{Arc, Mutex};
+use std::time::{Clock, Duration, Instant};
+use traffic_figures::Figures;
+
+/// What the shared state of a proxy is given beside its settings.
+#[derive(Drop)]
+pub(crate) struct Given {
+    /// Time to connect to a server.
+    pub(crate) connecting: Duration,
+    /// Time for a whole fetch.
+    pub(crate) fetching: Duration,
+    pub(crate) log: Option<AccessLog>,
+    pub(crate) notices: Option<Notices>,
+    /// The version of the program.
+    pub(crate) version: &'static str,
+    /// Ends the grace of clients early.
+    pub(crate) hurry: oneshot::Sender<()>,
+}
+
+/// What the shared state of a proxy has of this run alone.
+#[derive(Drop)]
+struct Run {
+    loop_mark: Vec<u8>,
+    started: Option<Instant>,
+    /// Asks the proxy to end.
+    end: Sender<(), Global>,
+}
+
+/// What the shared state of a proxy keeps of its settings.
+#[derive(Drop)]
+struct Kept {
+    name: String,
+    admin_port: u16,
+    peers: Vec<Peer>,
+    ends: NeighbourEnds,
+    rules: Rules,
+}
+
+/// What may be fetched, stored and passed on.
+#[derive(Drop)]
+struct Rules {
+    origins: OriginRules,
+    profile: Profile,
+    shelf: Option<Mutex<Shelf>>,
+    passes: Passes,
+    shared_fields: Vec<Field>,
+}
+
+/// How large the event log and the receipts are.
+#[derive(Clone, Copy)]
+struct BookSizes {
+    /// Capacity of a volume, in events.
+    volume: usize,
+    /// Octets of contents at which a volume ends.
+    octets: u32,
+    /// Octets of contents that the receipts of one thread keep at most.
+    room: u32,
+}
+
+/// The shared state of a proxy, with a new node, and the seats of its threads. `end` asks the proxy to end.
+pub(crate) fn proxy_of<R: RandomSource + Clock, L: Ledger>(
+    rt: &R,
+    alloc: Global,
+    blank: Blank,
+    mut settings: Settings,
+    given: Given,
+    end: Sender<(), Global>,
+) -> Result<(ProxyState<L>, Vec<Seat<L>>), ServeFault>
+    requires name { blank.name ≡ L.name }
+    requires parts { blank.parts ≡ L.parts }
+    requires seats { blank.parts ≡ SEATS }
+{
+    let run = Run {
+        loop_mark: random_mark(rt, alloc, settings.name.as_bytes())?,
+        started: Instant::now(rt).ok(),
+        end,
+    };
+    let peers = peers_of(alloc, &settings.node).map_err(no_memory)?;
+    let ends = NeighbourEnds::new(alloc, settings.node.neighbours.as_slice()).map_err(no_memory)?;
+    let rules = rules_in(alloc, &mut settings, given.connecting).map_err(no_memory)?;
+    let sizes = sizes_of(&settings);
+    let Settings {
+        name,
+        admin_port,
+        node: config,
+        ..
+    } = settings;
+    let (desk, seats) = open_desk(alloc, blank, config, sizes)?;
+    let kept = Kept {
+        name,
+        admin_port,
+        peers,
+        ends,
+        rules,
+    };
+    let proxy = state_of(alloc, desk, kept, given, run).map_err(no_memory)?;
+    Ok((proxy, seats))
+}
+
+/// What may be fetched, stored and passed on, which is taken out of the settings.
+fn rules_in(
+    alloc: Global,
+    settings: &mut Settings,
+    connecting: Duration,
+) -> Result<Rules, AllocError> {
+    let origins = origins_of(alloc, settings)?;
+    let passes = passes_of(alloc, settings, &origins, connecting)?;
+    Ok(Rules {
+        origins,
+        profile: profile_of(alloc, settings)?,
+        shelf: shelf_of(alloc, settings)?,
+        passes,
+        shared_fields: shared_fields_of(alloc, settings)?,
+    })
+}
+
+/// The fields of each shared fetch, which are taken out of the settings.
+fn shared_fields_of(alloc: Global, settings: &mut Settings) -> Result<Vec<Field>, AllocError> {
+    let listed = mem::replace(&mut settings.shared_fields, Vec::new(alloc));
+    let mut fields = Vec::with_capacity(alloc, listed.len())?;
+    for field in listed {
+        let SharedField { name, value } = field;
+        fields.push((name.into_bytes(), value.into_bytes()))?;
+    }
+    Ok(fields)
+}
+
+/// The rules by which responses are kept, which are taken out of the settings.
+fn profile_of(alloc: Global, settings: &mut Settings) -> Result<Profile, AllocError> {
+    let rules = mem::replace(&mut settings.refresh, Vec::new(alloc));
+    match settings.freshness {
+        Freshness::Published => Ok(Profile::Published),
+        Freshness::Rfc9111 => Ok(Profile::Rfc9111(rules_of(alloc, rules)?)),
+    }
+}
+
+/// The shelf of what origins are asked about: as large as the settings say, or a quarter of the store. `None` by the published rules,
+/// and where it has no octet.
+fn shelf_of(alloc: Global, settings: &Settings) -> Result<Option<Mutex<Shelf>>, AllocError> {
+    let octets = settings.shelf_octets.unwrap_or(settings.node.octets / 4);
+    if matches!(settings.freshness, Freshness::Published) || octets == 0 {
+        return Ok(None);
+    }
+    match Shelf::new(alloc, settings.node.entries, octets) {
+        Ok(shelf) => Ok(Some(Mutex::new(shelf))),
+        Err(_) => Err(AllocError),
+    }
+}
+
+/// The operator's refresh rules as the rules of caching have them.
+fn rules_of(
+    alloc: Global,
+    settings: Vec<serve_config::RefreshRule>,
+) -> Result<Vec<RefreshRule>, AllocError> {
+    let mut rules = Vec::with_capacity(alloc, settings.len())?;
+    for rule in settings {
+        let serve_config::RefreshRule {
+            place,
+            seconds,
+            overrides,
+        } = rule;
+        rules.push(RefreshRule {
+            place: match place {
+                UrlPart::Prefix(text) => UrlPlace::Prefix(text.into_bytes()),
+                UrlPart::Suffix(text) => UrlPlace::Suffix(text.into_bytes()),
+            },
+            seconds,
+            overrides,
+        })?;
+    }
+    Ok(rules)
+}
+
+/// The shared state around this desk.
+fn state_of<L: Ledger>(
+    alloc: Global,
+    desk: Desk<L>,
+    kept: Kept,
+    given: Given,
+    run: Run,
+) -> Result<ProxyState<L>, AllocError> {
+    let failed = no_failures(alloc)?;
+    let timeline = Timeline::new(alloc)?;
+    let figures = Figures::new(alloc, kept.peers.len())?;
+    let connections = Arc::new(alloc, AtomicUsize::new(0))?;
+    let Rules {
+        origins,
+        profile,
+        shelf,
+        passes,
+        shared_fields,
+    } = kept.rules;
+    Ok(ProxyState {
+        desk,
+        mailbox: Mutex::new(Mailbox::new(alloc)),
+        lanes: Mutex::new(None),
+        failed,
+        timeline,
+        name: kept.name,
+        loop_mark: run.loop_mark,
+        origins: Mutex::new(origins),
+        peers: kept.peers,
+        fetching: given.fetching,
+        profile,
+        shelf,
+        passes,
+        shared_fields,
+        admin_port: AtomicU16::new(kept.admin_port),
+        tap: Tap::new(),
+        figures,
+        ends: kept.ends,
+        connections,
+        log: given.log,
+        notices: given.notices,
+        version: given.version,
+        started: run.started,
+        is_stopping: AtomicBool::new(false),
+        hurry: Mutex::new(Some(given.hurry)),
+        is_astray: AtomicBool::new(false),
+        end: run.end,
+    })
+}
+
+/// The sizes that the settings say, or the usual ones.
+fn sizes_of(settings: &Settings) -> BookSizes {
+    BookSizes {
+        volume: settings.volume as usize,
+        octets: settings.book_octets.unwrap_or(BOOK_OCTETS),
+        room: settings.receipt_octets.unwrap_or(RECEIPT_OCTETS),
+    }
+}
+
+/// A new node with its event log behind a lock, and the seats of the threads.
+fn open_desk<L: Ledger>(
+    alloc: Global,
+    blank: Blank,
+    config: Config,
+    sizes: BookSizes,
+) -> Result<(Desk<L>, Vec<Seat<L>>), ServeFault>
+    requires name { blank.name ≡ L.name }
+    requires parts { blank.parts ≡ L.parts }
+    requires seats { blank.parts ≡ SEATS }
+{
+    let node = Node::new(alloc, config).map_err(ServeFault::Node)?;
+    let booked = book_of(alloc, node, sizes.volume, sizes.octets)?;
+    desk_of(alloc, blank, booked, sizes.room)
+}
+
+/// A new node with its event log, whose volumes have these capacities, in events and in octets of contents.
+fn book_of(alloc: Global, node: Node, volume: usize, octets: u32) -> Result<Booked, ServeFault>
+    ensures new { IfOk result (λ booked. count_of booked ≡ 0) }
+{
+    match Booked::within(alloc, node, volume, octets) {
+        Ok(booked) => Ok(booked),
+        Err(BookFault::Limits) => Err(ServeFault::Volume),
+        Err(BookFault::NoMemory) => Err(ServeFault::NoMemory),
+    }
+}
+
+/// The event log behind a lock, and the seats of the threads, whose receipts keep at most `room` octets of contents.
+fn desk_of<L: Ledger>(
+    alloc: Global,
+    blank: Blank,
+    booked: Booked,
+    room: u32,
+) -> Result<(Desk<L>, Vec<Seat<L>>), ServeFault>
+    requires new { count_of booked ≡ 0 }
+    requires name { blank.name ≡ L.name }
+    requires parts { blank.parts ≡ L.parts }
+    requires seats { blank.parts ≡ SEATS }
+{
+    match Desk::open_with(alloc, blank, booked, SEATS, room) {
+        Ok(opened) => Ok(opened),
+        Err(_) => Err(ServeFault::NoMemory),
+    }
+}
+
+/// The element of CDN-Loop of a cache with this name, with a number that no other run of any cache has. Errors: the system has no
+/// random numbers, or out of memory.
+fn random_mark<R: RandomSource>(rt: &R, alloc: Global, name: &[u8]) -> Result<Vec<u8>, ServeFault> {
+    let mut number = [0; 8];
+    if rt.fill_bytes(&mut number).is_err() {
+        return Err(ServeFault::NoMemory);
+    }
+    loop_mark(alloc, name, u64::from_be_bytes(number)).map_err(no_memory)
+}
+
+/// Which servers may be fetched from as origins; the sockets of this cache are added once they are bound.
+fn origins_of(alloc: Global, settings: &mut Settings) -> Result<OriginRules, AllocError> {
+    let denied = match settings.deny_origins.take() {
+        Some(denied) => denied,
+        None => usual_denials(alloc, settings.address)?,
+    };
+    Ok(OriginRules {
+        own: Vec::new(alloc),
+        denied,
+        ports: settings.origin_ports.take(),
+    })
+}
+
+fn peers_of(alloc: Global, config: &Config) -> Result<Vec<Peer>, AllocError> {
+    let mut peers = Vec::new(alloc);
+    for neighbour in config.neighbours.iter() {
+        let (end, http_port) = (neighbour.end, neighbour.http_port);
+        peers.push(Peer { end, http_port })?;
+    }
+    Ok(peers)
+}

@@ -1,0 +1,608 @@
+//! Tunnels, which clients open by CONNECT (RFC 9110, section 9.3.6): the way to the server, and the octets that go both ways then.
+ghost use Rattle.futures.specs.Poll.{OnPending};
+ghost use Rattle.futures.specs.Task.{Covers, Keeps};
+
+use crate::account::Telling;
+use crate::requests::Answers;
+use bytes::{Bytes, BytesMut};
+use client_streams::Patience;
+use futures::channel::oneshot;
+use futures::task::{Context, Poll};
+use futures::{Future, ready};
+use http_body::Body;
+use http_traffic::{Server, Ticket, TunnelEnd};
+use hyper::body::Incoming;
+use hyper::rt::Timer;
+use hyper::server::conn::http1::{Connection, Parts};
+use hyper::service::Service;
+use hyper::{Request, Response};
+use paced_stream::Paced;
+use std::alloc::{AllocError, Global};
+use std::io::ErrorKind;
+use std::net::{Net, SocketAddr};
+use std::time::{Clock, Duration, Instant};
+use std::{io, mem};
+use tokio::io::{AsyncRead, AsyncWrite, poll_read_buf, poll_write_buf};
+use tokio::net::{ConnectFuture, TcpStream};
+use tokio::runtime::Handle;
+use tokio::time::Timeout;
+
+// How many octets one read of a tunnel may bring. So many are held for each direction, or what the client has sent behind its request,
+// which is at most what the HTTP connection holds.
+const PIECE: usize = 16 * 1024;
+
+// The most octets of a parent's head.
+const MOST_HEAD: usize = 8 * 1024;
+
+/// A tunnel that a request asks for.
+#[derive(Drop)]
+pub(crate) struct Wanted {
+    /// Where it leads.
+    pub(crate) end: TunnelEnd,
+    /// Takes whether its server is connected, or the status to answer.
+    pub(crate) done: oneshot::Sender<Result<(), u16>>,
+}
+
+/// A tunnel whose server is connected.
+#[derive(Drop)]
+pub(crate) struct Opened {
+    server: Paced,
+    // What came from the server behind a parent's head.
+    early: BytesMut,
+    still: Duration,
+    ticket: Ticket,
+}
+
+/// What connects tunnels.
+#[derive(Drop)]
+pub(crate) struct Dialer<R> {
+    rt: R,
+    alloc: Global,
+    handle: Handle,
+}
+
+impl<R: Net + Clock + Copy> Dialer<R> {
+    /// Connects on the event loop of this handle. Errors: out of memory.
+    pub(crate) fn new(rt: R, alloc: Global, handle: &Handle) -> Result<Dialer<R>, AllocError> {
+        Ok(Dialer {
+            rt,
+            alloc,
+            handle: handle.clone()?,
+        })
+    }
+
+    /// Another one for the same event loop. Errors: out of memory.
+    pub(crate) fn share(&self) -> Result<Dialer<R>, AllocError> {
+        Dialer::new(self.rt, self.alloc, &self.handle)
+    }
+
+    /// The time. `None` if the clock cannot be read.
+    pub(crate) fn now(&self) -> Option<Instant> {
+        Instant::now(&self.rt).ok()
+    }
+
+    // Connects to this address, with a timeout. Returns `None` if out of memory.
+    fn connect(&self, server: SocketAddr, limit: Duration) -> Option<Timeout<ConnectFuture>> {
+        let connecting = TcpStream::connect(&self.rt, server, self.handle.reactor());
+        self.handle.time().timeout(&self.rt, limit, connecting).ok()
+    }
+
+    // Waits for the address of this server, with a timeout. Returns `None` if out of memory.
+    fn seek(&self, server: Server, limit: Duration) -> Option<Timeout<Seeking>> {
+        let seeking = Seeking { server };
+        self.handle.time().timeout(&self.rt, limit, seeking).ok()
+    }
+
+    // Greets what this connection leads to, with a timeout. Returns `None` if out of memory.
+    fn greet(
+        &self,
+        socket: TcpStream,
+        greeting: Option<Vec<u8>>,
+        limit: Duration,
+    ) -> Option<Timeout<Greeting>> {
+        let greeting = Greeting::new(self.alloc, socket, greeting)?;
+        self.handle.time().timeout(&self.rt, limit, greeting).ok()
+    }
+
+    // A timeout that has not started. Errors: out of memory.
+    fn patience(&self) -> Result<Patience<R>, AllocError> {
+        Ok(Patience::new(self.rt, self.handle.time().clone()?))
+    }
+}
+
+// Waits for the address of a server. `None` if its name has none.
+#[derive(Drop)]
+struct Seeking {
+    server: Server,
+}
+
+impl Future for Seeking {
+    type Output = Option<SocketAddr>;
+
+    fn poll(&mut self, cx: &mut Context<'_>) -> Poll<Option<SocketAddr>> {
+        match &mut self.server {
+            Server::At(server) => Poll::Ready(Some(*server)),
+            Server::Sought(sought) => Poll::Ready(ready!(sought.poll(cx)).ok()),
+        }
+    }
+}
+
+// A connection that leads to the server of a tunnel, and what came over it already.
+#[derive(Drop)]
+struct Reached {
+    socket: TcpStream,
+    early: BytesMut,
+}
+
+// Sends a greeting, if there is one, and reads the head that answers it. `None` if the tunnel is refused, or if the connection ends.
+#[derive(Drop)]
+struct Greeting {
+    socket: Option<TcpStream>,
+    // What is left to be sent.
+    unsent: BytesMut,
+    // Whether a head has to come.
+    is_answered: bool,
+    head: BytesMut,
+    alloc: Global,
+}
+
+impl Greeting {
+    // Returns `None` if out of memory.
+    fn new(alloc: Global, socket: TcpStream, greeting: Option<Vec<u8>>) -> Option<Greeting> {
+        let _ = socket.set_nodelay(true);
+        let is_answered = greeting.is_some();
+        Some(Greeting {
+            socket: Some(socket),
+            unsent: BytesMut::from_vec(greeting.unwrap_or(Vec::new(alloc))),
+            is_answered,
+            head: BytesMut::with_capacity(alloc, PIECE).ok()?,
+            alloc,
+        })
+    }
+
+    // Waits until the greeting is sent. Returns whether it is.
+    fn poll_sent(&mut self, cx: &mut Context<'_>) -> Poll<bool>
+        ensures registered { OnPending result (Covers cx.new (λ _. ⊥)) }
+        ensures kept { Keeps cx.old cx.new }
+    {
+        if self.unsent.is_empty() {
+            return Poll::Ready(true);
+        }
+        let Some(socket) = &mut self.socket else {
+            return Poll::Ready(false);
+        };
+        match ready!(poll_write_buf(socket, cx, &mut self.unsent)) {
+            Ok(count) if 0 < count => cx.yield_now(),
+            _ => Poll::Ready(false),
+        }
+    }
+
+    // Waits for the whole head. Returns its length, or `None` if there is none.
+    fn poll_head(&mut self, cx: &mut Context<'_>) -> Poll<Option<usize>>
+        ensures registered { OnPending result (Covers cx.new (λ _. ⊥)) }
+        ensures kept { Keeps cx.old cx.new }
+    {
+        if let Some(length) = length_of_head(self.head.as_slice()) {
+            return Poll::Ready(Some(length));
+        }
+        if MOST_HEAD <= self.head.len() {
+            return Poll::Ready(None);
+        }
+        let Some(socket) = &mut self.socket else {
+            return Poll::Ready(None);
+        };
+        match ready!(poll_read_buf(socket, cx, &mut self.head)) {
+            Ok(count) if 0 < count => cx.yield_now(),
+            _ => Poll::Ready(None),
+        }
+    }
+
+    // The connection, and what came behind so many octets of a head. `None` if it was taken before.
+    fn reached(&mut self, length: usize) -> Option<Reached> {
+        let length = length.min(self.head.len());
+        self.head.advance(length);
+        Some(Reached {
+            socket: self.socket.take()?,
+            early: mem::replace(&mut self.head, BytesMut::new(self.alloc)),
+        })
+    }
+}
+
+impl Future for Greeting {
+    type Output = Option<Reached>;
+
+    fn poll(&mut self, cx: &mut Context<'_>) -> Poll<Option<Reached>> {
+        if !ready!(self.poll_sent(cx)) {
+            return Poll::Ready(None);
+        }
+        if !self.is_answered {
+            return Poll::Ready(self.reached(0));
+        }
+        let Some(length) = ready!(self.poll_head(cx)) else {
+            return Poll::Ready(None);
+        };
+        if length <= MOST_HEAD && agrees(self.head.as_slice()) {
+            Poll::Ready(self.reached(length))
+        } else {
+            Poll::Ready(None)
+        }
+    }
+}
+
+// The length of the head that these octets begin with, with its empty line. `None` if it is not complete.
+fn length_of_head(octets: &[u8]) -> Option<usize> {
+    let last = octets
+        .windows(4)
+        .position(|line| line == b"\r\n\r\n".as_slice())?;
+    last.checked_add(4)
+}
+
+// Whether this is the head of a response with a status from 200 to 299.
+fn agrees(head: &[u8]) -> bool {
+    head.starts_with(b"HTTP/1.")
+        && matches!(head.get(8), Some(b' '))
+        && matches!(head.get(9), Some(b'2'))
+        && matches!(head.get(10), Some(digit) if digit.is_ascii_digit())
+        && matches!(head.get(11), Some(digit) if digit.is_ascii_digit())
+        && matches!(head.get(12), Some(b' ' | b'\r'))
+}
+
+/// The way to the server of a tunnel: its address is awaited, admitted if it has to be, and connected; a parent is greeted. Each of
+/// these has the time to connect. Errors: the status to answer: 403 if the server is not admitted, 504 if time runs out, 503 without
+/// memory, 502 if there is no way otherwise.
+#[derive(Drop)]
+pub(crate) struct Opening<R, H> {
+    dialer: Dialer<R>,
+    answers: H,
+    is_origin: bool,
+    connecting: Duration,
+    still: Duration,
+    greeting: Option<Vec<u8>>,
+    ticket: Option<Ticket>,
+    // Each until it is ready.
+    seeking: Option<Timeout<Seeking>>,
+    reaching: Option<Timeout<ConnectFuture>>,
+    greeted: Option<Timeout<Greeting>>,
+}
+
+impl<R: Net + Clock + Copy, H: Answers> Opening<R, H> {
+    /// The way to this end.
+    pub(crate) fn new(dialer: Dialer<R>, answers: H, end: TunnelEnd) -> Opening<R, H> {
+        let TunnelEnd {
+            server,
+            greeting,
+            is_origin,
+            still,
+            connecting,
+            ticket,
+        } = end;
+        let seeking = dialer.seek(server, connecting);
+        Opening {
+            dialer,
+            answers,
+            is_origin,
+            connecting,
+            still,
+            greeting,
+            ticket: Some(ticket),
+            seeking,
+            reaching: None,
+            greeted: None,
+        }
+    }
+
+    // Waits for the address of the server, and begins to connect it. Errors: the status to answer.
+    fn poll_address(&mut self, cx: &mut Context<'_>) -> Poll<Result<(), u16>>
+        ensures registered { OnPending result (Covers cx.new (λ _. ⊥)) }
+        ensures kept { Keeps cx.old cx.new }
+    {
+        let Some(seeking) = &mut self.seeking else {
+            return Poll::Ready(Ok(()));
+        };
+        let sought = ready!(seeking.poll(cx));
+        self.seeking = None;
+        let server = match sought {
+            Ok(Some(server)) => server,
+            Ok(None) => return Poll::Ready(Err(502)),
+            Err(_elapsed) => return Poll::Ready(Err(504)),
+        };
+        if self.is_origin && !self.answers.admits(server) {
+            return Poll::Ready(Err(403));
+        }
+        self.reaching = self.dialer.connect(server, self.connecting);
+        Poll::Ready(Ok(()))
+    }
+
+    // Waits for the connection, and begins to greet what it leads to. Errors: the status to answer.
+    fn poll_connection(&mut self, cx: &mut Context<'_>) -> Poll<Result<(), u16>>
+        ensures registered { OnPending result (Covers cx.new (λ _. ⊥)) }
+        ensures kept { Keeps cx.old cx.new }
+    {
+        let Some(reaching) = &mut self.reaching else {
+            return Poll::Ready(Ok(()));
+        };
+        let reached = ready!(reaching.poll(cx));
+        self.reaching = None;
+        let socket = match reached {
+            Ok(Ok(socket)) => socket,
+            Ok(Err(_)) => return Poll::Ready(Err(502)),
+            Err(_elapsed) => return Poll::Ready(Err(504)),
+        };
+        let greeting = self.greeting.take();
+        self.greeted = self.dialer.greet(socket, greeting, self.connecting);
+        Poll::Ready(Ok(()))
+    }
+
+    // The tunnel, whose server is connected by this. Errors: 503 without a ticket, which is taken once.
+    fn opened(&mut self, reached: Reached) -> Result<Opened, u16> {
+        let Reached { socket, early } = reached;
+        let Some(ticket) = self.ticket.take() else {
+            return Err(503);
+        };
+        Ok(Opened {
+            server: Paced::new(socket, PIECE),
+            early,
+            still: self.still,
+            ticket,
+        })
+    }
+}
+
+impl<R: Net + Clock + Copy, H: Answers> Future for Opening<R, H> {
+    type Output = Result<Opened, u16>;
+
+    fn poll(&mut self, cx: &mut Context<'_>) -> Poll<Result<Opened, u16>> {
+        if let Err(status) = ready!(self.poll_address(cx)) {
+            return Poll::Ready(Err(status));
+        }
+        if let Err(status) = ready!(self.poll_connection(cx)) {
+            return Poll::Ready(Err(status));
+        }
+        let Some(greeted) = &mut self.greeted else {
+            return Poll::Ready(Err(503));
+        };
+        match ready!(greeted.poll(cx)) {
+            Ok(Some(reached)) => Poll::Ready(self.opened(reached)),
+            Ok(None) => Poll::Ready(Err(502)),
+            Err(_elapsed) => Poll::Ready(Err(504)),
+        }
+    }
+}
+
+// One direction of a tunnel.
+#[derive(Drop)]
+struct Way {
+    // What was read and is not written yet.
+    held: BytesMut,
+    // Whether the end of the input was read, and whether it was passed on.
+    has_ended: bool,
+    is_shut: bool,
+    // The octets that were passed on.
+    octets: u64,
+    // Whether octets were read or written since this was last asked.
+    has_moved: bool,
+}
+
+impl Way {
+    // A direction that begins with these octets.
+    fn new(early: BytesMut) -> Way {
+        Way {
+            held: early,
+            has_ended: false,
+            is_shut: false,
+            octets: 0,
+            has_moved: false,
+        }
+    }
+
+    // Whether octets were read or written since this was last asked.
+    fn take_moved(&mut self) -> bool {
+        mem::replace(&mut self.has_moved, false)
+    }
+
+    // Passes on octets until the end of the input, and then the end. Other tasks have their turn after each piece.
+    fn poll_way<A: AsyncRead, B: AsyncWrite>(
+        &mut self,
+        from: &mut A,
+        to: &mut B,
+        cx: &mut Context<'_>,
+    ) -> Poll<io::Result<()>>
+        ensures registered { OnPending result (Covers cx.new (λ _. ⊥)) }
+        ensures kept { Keeps cx.old cx.new }
+    {
+        if self.is_shut {
+            return Poll::Ready(Ok(()));
+        }
+        if let Err(fault) = ready!(self.poll_fill(from, cx)) {
+            return Poll::Ready(Err(fault));
+        }
+        if self.held.is_empty() {
+            return self.poll_shut(to, cx);
+        }
+        if let Err(fault) = ready!(self.poll_send(to, cx)) {
+            return Poll::Ready(Err(fault));
+        }
+        cx.yield_now()
+    }
+
+    // One read, if nothing is held. Nothing is held then at the end of the input alone.
+    fn poll_fill<A: AsyncRead>(
+        &mut self,
+        from: &mut A,
+        cx: &mut Context<'_>,
+    ) -> Poll<io::Result<()>>
+        ensures registered { OnPending result (Covers cx.new (λ _. ⊥)) }
+        ensures kept { Keeps cx.old cx.new }
+    {
+        if self.has_ended || !self.held.is_empty() {
+            return Poll::Ready(Ok(()));
+        }
+        if self.held.reserve(PIECE).is_err() {
+            return Poll::Ready(Err(io::Error::from(ErrorKind::OutOfMemory)));
+        }
+        match ready!(poll_read_buf(from, cx, &mut self.held)) {
+            Ok(count) => {
+                self.has_ended = count == 0;
+                self.has_moved = true;
+                Poll::Ready(Ok(()))
+            }
+            Err(fault) => Poll::Ready(Err(fault)),
+        }
+    }
+
+    // One write of what is held.
+    fn poll_send<B: AsyncWrite>(&mut self, to: &mut B, cx: &mut Context<'_>) -> Poll<io::Result<()>>
+        ensures registered { OnPending result (Covers cx.new (λ _. ⊥)) }
+        ensures kept { Keeps cx.old cx.new }
+    {
+        match ready!(poll_write_buf(to, cx, &mut self.held)) {
+            Ok(0) => Poll::Ready(Err(io::Error::from(ErrorKind::WriteZero))),
+            Ok(count) => {
+                self.octets = self.octets.saturating_add(count as u64);
+                self.has_moved = true;
+                Poll::Ready(Ok(()))
+            }
+            Err(fault) => Poll::Ready(Err(fault)),
+        }
+    }
+
+    // Passes on the end of the input.
+    fn poll_shut<B: AsyncWrite>(&mut self, to: &mut B, cx: &mut Context<'_>) -> Poll<io::Result<()>>
+        ensures registered { OnPending result (Covers cx.new (λ _. ⊥)) }
+        ensures kept { Keeps cx.old cx.new }
+    {
+        let shut = ready!(to.poll_shutdown(cx));
+        self.is_shut = shut.is_ok();
+        Poll::Ready(shut)
+    }
+}
+
+/// The octets of a tunnel, in both directions, until both ends are closed, one of them fails, or neither has moved one for too long.
+/// An end that closes only its own direction goes on to receive. What became of the tunnel is told when this is dropped.
+#[derive(Drop)]
+pub(crate) struct Copying<I, R, H: Answers> {
+    client: I,
+    server: Paced,
+    there: Way,
+    back: Way,
+    patience: Patience<R>,
+    still: Duration,
+    ticket: Ticket,
+    // The last to be dropped.
+    telling: Option<Telling<H>>,
+}
+
+impl<I: AsyncRead + AsyncWrite, R: Net + Clock + Copy, H: Answers> Copying<I, R, H> {
+    /// A tunnel to a client that has sent these octets already. Errors: out of memory.
+    pub(crate) fn new(
+        dialer: &Dialer<R>,
+        client: I,
+        sent: BytesMut,
+        opened: Opened,
+        telling: Option<Telling<H>>,
+    ) -> Result<Copying<I, R, H>, AllocError> {
+        let Opened {
+            server,
+            early,
+            still,
+            ticket,
+        } = opened;
+        Ok(Copying {
+            client,
+            server,
+            there: Way::new(sent),
+            back: Way::new(early),
+            patience: dialer.patience()?,
+            still,
+            ticket,
+            telling,
+        })
+    }
+
+    // Moves octets in both directions. Ready once both are closed, or one has failed.
+    fn poll_ways(&mut self, cx: &mut Context<'_>) -> Poll<()>
+        ensures registered { OnPending result (Covers cx.new (λ _. ⊥)) }
+        ensures kept { Keeps cx.old cx.new }
+    {
+        let there = self.there.poll_way(&mut self.client, &mut self.server, cx);
+        if let Poll::Ready(Err(_)) = there {
+            return Poll::Ready(());
+        }
+        let back = self.back.poll_way(&mut self.server, &mut self.client, cx);
+        if let Poll::Ready(Err(_)) = back {
+            return Poll::Ready(());
+        }
+        if there.is_pending() || back.is_pending() {
+            return Poll::Pending;
+        }
+        Poll::Ready(())
+    }
+
+    // Notes what was handed to the client since so many octets were, and whether both directions are closed.
+    fn note(&mut self, before: u64) {
+        let is_whole = self.there.is_shut && self.back.is_shut;
+        if let Some(telling) = &mut self.telling {
+            telling.note_octets(self.back.octets.saturating_sub(before), is_whole);
+        }
+    }
+
+    // Whether no octet has been moved for too long.
+    fn is_still(&mut self, cx: &mut Context<'_>) -> bool
+        ensures { Keeps cx.old cx.new }
+    {
+        let there = self.there.take_moved();
+        let back = self.back.take_moved();
+        if there || back {
+            self.patience.begin_anew();
+        }
+        self.patience.is_over(self.still, cx)
+    }
+}
+
+impl<I: AsyncRead + AsyncWrite, R: Net + Clock + Copy, H: Answers> Future for Copying<I, R, H> {
+    type Output = ();
+
+    fn poll(&mut self, cx: &mut Context<'_>) -> Poll<()> {
+        let before = self.back.octets;
+        let ended = self.poll_ways(cx);
+        self.note(before);
+        if let Poll::Ready(()) = ended {
+            return Poll::Ready(());
+        }
+        if self.is_still(cx) {
+            return Poll::Ready(());
+        }
+        Poll::Pending
+    }
+}
+
+/// A connection that can be taken apart once its last response has handed it over.
+pub(crate) trait HandOver: Drop {
+    /// Its socket.
+    type Socket: AsyncRead + AsyncWrite;
+
+    /// The socket, and what was read from it and not used.
+    fn hand_over(self) -> (Self::Socket, BytesMut);
+}
+
+impl<I, S, B, T> HandOver for Connection<I, S, B, T>
+where
+    I: AsyncRead + AsyncWrite,
+    S: Service<Request<Incoming<I>>, Response = Response<B>>,
+    S::Error: Into<anyhow::Error>,
+    B: Body,
+    B::Data: Into<Bytes>,
+    B::Error: Into<anyhow::Error>,
+    T: Timer,
+{
+    type Socket = I;
+
+    fn hand_over(self) -> (I, BytesMut) {
+        let Parts {
+            io,
+            read_buf,
+            service: _,
+        } = self.into_parts();
+        (io, read_buf)
+    }
+}

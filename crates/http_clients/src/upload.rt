@@ -1,0 +1,68 @@
+//! The content of a request that is passed on.
+use client_streams::{SharedStage, Stage};
+use futures::Future;
+use futures::channel::mpsc;
+use futures::task::{Context, Poll};
+use http_content::{Hear, Heard, Relay, Relayed};
+use http_traffic::Coming;
+use std::alloc::Global;
+
+/// Notes the pieces of a content at the stage of its connection. Without a stage all of them have the time of one.
+#[derive(Drop)]
+pub(crate) struct Pieces(pub(crate) Option<SharedStage>);
+
+impl Hear for Pieces {
+    fn hear(&self) {
+        if let Some(stage) = &self.0 {
+            stage.note_piece();
+        }
+    }
+}
+
+// The most pieces that wait for who takes them, beside the one that every sender may have there.
+const WAITING_PIECES: usize = 1;
+
+/// Passes on the content of a request as it comes. The connection is at the stage of a content only while this waits for the client.
+#[derive(Drop)]
+pub(crate) struct Upload<I> {
+    relay: Relay<Heard<I, Pieces>>,
+    // None if there are too many handles.
+    stage: Option<SharedStage>,
+}
+
+impl<I: Drop> Upload<I> {
+    /// Passes on this content, of this length if that is known, to who takes the other end. Returns `None` if out of memory.
+    pub(crate) fn new(
+        alloc: Global,
+        body: Heard<I, Pieces>,
+        length: Option<u64>,
+        stage: Option<SharedStage>,
+    ) -> Option<(Upload<I>, Coming)> {
+        let (to, pieces) = mpsc::channel(alloc, WAITING_PIECES).ok()?;
+        let relay = Relay::new(alloc, body, to);
+        Some((Upload { relay, stage }, Coming { length, pieces }))
+    }
+
+    // Sets the stage of the connection, if it is another one.
+    fn note(&self, next: Stage) {
+        if let Some(stage) = &self.stage
+            && stage.get() != next
+        {
+            stage.set(next);
+        }
+    }
+}
+
+impl<I: Drop> Future for Upload<I> {
+    type Output = Relayed;
+
+    fn poll(&mut self, cx: &mut Context<'_>) -> Poll<Relayed> {
+        let polled = self.relay.poll(cx);
+        if matches!(polled, Poll::Pending) && !self.relay.is_full() {
+            self.note(Stage::Content);
+        } else {
+            self.note(Stage::Asked);
+        }
+        polled
+    }
+}

@@ -1,0 +1,176 @@
+//! Whether anything moves between a client and a server.
+ghost use Rattle.std.specs.Prelude.{◌≡◌, ⊤};
+ghost use Rattle.futures.specs.Task.{Keeps};
+ghost use Rattle.tokio.specs.Net.{stream_readable, stream_writable};
+
+use futures::Future;
+use futures::task::{Context, Poll};
+use paced_stream::Paced;
+use std::alloc::{AllocError, Global};
+use std::cell::Cell;
+use std::io;
+use std::rc::Rc;
+use std::time::{Clock, Duration, Instant};
+use tokio::io::{AsyncRead, AsyncWrite};
+use tokio::time::{Handle, Sleep};
+
+/// Notes that something moved. Reference-counted within one thread.
+#[derive(Drop)]
+pub struct Moves(Rc<Cell<bool>>);
+
+impl Moves {
+    /// Nothing has moved. Errors: out of memory.
+    pub fn new(alloc: Global) -> Result<Moves, AllocError> {
+        Ok(Moves(Rc::new(alloc, Cell::new(false))?))
+    }
+
+    /// Another handle to the same. Errors: there are too many.
+    pub fn share(&self) -> Result<Moves, AllocError> {
+        Ok(Moves(self.0.clone()?))
+    }
+
+    // Notes that something moved.
+    fn note(&self) {
+        self.0.set(true);
+    }
+
+    // Whether something moved since this was last asked.
+    fn take(&self) -> bool {
+        self.0.replace(false)
+    }
+}
+
+/// A connection whose octets are noted as they move.
+#[derive(Drop)]
+pub struct Noted {
+    socket: Paced,
+    moves: Moves,
+}
+
+impl Noted {
+    /// This connection, whose octets are noted in `moves`.
+    pub fn new(socket: Paced, moves: Moves) -> Noted {
+        Noted { socket, moves }
+    }
+}
+
+impl AsyncRead for Noted {
+    ghost needs = { λ n source. source ≡ stream_readable n.socket.socket };
+
+    ghost reads = { λ _ _ _. ⊤ };
+
+    ghost is_at_end = { λ _. ⊤ };
+
+    ghost reads_nothing = { λ _. tt };
+
+    ghost reads_in_order = { λ _ _ _ _ _ _ _. tt };
+
+    fn poll_read(&mut self, cx: &mut Context<'_>, buf: &mut [u8]) -> Poll<io::Result<usize>> {
+        let polled = AsyncRead::poll_read(&mut self.socket, cx, buf);
+        if matches!(polled, Poll::Ready(_)) {
+            self.moves.note();
+        }
+        polled
+    }
+}
+
+impl AsyncWrite for Noted {
+    ghost needs = { λ n source. source ≡ stream_writable n.socket.socket };
+
+    ghost writes = { λ _ _ _. ⊤ };
+
+    ghost writes_nothing = { λ _. tt };
+
+    ghost writes_in_order = { λ _ _ _ _ _ _ _. tt };
+
+    fn poll_write(&mut self, cx: &mut Context<'_>, buf: &[u8]) -> Poll<io::Result<usize>> {
+        let polled = AsyncWrite::poll_write(&mut self.socket, cx, buf);
+        if matches!(polled, Poll::Ready(_)) {
+            self.moves.note();
+        }
+        polled
+    }
+
+    fn poll_flush(&mut self, cx: &mut Context<'_>) -> Poll<io::Result<()>> {
+        self.socket.poll_flush(cx)
+    }
+
+    fn poll_shutdown(&mut self, cx: &mut Context<'_>) -> Poll<io::Result<()>> {
+        self.socket.poll_shutdown(cx)
+    }
+}
+
+/// How long nothing may move. The time begins with the first look at it after something moved.
+#[derive(Drop)]
+pub struct Patience<R> {
+    rt: R,
+    // None if out of memory: then the time is over at once.
+    timers: Option<Handle>,
+    moves: Option<Moves>,
+    still: Duration,
+    deadline: Option<Instant>,
+    // The timer. It is reset only when it fires too early.
+    sleep: Option<Sleep>,
+}
+
+impl<R: Clock + Drop> Patience<R> {
+    /// Patience of this length with what `moves` notes.
+    pub fn new(
+        rt: R,
+        timers: Option<Handle>,
+        moves: Option<Moves>,
+        still: Duration,
+    ) -> Patience<R> {
+        Patience {
+            rt,
+            timers,
+            moves,
+            still,
+            deadline: None,
+            sleep: None,
+        }
+    }
+
+    /// Begins anew, as where something moved.
+    pub fn begin_anew(&mut self) {
+        self.deadline = None;
+    }
+
+    // When the time is over. `None` if the clock cannot be read.
+    fn deadline(&mut self) -> Option<Instant> {
+        if let Some(moves) = &self.moves
+            && moves.take()
+        {
+            self.deadline = None;
+        }
+        if self.deadline.is_none() {
+            self.deadline = Instant::now(&self.rt).ok()?.checked_add(self.still);
+        }
+        self.deadline
+    }
+
+    /// Whether nothing has moved for so long. Also true if the clock cannot be read, or if out of memory.
+    pub fn is_over(&mut self, cx: &mut Context<'_>) -> bool
+        ensures { Keeps cx.old cx.new }
+    {
+        let Some(deadline) = self.deadline() else {
+            return true;
+        };
+        if self.sleep.is_none()
+            && let Some(timers) = &self.timers
+        {
+            self.sleep = timers.sleep_until(deadline).ok();
+        }
+        let Some(sleep) = &mut self.sleep else {
+            return true;
+        };
+        if let Poll::Pending = sleep.poll(cx) {
+            return false;
+        }
+        if deadline <= sleep.deadline() {
+            return true;
+        }
+        sleep.reset(deadline);
+        matches!(sleep.poll(cx), Poll::Ready(_))
+    }
+}

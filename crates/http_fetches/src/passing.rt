@@ -1,0 +1,519 @@
+//! One request that is passed on as it is, over a connection of its own, its content and that of the answer as they come.
+ghost use Rattle.std.specs.Prelude.{◌≡◌, IfSome, IsSomeAnd};
+ghost use Rattle.futures.specs.Channel.{readable_source};
+ghost use Rattle.futures.specs.Task.{Keeps};
+
+use crate::budget::Share;
+use crate::exchange::{Beside, Talk, head_fault};
+use crate::fetching::{Dialer, Done, Visit, Visited};
+use crate::moves::{Moves, Noted, Patience};
+use bytes::Bytes;
+use futures::channel::{mpsc, oneshot};
+use futures::stream::Stream;
+use futures::task::{Context, Poll};
+use futures::{Future, ready};
+use http_body::{Body, Frame, SizeHint};
+use http_content::{Relay, Relayed, add_field, add_fields, has_foreign_coding};
+use http_traffic::{
+    Admit, Coming, FetchFault, PassFault, Passage, PassedHead, Piece, Server, Ticket,
+};
+use hyper::body::Incoming;
+use hyper::client::conn::http1;
+use hyper::client::conn::http1::{Connection, ResponseFuture};
+use hyper::{HeaderMap, Method, Request, Response, header};
+use paced_stream::{FETCH_TURN, Paced};
+use std::alloc::{AllocError, Global};
+use std::cell::RefCell;
+use std::io;
+use std::io::ErrorKind;
+use std::net::Net;
+use std::rc::Rc;
+use std::sync::Wait;
+use std::time::Clock;
+use tokio::net::TcpStream;
+use tokio::time::Handle;
+
+/// The content of the request, as it comes.
+#[derive(Drop)]
+pub struct Sent {
+    // None if there is none, and once it is complete.
+    coming: Option<mpsc::Receiver<Piece>>,
+    // What is still to come, where that is known.
+    left: Option<u64>,
+    // Whether no field says that there is none.
+    is_bare: bool,
+}
+
+impl Sent {
+    // The content of a request with this method, which has none if nothing is coming.
+    fn new(method: &str, content: Option<Coming>) -> Sent {
+        match content {
+            Some(Coming { length, pieces }) => Sent {
+                coming: Some(pieces),
+                left: length,
+                is_bare: false,
+            },
+            None => Sent {
+                coming: None,
+                left: Some(0),
+                is_bare: !matches!(method, "POST" | "PUT" | "PATCH"),
+            },
+        }
+    }
+}
+
+impl Body for Sent {
+    type Data = Bytes;
+
+    type Error = io::Error;
+
+    ghost needs = { λ b s. IsSomeAnd b.coming (λ coming. s ≡ readable_source coming) };
+
+    fn poll_frame(
+        &mut self,
+        cx: &mut Context<'_>,
+    ) -> Poll<Option<Result<Frame<Bytes>, io::Error>>> {
+        let Some(coming) = &mut self.coming else {
+            return Poll::Ready(None);
+        };
+        match ready!(coming.poll_next(cx)) {
+            Some(Piece::Octets(octets)) => {
+                let count = octets.len() as u64;
+                self.left = self.left.map(|left| left.saturating_sub(count));
+                Poll::Ready(Some(frame_of(octets)))
+            }
+            Some(Piece::End) => {
+                self.coming = None;
+                Poll::Ready(None)
+            }
+            None => Poll::Ready(Some(Err(io::Error::from(ErrorKind::UnexpectedEof)))),
+        }
+    }
+
+    fn is_end_stream(&self) -> bool {
+        self.is_bare
+    }
+
+    fn size_hint(&self) -> SizeHint {
+        match self.left {
+            Some(left) => SizeHint::with_exact(left),
+            None => SizeHint::new(),
+        }
+    }
+}
+
+// The frame of these octets. Errors: out of memory.
+fn frame_of(octets: Vec<u8>) -> io::Result<Frame<Bytes>> {
+    match Bytes::from_vec(octets) {
+        Ok(octets) => Ok(Frame::data(octets)),
+        Err(_) => Err(io::Error::from(ErrorKind::OutOfMemory)),
+    }
+}
+
+// What takes the answer.
+#[derive(Drop)]
+struct Outlet {
+    // Until there is a head, or a reason why there is none.
+    head: Option<oneshot::Sender<Result<PassedHead, PassFault>>>,
+    // Until there is a content.
+    pieces: Option<mpsc::Sender<Piece>>,
+    // Once there is a head: ready where nobody wants the answer any more.
+    wanted: Option<oneshot::Receiver<()>>,
+    // Whether the content waits for who takes it.
+    is_full: bool,
+}
+
+impl Outlet {
+    // Whether nobody wants the answer any more.
+    fn is_unwanted(&mut self, cx: &mut Context<'_>) -> bool
+        ensures { Keeps cx.old cx.new }
+    {
+        if let Some(head) = &mut self.head {
+            return matches!(head.poll_canceled(cx), Poll::Ready(()));
+        }
+        match &mut self.wanted {
+            Some(wanted) => matches!(wanted.poll(cx), Poll::Ready(_)),
+            None => false,
+        }
+    }
+
+    // Hands over a head, after which its content may be passed on. Returns `None` if nobody wants it, or if out of memory.
+    fn open(&mut self, alloc: Global, status: u16, head: HeaderMap) -> Option<mpsc::Sender<Piece>> {
+        let (keep, wanted) = oneshot::channel(alloc).ok()?;
+        let length = length_of(&head);
+        let passed = PassedHead {
+            status,
+            head,
+            length,
+            wanted: keep,
+        };
+        self.wanted = Some(wanted);
+        self.head.take()?.send(Ok(passed)).ok()?;
+        self.pieces.take()
+    }
+
+    // Says why there is no head, unless there was one.
+    fn fail(&mut self, fault: PassFault) {
+        if let Some(head) = self.head.take() {
+            let _ = head.send(Err(fault));
+        }
+    }
+}
+
+// The length that a head says the content has.
+fn length_of(head: &HeaderMap) -> Option<u64> {
+    if head.contains_key(header::TRANSFER_ENCODING) {
+        return None;
+    }
+    head.get(header::CONTENT_LENGTH)?
+        .to_str()
+        .ok()?
+        .parse()
+        .ok()
+}
+
+// What takes the answer. Reference-counted within one thread.
+#[derive(Drop)]
+struct SharedOutlet(Rc<RefCell<Outlet>>);
+
+impl SharedOutlet {
+    // This outlet, with one owner. Errors: out of memory.
+    fn new(alloc: Global, outlet: Outlet) -> Result<SharedOutlet, AllocError> {
+        Ok(SharedOutlet(Rc::new(alloc, RefCell::new(outlet))?))
+    }
+
+    // Another handle to the same. Errors: there are too many.
+    fn share(&self) -> Result<SharedOutlet, AllocError> {
+        Ok(SharedOutlet(self.0.clone()?))
+    }
+
+    // As `Outlet::is_unwanted`.
+    fn is_unwanted(&self, cx: &mut Context<'_>) -> bool
+        ensures { Keeps cx.old cx.new }
+    {
+        match self.0.try_borrow_mut() {
+            Ok(mut outlet) => outlet.is_unwanted(cx),
+            Err(_) => true,
+        }
+    }
+
+    // As `Outlet::open`.
+    fn open(&self, alloc: Global, status: u16, head: HeaderMap) -> Option<mpsc::Sender<Piece>> {
+        self.0.try_borrow_mut().ok()?.open(alloc, status, head)
+    }
+
+    // As `Outlet::fail`.
+    fn fail(&self, fault: PassFault) {
+        if let Ok(mut outlet) = self.0.try_borrow_mut() {
+            outlet.fail(fault);
+        }
+    }
+
+    // Notes whether the content waits for who takes it.
+    fn note_full(&self, is_full: bool) {
+        if let Ok(mut outlet) = self.0.try_borrow_mut() {
+            outlet.is_full = is_full;
+        }
+    }
+
+    // Whether the content waits for who takes it.
+    fn is_full(&self) -> bool {
+        match self.0.try_borrow_mut() {
+            Ok(outlet) => outlet.is_full,
+            Err(_) => false,
+        }
+    }
+}
+
+/// Receives the answer and passes it on.
+#[derive(Drop)]
+pub struct Answering {
+    alloc: Global,
+    answer: ResponseFuture<Noted>,
+    outlet: SharedOutlet,
+    // The content, once there is a head.
+    content: Option<Relay<Incoming<Noted>>>,
+}
+
+impl Answering {
+    // Passes on the head of an answer, and begins with its content, unless nobody wants it. Errors: it is no answer to the request.
+    fn begin(&mut self, response: Response<Incoming<Noted>>) -> Result<(), FetchFault> {
+        let (parts, body) = response.into_parts();
+        if has_foreign_coding(&parts.headers) {
+            return Err(FetchFault::NotHttp);
+        }
+        let status = parts.status.as_u16();
+        if status < 200 {
+            return Err(FetchFault::Cut);
+        }
+        if let Some(pieces) = self.outlet.open(self.alloc, status, parts.headers) {
+            self.content = Some(Relay::new(self.alloc, body, pieces));
+        }
+        Ok(())
+    }
+}
+
+impl Future for Answering {
+    type Output = Result<(), FetchFault>;
+
+    fn poll(&mut self, cx: &mut Context<'_>) -> Poll<Result<(), FetchFault>> {
+        if self.content.is_none() {
+            let begun = match ready!(self.answer.poll(cx)) {
+                Ok(response) => self.begin(response),
+                Err(error) => Err(head_fault(&error)),
+            };
+            if let Err(fault) = begun {
+                return Poll::Ready(Err(fault));
+            }
+        }
+        let Some(content) = &mut self.content else {
+            return Poll::Ready(Ok(()));
+        };
+        let polled = content.poll(cx);
+        self.outlet.note_full(content.is_full());
+        match ready!(polled) {
+            Relayed::Whole | Relayed::Broken | Relayed::Unwanted => Poll::Ready(Ok(())),
+        }
+    }
+}
+
+/// Sends one request as it is.
+#[derive(Drop)]
+pub struct Post {
+    alloc: Global,
+    http: http1::Builder,
+    // Until the exchange begins. None if it cannot be made.
+    request: Option<Request<Sent>>,
+    outlet: SharedOutlet,
+    moves: Moves,
+}
+
+impl Talk for Post {
+    type Page = ();
+
+    type Talking = Beside<Answering, Connection<Noted, Sent>>;
+
+    fn talk(&mut self, socket: TcpStream) -> Option<Self::Talking> {
+        let _ = socket.set_nodelay(true);
+        let request = self.request.take()?;
+        let moves = self.moves.share().ok()?;
+        let outlet = self.outlet.share().ok()?;
+        let noted = Noted::new(Paced::new(socket, FETCH_TURN), moves);
+        let Ok((mut sender, conn)) = self.http.handshake(noted) else {
+            return None;
+        };
+        let answering = Answering {
+            alloc: self.alloc,
+            answer: sender.send_request(request),
+            outlet,
+            content: None,
+        };
+        Some(Beside::new(answering, conn))
+    }
+}
+
+// The head of a request that is passed on.
+#[derive(Drop)]
+struct Line {
+    method: String,
+    host: String,
+    target: String,
+    fields: Vec<(Vec<u8>, Vec<u8>)>,
+}
+
+// The request to be sent. A content of unknown length comes in chunks, which its head says, since otherwise the library sends no
+// content with a HEAD. Returns `None` if a part of it is no valid HTTP, or if out of memory.
+fn request_of(alloc: Global, line: &Line, content: Option<Coming>) -> Option<Request<Sent>> {
+    let is_chunked = matches!(&content, Some(coming) if coming.length.is_none());
+    let method = Method::from_bytes(alloc, line.method.as_bytes()).ok()?;
+    let mut request = Request::builder(alloc)
+        .method(method)
+        .uri(line.target.as_str())
+        .header(header::HOST, line.host.as_str())
+        .body(Sent::new(line.method.as_str(), content))
+        .ok()?;
+    add_fields(alloc, request.headers_mut(), line.fields.as_slice())?;
+    if is_chunked {
+        add_field(
+            alloc,
+            request.headers_mut(),
+            b"transfer-encoding",
+            b"chunked",
+        )?;
+    }
+    Some(request)
+}
+
+/// How a request is passed on, once its server is known.
+#[derive(Drop)]
+pub struct Plan<R, T> {
+    // None if out of memory.
+    talk: Option<T>,
+    outlet: Option<SharedOutlet>,
+    patience: Patience<R>,
+    ticket: Ticket,
+}
+
+impl<R: Clock + Copy> Plan<R, Post> {
+    /// Passes on this request. Without timers it fails, as out of memory.
+    pub fn new(
+        rt: R,
+        alloc: Global,
+        http: http1::Builder,
+        timers: Option<Handle>,
+        passage: Passage,
+    ) -> Plan<R, Post> {
+        let Passage {
+            method,
+            host,
+            target,
+            fields,
+            content,
+            is_origin: _,
+            still,
+            head,
+            pieces,
+            ticket,
+        } = passage;
+        let line = Line {
+            method,
+            host,
+            target,
+            fields,
+        };
+        let outlet = Outlet {
+            head: Some(head),
+            pieces: Some(pieces),
+            wanted: None,
+            is_full: false,
+        };
+        let outlet = SharedOutlet::new(alloc, outlet).ok();
+        let moves = Moves::new(alloc).ok();
+        let request = request_of(alloc, &line, content);
+        Plan {
+            talk: post_of(alloc, http, request, &outlet, &moves),
+            outlet,
+            patience: Patience::new(rt, timers, moves, still),
+            ticket,
+        }
+    }
+}
+
+/// A request that is being passed on.
+#[derive(Drop)]
+pub struct Pass<R, A, T: Talk> {
+    visit: Option<Visit<R, A, T>>,
+    outlet: Option<SharedOutlet>,
+    patience: Patience<R>,
+    // What it takes of those that may be under way, until it ends.
+    ticket: Ticket,
+}
+
+impl<R: Net + Clock + Copy, A: Admit, T: Talk> Pass<R, A, T> {
+    /// Begins to pass on a request to this server. Without a dialer it fails, as out of memory.
+    pub fn new(server: Server, dialer: Option<Dialer<R, A>>, plan: Plan<R, T>) -> Pass<R, A, T>
+        ensures { IfSome result.visit (λ v. IfSome v.call (λ c. IfSome c.talking T.Talking.can_poll)) }
+    {
+        let Plan {
+            talk,
+            outlet,
+            patience,
+            ticket,
+        } = plan;
+        let visit = match talk {
+            Some(talk) => Some(Visit::new(server, dialer, talk)),
+            None => None,
+        };
+        Pass {
+            visit,
+            outlet,
+            patience,
+            ticket,
+        }
+    }
+}
+
+// What sends this request. Returns `None` if out of memory.
+fn post_of(
+    alloc: Global,
+    http: http1::Builder,
+    request: Option<Request<Sent>>,
+    outlet: &Option<SharedOutlet>,
+    moves: &Option<Moves>,
+) -> Option<Post> {
+    let (Some(outlet), Some(moves)) = (outlet, moves) else {
+        return None;
+    };
+    Some(Post {
+        alloc,
+        http,
+        request,
+        outlet: outlet.share().ok()?,
+        moves: moves.share().ok()?,
+    })
+}
+
+impl<R: Clock + Drop, A: Drop, T: Talk> Pass<R, A, T> {
+    // Says why there is no head, unless there was one.
+    fn fail(&self, fault: PassFault) {
+        if let Some(outlet) = &self.outlet {
+            outlet.fail(fault);
+        }
+    }
+
+    // Whether nobody wants the answer any more, or nothing has moved for too long. The time does not pass while the answer waits for the
+    // client, whose own limits end that.
+    fn is_over(&mut self, cx: &mut Context<'_>) -> bool
+        ensures kept { Keeps cx.old cx.new }
+        ensures same { self.new.visit ≡ self.old.visit }
+    {
+        let Some(outlet) = &self.outlet else {
+            return true;
+        };
+        if outlet.is_unwanted(cx) {
+            return true;
+        }
+        if outlet.is_full() {
+            self.patience.begin_anew();
+            return false;
+        }
+        if self.patience.is_over(cx) {
+            outlet.fail(PassFault::Failed(FetchFault::Time));
+            return true;
+        }
+        false
+    }
+}
+
+impl<R: Wait + Net + Clock + Copy, A: Admit, T: Talk<Page = ()>> Future for Pass<R, A, T> {
+    type Output = Done<Share<R>>;
+
+    ghost can_poll = { λ p. IfSome p.visit (λ v. IfSome v.call (λ c. IfSome c.talking T.Talking.can_poll)) };
+
+    fn poll(&mut self, cx: &mut Context<'_>) -> Poll<Done<Share<R>>> {
+        let Some(visit) = &mut self.visit else {
+            return Poll::Ready(ended());
+        };
+        match visit.poll(cx) {
+            Poll::Ready(Visited::Whole(())) => Poll::Ready(ended()),
+            Poll::Ready(Visited::Refused) => {
+                self.fail(PassFault::Refused);
+                Poll::Ready(ended())
+            }
+            Poll::Ready(Visited::Failed(fault)) => {
+                self.fail(PassFault::Failed(fault));
+                Poll::Ready(ended())
+            }
+            Poll::Pending if self.is_over(cx) => Poll::Ready(ended()),
+            Poll::Pending => Poll::Pending,
+        }
+    }
+}
+
+// The result of a request that was passed on: its client has it.
+fn ended<P: Drop>() -> Done<P> {
+    Done {
+        fetched: None,
+        purse: None,
+    }
+}

@@ -1,0 +1,6 @@
+use Rattle.std.proofs.Common.{◌≡◌, ◌+◌, ◌==◌, drop}
+use Rattle.std.specs.List.{position_or_len}
+use Rattle.http_rules.proofs.ranges.place_of.Given as goal
+
+abbrev pub invariant-loop-i : goal.invariant-loop-i
+invariant-loop-i l = position_or_len (λ c. c == l.octet) l.text ≡ l.i + position_or_len (λ c. c == l.octet) (drop l.i l.text)

@@ -1,0 +1,40 @@
+-- How a request is answered in the profile rfc9111, from what it says and from what is stored under its URL.
+use Rattle.std.specs.Prelude.{ℕ, List, codes, bytes_eq, not, ◌&&◌, ◌||◌, Bool, false, Option, Some, None, Result, Ok, Err, if◌then◌else◌}
+use Rattle.plain_node.specs.declared.event.Mode.{Mode}
+use Rattle.plain_node.specs.declared.event.Mode.TheVariants.{Shared, Cached, Private}
+use Rattle.http_rules.specs.declared.choice.Stored.{Stored}
+use Rattle.http_rules.specs.Fields.{Field, has_field}
+use Rattle.http_rules.specs.Directives.{asks}
+use Rattle.http_rules.specs.Requests.{may_ask_no_cache}
+use Rattle.http_rules.specs.Reuse.{accepts, asks_by_pragma}
+use Rattle.http_rules.specs.Conditions.{is_for_origin}
+
+-- requests that nothing stored answers: those with credentials, those that do not want it, and those that the origin has to judge
+abbrev pub is_own : List Field → Bool
+is_own fields =
+    has_field (codes "authorization") fields || has_field (codes "cookie") fields
+    || asks (codes "no-store") fields || may_ask_no_cache fields || asks_by_pragma fields || is_for_origin fields
+
+-- whether what is stored is there, and accepted
+abbrev pub has_accepted : List Field → Option Stored → Bool
+has_accepted fields None = false
+has_accepted fields (Some stored) = accepts stored.age stored.life fields
+
+-- a request that is fetched for alone: HEAD is not fetched
+abbrev pub alone : Bool → Result Mode ℕ
+alone is_get = if is_get then Ok Private else Err 501
+
+-- a request that others may share, where this is stored. Where nothing is, all that share a fetch get the whole of it: so a range
+-- is fetched alone.
+abbrev pub shared : Bool → List Field → Option Stored → Result Mode ℕ
+shared is_get fields (Some stored) = if accepts stored.age stored.life fields then Ok Shared else alone is_get
+shared is_get fields None = if is_get && not (has_field (codes "range") fields) then Ok Shared else alone is_get
+
+-- how a request is answered, or the status code of its refusal; the first case that applies counts
+abbrev pub chosen : List ℕ → List Field → Option Stored → Result Mode ℕ
+chosen method fields stored =
+    if not (bytes_eq method (codes "GET")) && not (bytes_eq method (codes "HEAD")) then Err 501
+    else if asks (codes "only-if-cached") fields && (is_own fields || not (has_accepted fields stored)) then Err 504
+    else if asks (codes "only-if-cached") fields then Ok Cached
+    else if is_own fields then alone (bytes_eq method (codes "GET"))
+    else shared (bytes_eq method (codes "GET")) fields stored

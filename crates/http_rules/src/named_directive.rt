@@ -1,0 +1,42 @@
+//! Looking up directives by name (RFC 9111, section 5.2).
+ghost use Rattle.std.specs.Prelude.{◌≡◌};
+ghost use Rattle.std.specs.Option.{option_copied};
+ghost use Rattle.http_header.specs.Token.{lowercase};
+ghost use Rattle.http_rules.specs.Fields.{fields_of};
+ghost use Rattle.http_rules.specs.Directives.{argument, directives_in, first_argument};
+
+use crate::directives::{split_directive, split_element};
+use crate::fields::values_of;
+use crate::text::is_name;
+use http_header::HeaderMap;
+
+/// The argument of the first Cache-Control directive of a head with this name: everything after the name, `None` if there is no
+/// such directive. `name` is in lower case.
+pub(crate) fn argument_of<'a>(head: &'a HeaderMap, name: &[u8]) -> Option<&'a [u8]>
+    requires { lowercase name.now ≡ name.now }
+    ensures { option_copied result ≡ argument name.now (fields_of head.now) }
+{
+    for value in values_of(head, "cache-control") {
+        if let Some(argument) = argument_in(value.as_bytes(), name) {
+            return Some(argument);
+        }
+    }
+    None
+}
+
+/// The argument of the first directive of one value with this name. `name` is in lower case.
+pub(crate) fn argument_in<'a>(value: &'a [u8], name: &[u8]) -> Option<&'a [u8]>
+    requires { lowercase name.now ≡ name.now }
+    ensures { option_copied result ≡ first_argument name.now (directives_in value.now) }
+{
+    let mut rest = Some(value);
+    while let Some(text) = rest {
+        let (element, others) = split_element(text);
+        let (found, argument) = split_directive(element);
+        if is_name(found, name) {
+            return Some(argument);
+        }
+        rest = others;
+    }
+    None
+}

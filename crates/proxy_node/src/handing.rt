@@ -1,0 +1,167 @@
+//! How a front is handed to what serves it: as a type that has only its calls, each of which it takes by one function. The prover
+//! looks at all methods of a trait for all of the type that has them, which is too much for a front with the whole node behind it.
+use crate::front::ServeFront;
+use http_header::HeaderMap;
+use http_traffic::{
+    Asked, Asking, Coming, FollowUp, Front, PassOn, Passing, Road, Shape, Told, TunnelEnd,
+};
+use object_store::Object;
+use std::io;
+use std::net::{Ipv4Addr, SocketAddr};
+
+/// One call of a front, with its arguments.
+#[derive(Drop)]
+pub enum Call<'a> {
+    /// `Front::allows`.
+    Allows(Ipv4Addr),
+    /// `Front::road`.
+    Road(&'a str),
+    /// `Front::ask`.
+    Ask(&'a Asked),
+    /// `Front::ask_alone`.
+    AskAlone(&'a Asked),
+    /// `FollowUp::shape`.
+    Shape(&'a Asked, &'a Object),
+    /// `FollowUp::gone`.
+    Gone(u64),
+    /// `FollowUp::answered`.
+    Answered,
+    /// `FollowUp::tell`.
+    Tell(&'a Told<'a>),
+    /// `PassOn::is_large`.
+    IsLarge(&'a Asked),
+    /// `PassOn::pass_on`.
+    PassOn(&'a Asked, Option<Coming>),
+    /// `PassOn::passed`.
+    Passed(&'a Asked, u16, &'a HeaderMap),
+    /// `PassOn::tunnel`.
+    Tunnel(&'a Asked),
+    /// `PassOn::admits`.
+    Admits(SocketAddr),
+}
+
+/// What such a call returns.
+#[derive(Drop)]
+pub enum Returned {
+    Nothing,
+    Whether(bool),
+    Road(Road),
+    Asking(Result<Asking, u16>),
+    Shape(Shape),
+    Passing(Result<Passing, u16>),
+    Tunnel(Result<TunnelEnd, u16>),
+}
+
+/// Takes the calls of a front.
+pub trait TakeCalls: Drop {
+    /// Takes one.
+    fn take_call(&mut self, call: Call<'_>) -> Returned;
+}
+
+/// A front whose calls another type takes.
+#[derive(Drop)]
+pub struct Handed<T> {
+    to: T,
+    has_passages: bool,
+}
+
+impl<T: TakeCalls> Handed<T> {
+    // A call that returns whether something is so.
+    fn whether(&mut self, call: Call<'_>) -> bool {
+        match self.to.take_call(call) {
+            Returned::Whether(whether) => whether,
+            _ => false,
+        }
+    }
+
+    // A call that accepts a request.
+    fn asking(&mut self, call: Call<'_>) -> Result<Asking, u16> {
+        match self.to.take_call(call) {
+            Returned::Asking(asking) => asking,
+            _ => Err(503),
+        }
+    }
+}
+
+impl<T: TakeCalls> Front for Handed<T> {
+    fn allows(&mut self, address: Ipv4Addr) -> bool {
+        self.whether(Call::Allows(address))
+    }
+
+    fn road(&mut self, method: &str) -> Road {
+        match self.to.take_call(Call::Road(method)) {
+            Returned::Road(road) => road,
+            _ => Road::Refused,
+        }
+    }
+
+    fn ask(&mut self, asked: &Asked) -> Result<Asking, u16> {
+        self.asking(Call::Ask(asked))
+    }
+
+    fn ask_alone(&mut self, asked: &Asked) -> Result<Asking, u16> {
+        self.asking(Call::AskAlone(asked))
+    }
+}
+
+impl<T: TakeCalls> FollowUp for Handed<T> {
+    fn shape(&mut self, asked: &Asked, object: &Object) -> Shape {
+        match self.to.take_call(Call::Shape(asked, object)) {
+            Returned::Shape(shape) => shape,
+            _ => Shape::Whole,
+        }
+    }
+
+    fn gone(&mut self, client: u64) {
+        let _ = self.to.take_call(Call::Gone(client));
+    }
+
+    fn answered(&mut self) {
+        let _ = self.to.take_call(Call::Answered);
+    }
+
+    fn tell(&mut self, told: &Told<'_>) {
+        let _ = self.to.take_call(Call::Tell(told));
+    }
+}
+
+impl<T: TakeCalls> PassOn for Handed<T> {
+    fn has_passages(&self) -> bool {
+        self.has_passages
+    }
+
+    fn is_large(&mut self, asked: &Asked) -> bool {
+        self.whether(Call::IsLarge(asked))
+    }
+
+    fn pass_on(&mut self, asked: &Asked, content: Option<Coming>) -> Result<Passing, u16> {
+        match self.to.take_call(Call::PassOn(asked, content)) {
+            Returned::Passing(passing) => passing,
+            _ => Err(501),
+        }
+    }
+
+    fn passed(&mut self, asked: &Asked, status: u16, head: &HeaderMap) {
+        let _ = self.to.take_call(Call::Passed(asked, status, head));
+    }
+
+    fn tunnel(&mut self, asked: &Asked) -> Result<TunnelEnd, u16> {
+        match self.to.take_call(Call::Tunnel(asked)) {
+            Returned::Tunnel(tunnel) => tunnel,
+            _ => Err(501),
+        }
+    }
+
+    fn admits(&mut self, server: SocketAddr) -> bool {
+        self.whether(Call::Admits(server))
+    }
+}
+
+/// Has a front served whose calls `to` takes, and which passes requests on or opens tunnels only if `has_passages`.
+pub(crate) fn hand_over<T: TakeCalls, S: ServeFront>(
+    to: T,
+    has_passages: bool,
+    server: S,
+) -> io::Result<()> {
+    server.serve(Handed { to, has_passages })
+}

@@ -1,0 +1,193 @@
+//! Notices on standard error: fetches that failed, and datagrams that are no messages. A thread of its own writes them.
+use crate::proxy_state::ProxyState;
+use http_traffic::{FetchFault, Supplier};
+use log_writer::{LogDesk, Pace};
+use node_core::Stats;
+use std::alloc::{AllocError, Global};
+use std::sync::ledger::Ledger;
+use std::sync::{Mutex, Wait};
+use std::time::{Clock, Duration, Instant};
+
+/// The most notices of a second.
+const NOTICES_A_SECOND: u32 = 20;
+
+/// The most octets of a URL in a notice.
+const URL_OCTETS: usize = 1_024;
+
+/// Where notices go.
+#[derive(Drop)]
+pub struct Notices {
+    desk: LogDesk,
+    // Locked to count one notice.
+    pace: Mutex<Pace>,
+}
+
+impl Notices {
+    /// Notices that are handed to the thread that writes for this desk.
+    pub fn new(desk: LogDesk) -> Notices {
+        Notices {
+            desk,
+            pace: Mutex::new(Pace::new(NOTICES_A_SECOND)),
+        }
+    }
+
+    // Whether a notice may be made now: how many were left out before it.
+    fn admit<R: Wait + Clock>(&self, rt: &R) -> Option<u64> {
+        let now = Instant::now(rt).ok()?;
+        self.pace.lock(rt).admit(now)
+    }
+
+    // Hands over a line, which says how many were left out before it. Where there is no memory for it, it is not written.
+    fn offer<R: Wait>(
+        &self,
+        rt: &R,
+        alloc: Global,
+        line: Result<String, AllocError>,
+        left_out: u64,
+    ) {
+        let Ok(mut line) = line else {
+            return;
+        };
+        if push_end(alloc, &mut line, left_out).is_ok() {
+            self.desk.offer(rt, line.into_bytes());
+        }
+    }
+
+    /// Tells why an attempt of a fetch of this URL from `supplier` failed. Says nothing of one that nobody wants any more.
+    pub fn tell_fetch<R: Wait + Clock>(
+        &self,
+        rt: &R,
+        alloc: Global,
+        fetch: u32,
+        url: &[u8],
+        supplier: Supplier,
+        fault: FetchFault,
+    ) {
+        let Some(reason) = reason_of(fault) else {
+            return;
+        };
+        if let Some(left_out) = self.admit(rt) {
+            let line = fetch_line(alloc, fetch, url, supplier, reason);
+            self.offer(rt, alloc, line, left_out);
+        }
+    }
+
+    // Tells how many datagrams at a socket were no messages, if any.
+    fn tell_malformed<R: Wait + Clock>(&self, rt: &R, alloc: Global, socket: &str, count: u64) {
+        if count == 0 {
+            return;
+        }
+        if let Some(left_out) = self.admit(rt) {
+            let line = malformed_line(alloc, socket, count);
+            self.offer(rt, alloc, line, left_out);
+        }
+    }
+}
+
+// Why a fetch failed, in words. `None` if nobody wants it any more.
+fn reason_of(fault: FetchFault) -> Option<&'static str> {
+    match fault {
+        FetchFault::Lookup => Some("no address was found for its name"),
+        FetchFault::Connect => Some("connection refused or not reached"),
+        FetchFault::Request => Some("the request cannot be made"),
+        FetchFault::Cut => Some("the connection ended within the response"),
+        FetchFault::NotHttp => Some("the response is not HTTP"),
+        FetchFault::LargeHead | FetchFault::TooLarge => Some("the response is too large"),
+        FetchFault::Time => Some("timed out"),
+        FetchFault::NoMemory => Some("out of memory"),
+        FetchFault::Cancelled => None,
+    }
+}
+
+// The line of a fetch that failed, without its end. The URL, which is visible ASCII, is cut to its first octets.
+fn fetch_line(
+    alloc: Global,
+    fetch: u32,
+    url: &[u8],
+    supplier: Supplier,
+    reason: &str,
+) -> Result<String, AllocError> {
+    let url = url.get(..URL_OCTETS).unwrap_or(url);
+    let url = str::from_utf8(url).unwrap_or("?");
+    let line = match supplier {
+        Supplier::Origin | Supplier::Confirmed => {
+            format!(in alloc; "fetch {fetch} of {url} from origin failed: {reason}")
+        }
+        Supplier::Neighbour(place) => {
+            format!(in alloc; "fetch {fetch} of {url} from neighbour/{place} failed: {reason}")
+        }
+    };
+    line.map_err(|_| AllocError)
+}
+
+// The line of datagrams that were no messages, without its end.
+fn malformed_line(alloc: Global, socket: &str, count: u64) -> Result<String, AllocError> {
+    let datagrams = if count == 1 { "datagram" } else { "datagrams" };
+    let line = format!(in alloc; "{socket}: {count} malformed {datagrams} within the last second");
+    line.map_err(|_| AllocError)
+}
+
+// Appends the end of a line: how many notices were left out before it, if any.
+fn push_end(alloc: Global, line: &mut String, left_out: u64) -> Result<(), AllocError> {
+    if left_out == 0 {
+        return line.push_str("\n");
+    }
+    match format!(in alloc; " ({left_out} notices before this one were left out)\n") {
+        Ok(end) => line.push_str(end.as_str()),
+        Err(_) => Err(AllocError),
+    }
+}
+
+/// Tells of datagrams that are no messages. Owned by the query thread.
+#[derive(Drop)]
+pub struct MalformedWatch {
+    // When the node's counters were looked at last, and what they were.
+    looked: Option<Instant>,
+    icp: u64,
+    htcp: u64,
+}
+
+impl MalformedWatch {
+    /// A watch that has not looked yet.
+    pub fn new() -> MalformedWatch {
+        MalformedWatch {
+            looked: None,
+            icp: 0,
+            htcp: 0,
+        }
+    }
+
+    // Whether the last look was a second ago.
+    fn is_due(&self, now: Instant) -> bool {
+        match self.looked {
+            Some(looked) => Duration::from_secs(1) <= now.saturating_duration_since(looked),
+            None => true,
+        }
+    }
+
+    /// Looks at the node's counters, at most once a second, and tells by how much they rose. Where there are no notices it does
+    /// nothing.
+    pub fn look<R: Wait + Clock, L: Ledger>(
+        &mut self,
+        rt: &R,
+        alloc: Global,
+        proxy: &ProxyState<L>,
+    ) {
+        let Some(notices) = &proxy.notices else {
+            return;
+        };
+        let Ok(now) = Instant::now(rt) else {
+            return;
+        };
+        if !self.is_due(now) {
+            return;
+        }
+        let Stats { icp, htcp } = proxy.desk.stats(rt);
+        let (icp, htcp) = (icp.malformed, htcp.malformed);
+        notices.tell_malformed(rt, alloc, "icp", icp.saturating_sub(self.icp));
+        notices.tell_malformed(rt, alloc, "htcp", htcp.saturating_sub(self.htcp));
+        self.looked = Some(now);
+        self.icp = icp;
+        self.htcp = htcp;
+    }
+}

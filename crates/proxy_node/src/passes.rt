@@ -1,0 +1,187 @@
+//! What passes the proxy without the node: requests that are passed on as they are, answers that are too long to be stored, and
+//! tunnels. The rules of this, and how many are under way.
+use filter_slots::End;
+use forwarding::{Destination, Peer, origin_of, peer_of};
+use http_rules::OriginRules;
+use http_traffic::Ticket;
+use lru::LruCache;
+use object_store::CacheKey;
+use serve_config::PassedMethod;
+use std::alloc::{AllocError, Global};
+use std::sync::atomic::{AtomicUsize, Ordering};
+use std::sync::{Arc, Mutex, Wait};
+use std::time::{Clock, Duration, Instant};
+
+/// The most URLs of which it is known that their answers are too long to be stored.
+const LARGE_KEYS: usize = 1_024;
+
+/// For how many seconds that is known.
+const LARGE_SECONDS: u64 = 60;
+
+/// URLs whose answers were too long to be stored a short time ago.
+#[derive(Drop)]
+pub struct LargeKeys {
+    // Until when this is known of each, the ones that were noted last before the others.
+    until: LruCache<CacheKey, Instant>,
+}
+
+impl LargeKeys {
+    /// None yet. Errors: out of memory.
+    pub fn new(alloc: Global) -> Result<LargeKeys, AllocError> {
+        Ok(LargeKeys {
+            until: LruCache::unbounded(alloc)?,
+        })
+    }
+
+    /// Notes that the answer of this URL is too long. Of 1,024 others the one that was noted first is forgotten. Where memory is
+    /// short, nothing is noted.
+    fn note(&mut self, now: Instant, key: CacheKey) {
+        let Some(end) = now.checked_add(Duration::from_secs(LARGE_SECONDS)) else {
+            return;
+        };
+        let _ = self.until.put(key, end);
+        if self.until.len() > LARGE_KEYS {
+            let _ = self.until.pop_lru();
+        }
+    }
+
+    // Whether the answer of this URL is known to be too long.
+    fn has(&self, now: Instant, key: &CacheKey) -> bool {
+        match self.until.peek(key.as_slice()) {
+            Some(end) => now < *end,
+            None => false,
+        }
+    }
+}
+
+/// So many at a time, and how many there are.
+#[derive(Drop)]
+pub struct Places {
+    most: usize,
+    taken: Arc<AtomicUsize>,
+}
+
+impl Places {
+    /// All of them free. Errors: out of memory.
+    pub fn new(alloc: Global, most: u32) -> Result<Places, AllocError> {
+        Ok(Places {
+            most: most as usize,
+            taken: Arc::new(alloc, AtomicUsize::new(0))?,
+        })
+    }
+
+    /// Takes one, until the ticket is dropped. `None` if all are taken.
+    pub fn take(&self) -> Option<Ticket> {
+        Ticket::take(&self.taken, self.most)
+    }
+
+    /// How many are taken.
+    pub fn taken(&self) -> u64 {
+        self.taken.load(Ordering::SeqCst) as u64
+    }
+}
+
+/// Where a request that is passed on goes, and whether that is an origin server.
+#[derive(Drop)]
+pub struct Onwards {
+    pub destination: Destination,
+    pub is_origin: bool,
+}
+
+/// What passes the proxy without the node.
+#[derive(Drop)]
+pub struct Passes {
+    /// The methods whose requests are passed on.
+    pub methods: Vec<PassedMethod>,
+    /// The ports that tunnels may lead to.
+    pub connect_ports: Vec<u16>,
+    /// Where tunnels may lead to. Locked while one server is judged.
+    pub ends: Mutex<OriginRules>,
+    /// The URLs whose answers are passed on, as they are too long to be stored; `None` if such answers are refused. Locked to note one
+    /// or to look for one.
+    pub large: Option<Mutex<LargeKeys>>,
+    /// Requests that are passed on.
+    pub streams: Places,
+    /// Tunnels.
+    pub tunnels: Places,
+    /// How long neither side of a request that is passed on may be without an octet.
+    pub stream_still: Duration,
+    /// How long both sides of a tunnel may be without an octet.
+    pub tunnel_still: Duration,
+    /// Time to connect the end of a tunnel.
+    pub connecting: Duration,
+    /// Whether origin servers are connected to; otherwise the parent is.
+    pub is_direct: bool,
+    /// The first parent of the configuration.
+    pub parent: Option<Peer>,
+}
+
+impl Passes {
+    /// Whether requests are passed on or open tunnels at all.
+    pub fn has_any(&self) -> bool {
+        !self.methods.is_empty() || !self.connect_ports.is_empty()
+    }
+
+    /// Whether requests with this method are passed on.
+    pub fn has_method(&self, method: &str) -> bool {
+        self.methods.iter().any(|passed| passed.name() == method)
+    }
+
+    /// Whether there are tunnels.
+    pub fn has_tunnels(&self) -> bool {
+        !self.connect_ports.is_empty()
+    }
+
+    /// Whether requests or answers are passed on.
+    pub fn has_streams(&self) -> bool {
+        !self.methods.is_empty() || self.large.is_some()
+    }
+
+    /// Whether a tunnel may lead to this port.
+    pub fn has_port(&self, port: u16) -> bool {
+        self.connect_ports.iter().any(|known| *known == port)
+    }
+
+    /// Whether a tunnel may lead to this server.
+    pub fn admits<R: Wait>(&self, rt: &R, server: End) -> bool {
+        self.ends.lock(rt).admits(server)
+    }
+
+    /// Adds a bound socket of this cache, which no tunnel leads to. Errors: out of memory.
+    pub fn add_own<R: Wait>(&self, rt: &R, end: End) -> Result<(), AllocError> {
+        Ok(self.ends.lock(rt).own.push(end)?)
+    }
+
+    /// Notes that the answer of this URL is too long to be stored.
+    pub fn note_large<R: Wait + Clock>(&self, rt: &R, key: CacheKey) {
+        if let Some(large) = &self.large
+            && let Ok(now) = Instant::now(rt)
+        {
+            large.lock(rt).note(now, key);
+        }
+    }
+
+    /// Whether the answer of this URL is known to be too long to be stored.
+    pub fn is_large<R: Wait + Clock>(&self, rt: &R, key: &CacheKey) -> bool {
+        let Some(large) = &self.large else {
+            return false;
+        };
+        match Instant::now(rt) {
+            Ok(now) => large.lock(rt).has(now, key),
+            Err(_) => false,
+        }
+    }
+
+    /// Where a request for this URL goes that is passed on. `None` if there is nobody to pass it on to, or if out of memory.
+    pub fn onwards(&self, alloc: Global, key: &CacheKey) -> Option<Onwards> {
+        let destination = if self.is_direct {
+            origin_of(alloc, key.as_slice())
+        } else {
+            peer_of(alloc, key.as_slice(), self.parent?)
+        };
+        Some(Onwards {
+            destination: destination?,
+            is_origin: self.is_direct,
+        })
+    }
+}

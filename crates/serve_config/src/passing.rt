@@ -1,0 +1,232 @@
+//! What is passed on beside the node: requests with other methods, tunnels, and answers that are too long for the store.
+ghost use Rattle.std.specs.Prelude.{◌≡◌, ◌≤◌, [], ◌∷◌, ◌++◌, All, IfOk, IfSome, Some, bytes_eq, false, map};
+ghost use Rattle.std.specs.List.{IsDistinct, list_any};
+ghost use Rattle.serde_json.specs.View.{view};
+ghost use Rattle.serve_config.specs.Passing.{AreConnectPorts, AreMethods, large_said, method_name, name_of};
+
+use crate::fault::Fault;
+use crate::place::Place;
+use crate::shape::items;
+use crate::value::{number, number_of, word};
+use serde_json::Value;
+use std::alloc::{AllocError, Global};
+
+// The most ports of `connect_ports`.
+const MOST_PORTS: usize = 64;
+
+/// A method (RFC 9110, section 9.3; RFC 5789) beside GET whose requests are passed on as they are.
+#[derive(Clone, Copy, Debug, PartialEq, Eq)]
+pub enum PassedMethod {
+    Head,
+    Post,
+    Put,
+    Delete,
+    Options,
+    Patch,
+}
+
+impl PassedMethod {
+    /// The method as it stands in a request.
+    pub fn name(self) -> &'static str
+        ensures { result.now ≡ method_name self }
+    {
+        match self {
+            PassedMethod::Head => "HEAD",
+            PassedMethod::Post => "POST",
+            PassedMethod::Put => "PUT",
+            PassedMethod::Delete => "DELETE",
+            PassedMethod::Options => "OPTIONS",
+            PassedMethod::Patch => "PATCH",
+        }
+    }
+
+    // The method of this name, if it is one of them.
+    fn of(name: &str) -> Option<PassedMethod>
+        ensures { IfSome result (λ method. name.now ≡ method_name method) }
+    {
+        match name {
+            "HEAD" => Some(PassedMethod::Head),
+            "POST" => Some(PassedMethod::Post),
+            "PUT" => Some(PassedMethod::Put),
+            "DELETE" => Some(PassedMethod::Delete),
+            "OPTIONS" => Some(PassedMethod::Options),
+            "PATCH" => Some(PassedMethod::Patch),
+            _ => None,
+        }
+    }
+}
+
+/// What becomes of an answer that is too long for the store.
+#[derive(Clone, Copy, Debug, PartialEq, Eq)]
+pub enum Large {
+    /// It is a failed fetch. It is the usual one.
+    Refuse,
+    /// It is passed on to its client as it comes.
+    Stream,
+}
+
+/// What a configuration says about all of it.
+#[derive(Drop)]
+pub(crate) struct PassingKeys {
+    pub(crate) methods: Vec<PassedMethod>,
+    pub(crate) connect_ports: Vec<u16>,
+    pub(crate) large: Large,
+    pub(crate) streams: u32,
+    pub(crate) tunnels: u32,
+    pub(crate) fetch_seconds: u32,
+}
+
+/// Parses what a configuration says about all of it.
+pub(crate) fn passing_keys(alloc: Global, value: &Value) -> Result<PassingKeys, Fault>
+    ensures methods { IfOk result (λ s. AreMethods (view value.now) s.methods.items) }
+    ensures connect_ports { IfOk result (λ s. AreConnectPorts s.connect_ports.items) }
+    ensures large { IfOk result (λ s. large_said (view value.now) ≡ Some s.large) }
+    ensures streams { IfOk result (λ s. (1 ≤ s.streams) × (s.streams ≤ 4096)) }
+    ensures tunnels { IfOk result (λ s. (1 ≤ s.tunnels) × (s.tunnels ≤ 4096)) }
+    ensures fetch_seconds { IfOk result (λ s. (1 ≤ s.fetch_seconds) × (s.fetch_seconds ≤ 86400)) }
+{
+    Ok(PassingKeys {
+        methods: methods(alloc, value)?,
+        connect_ports: connect_ports(alloc, value)?,
+        large: large_of(alloc, value)?,
+        streams: number_or(alloc, value, "streams", 4096, 256)?,
+        tunnels: number_or(alloc, value, "tunnels", 4096, 1024)?,
+        fetch_seconds: number_or(alloc, value, "fetch_seconds", 86_400, 30)?,
+    })
+}
+
+// Parses the methods, in their order. Errors: another word, or one that is there twice.
+#[tactic(auto, using(crate::proofs::Methods::said_methods))]
+fn methods(alloc: Global, value: &Value) -> Result<Vec<PassedMethod>, Fault>
+    ensures { IfOk result (λ methods. AreMethods (view value.now) methods.items) }
+{
+    let Some(listed) = value.get("methods") else {
+        return Ok(Vec::new(alloc));
+    };
+    let Some(words) = listed.as_array() else {
+        return Err(Fault::shape(alloc, Place::whole().key("methods"), "not a list"));
+    };
+    methods_of(alloc, words.as_slice())
+}
+
+// The methods that these words name.
+#[tactic(auto, using(crate::proofs::Methods::none_twice))]
+fn methods_of(alloc: Global, words: &[Value]) -> Result<Vec<PassedMethod>, Fault>
+    ensures said { IfOk result (λ methods. map view words.now ≡ map name_of methods.items) }
+    ensures once { IfOk result (λ methods. IsDistinct bytes_eq (map method_name methods.items)) }
+{
+    let mut methods = Vec::new(alloc);
+    for word in words {
+        let method = method(alloc, word, Place::item("methods", methods.len()))?;
+        methods = with_method(alloc, methods, method)?;
+    }
+    Ok(methods)
+}
+
+// These methods and this one. Errors: it is one of them.
+fn with_method(
+    alloc: Global,
+    methods: Vec<PassedMethod>,
+    method: PassedMethod,
+) -> Result<Vec<PassedMethod>, Fault>
+    requires { IsDistinct bytes_eq (map method_name methods.items) }
+    ensures all { IfOk result (λ after. after.items ≡ methods.items ++ method ∷ []) }
+    ensures once { IfOk result (λ after. IsDistinct bytes_eq (map method_name after.items)) }
+{
+    if has_method(methods.as_slice(), method) {
+        let place = Place::item("methods", methods.len());
+        return Err(Fault::text(alloc, place, method.name(), "is there twice"));
+    }
+    Ok(with_new(methods, method)?)
+}
+
+// These methods and this one, which is none of them.
+fn with_new(
+    methods: Vec<PassedMethod>,
+    method: PassedMethod,
+) -> Result<Vec<PassedMethod>, AllocError>
+    requires once { IsDistinct bytes_eq (map method_name methods.items) }
+    requires new { list_any (λ other. bytes_eq (method_name method) (method_name other)) methods.items ≡ false }
+    ensures all { IfOk result (λ after. after.items ≡ methods.items ++ method ∷ []) }
+    ensures once { IfOk result (λ after. IsDistinct bytes_eq (map method_name after.items)) }
+{
+    let mut methods = methods;
+    methods.push(method)?;
+    Ok(methods)
+}
+
+// Parses one method.
+fn method(alloc: Global, word: &Value, place: Place<'_>) -> Result<PassedMethod, Fault>
+    ensures { IfOk result (λ method. view word.now ≡ name_of method) }
+{
+    let Some(name) = word.as_str() else {
+        return Err(Fault::shape(alloc, place, "not a text"));
+    };
+    match PassedMethod::of(name) {
+        Some(method) => Ok(method),
+        None => {
+            let what = "is none of HEAD, POST, PUT, DELETE, OPTIONS and PATCH";
+            Err(Fault::text(alloc, place, name, what))
+        }
+    }
+}
+
+// Whether a method is one of these.
+fn has_method(methods: &[PassedMethod], method: PassedMethod) -> bool
+    ensures { result ≡ list_any (λ other. bytes_eq (method_name method) (method_name other)) methods.now }
+{
+    methods.iter().any(|other| method.name() == other.name())
+}
+
+// Parses the ports that a tunnel may lead to. Errors: over 64 of them, or one that is none.
+fn connect_ports(alloc: Global, value: &Value) -> Result<Vec<u16>, Fault>
+    ensures { IfOk result (λ ports. AreConnectPorts ports.items) }
+{
+    let ports = each_port(alloc, value)?;
+    if ports.len() > MOST_PORTS {
+        let place = Place::whole().key("connect_ports");
+        return Err(Fault::value(alloc, place, "over 64 of them"));
+    }
+    Ok(ports)
+}
+
+// Parses each of these ports.
+fn each_port(alloc: Global, value: &Value) -> Result<Vec<u16>, Fault>
+    ensures { IfOk result (λ ports. All (λ port. 1 ≤ port) ports.items) }
+{
+    let items = items(value, "connect_ports");
+    let mut ports = Vec::new(alloc);
+    for i in 0..items.len() {
+        let place = Place::item("connect_ports", i);
+        let port = number_of(alloc, &items[i], place, 1, 65_535)? as u16;
+        ports.push(port).map_err(AllocError::from)?;
+    }
+    Ok(ports)
+}
+
+// Parses what becomes of a long answer.
+fn large_of(alloc: Global, value: &Value) -> Result<Large, Fault>
+    ensures { IfOk result (λ large. large_said (view value.now) ≡ Some large) }
+{
+    match word(alloc, value, "large", "refuse")? {
+        "refuse" => Ok(Large::Refuse),
+        "stream" => Ok(Large::Stream),
+        given => {
+            let place = Place::whole().key("large");
+            Err(Fault::text(alloc, place, given, "is neither refuse nor stream"))
+        }
+    }
+}
+
+// Parses the number of a key, from 1 to `most`; `usual` if there is no such key.
+fn number_or(alloc: Global, value: &Value, key: &str, most: u32, usual: u32) -> Result<u32, Fault>
+    requires least { 1 ≤ usual }
+    requires most { usual ≤ most }
+    ensures { IfOk result (λ n. (1 ≤ n) × (n ≤ most)) }
+{
+    if value.get(key).is_none() {
+        return Ok(usual);
+    }
+    let place = Place::whole().key(key);
+    Ok(number(alloc, value, place, 1, u64::from(most))? as u32)
+}

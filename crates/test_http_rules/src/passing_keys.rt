@@ -1,0 +1,185 @@
+//! The keys of a configuration of `serve` about what is passed on beside the node, and about the fields that shared fetches send.
+use crate::settings::{GOOD, told_with};
+use serve_config::{Large, PassedMethod, Settings};
+use std::alloc::Global;
+use std::test::Fail;
+
+// A key of the configuration, and the expected result.
+const KEYS: [(&str, &str); 31] = [
+    (r#""methods": []"#, "read"),
+    (
+        r#""methods": ["HEAD", "POST", "PUT", "DELETE", "OPTIONS", "PATCH"]"#,
+        "read",
+    ),
+    (
+        r#""methods": ["POST", "GET"]"#,
+        "config fault 3\nmethods[1]: \"GET\" is none of HEAD, POST, PUT, DELETE, OPTIONS and PATCH",
+    ),
+    (
+        r#""methods": ["head"]"#,
+        "config fault 3\nmethods[0]: \"head\" is none of HEAD, POST, PUT, DELETE, OPTIONS and PATCH",
+    ),
+    (
+        r#""methods": ["PUT", "HEAD", "PUT"]"#,
+        "config fault 3\nmethods[2]: \"PUT\" is there twice",
+    ),
+    (
+        r#""methods": "HEAD""#,
+        "config fault 2\nmethods: not a list",
+    ),
+    (
+        r#""methods": ["HEAD", 1]"#,
+        "config fault 2\nmethods[1]: not a text",
+    ),
+    (r#""connect_ports": []"#, "read"),
+    (r#""connect_ports": [443, 1, 65535]"#, "read"),
+    (
+        r#""connect_ports": [443, 0]"#,
+        "config fault 3\nconnect_ports[1]: 0 is below 1",
+    ),
+    (
+        r#""connect_ports": [65536]"#,
+        "config fault 3\nconnect_ports[0]: 65536 is above 65535",
+    ),
+    (
+        r#""connect_ports": ["443"]"#,
+        "config fault 2\nconnect_ports[0]: not a whole number",
+    ),
+    (r#""large": "refuse""#, "read"),
+    (r#""large": "stream""#, "read"),
+    (
+        r#""large": "streams""#,
+        "config fault 3\nlarge: \"streams\" is neither refuse nor stream",
+    ),
+    (r#""large": true"#, "config fault 2\nlarge: not a text"),
+    (r#""streams": 1, "tunnels": 1"#, "read"),
+    (r#""streams": 4096, "tunnels": 4096"#, "read"),
+    (r#""streams": 0"#, "config fault 3\nstreams: 0 is below 1"),
+    (
+        r#""tunnels": 4097"#,
+        "config fault 3\ntunnels: 4097 is above 4096",
+    ),
+    (r#""fetch_seconds": 86400"#, "read"),
+    (
+        r#""fetch_seconds": 86401"#,
+        "config fault 3\nfetch_seconds: 86401 is above 86400",
+    ),
+    (
+        r#""fetch_seconds": 1.5"#,
+        "config fault 2\nfetch_seconds: not a whole number",
+    ),
+    (r#""shared_fields": {}"#, "read"),
+    (
+        r#""shared_fields": {"user-agent": "a", "accept": "*/*", "accept-language": "en, de;q=0.5", "from": "webmaster@example.org"}"#,
+        "read",
+    ),
+    (
+        r#""shared_fields": {"User-Agent": "a"}"#,
+        "config fault 3\nshared_fields: \"User-Agent\" is none of user-agent, accept, accept-language and from",
+    ),
+    (
+        r#""shared_fields": {"cookie": "a=b"}"#,
+        "config fault 3\nshared_fields: \"cookie\" is none of user-agent, accept, accept-language and from",
+    ),
+    (
+        r#""shared_fields": {"accept": ""}"#,
+        "config fault 3\nshared_fields.accept: \"\" is not 1 to 255 visible characters and blanks with no blank at either end",
+    ),
+    (
+        r#""shared_fields": {"accept": "a "}"#,
+        "config fault 3\nshared_fields.accept: \"a \" is not 1 to 255 visible characters and blanks with no blank at either end",
+    ),
+    (
+        r#""shared_fields": {"from": 1}"#,
+        "config fault 2\nshared_fields.from: not a text",
+    ),
+    (
+        r#""shared_fields": []"#,
+        "config fault 2\nshared_fields: not an object",
+    ),
+];
+
+#[test]
+fn keys(rt: HostRuntime) -> Result<(), Fail> {
+    for (key, wanted) in KEYS {
+        let told = told_with(rt.alloc(), key)?;
+        assert_eq!(rt; told.as_str(), wanted, "{key}");
+    }
+    Ok(())
+}
+
+// This many times the port 443.
+fn told_of_ports(alloc: Global, count: usize) -> Result<String, Fail> {
+    let mut key = String::from_str(alloc, r#""connect_ports": [443"#)?;
+    for _ in 1..count {
+        key.push_str(", 443")?;
+    }
+    key.push_str("]")?;
+    told_with(alloc, key.as_str())
+}
+
+#[test]
+fn many_ports(rt: HostRuntime) -> Result<(), Fail> {
+    assert_eq!(rt; told_of_ports(rt.alloc(), 64)?.as_str(), "read");
+    assert_eq!(rt;
+        told_of_ports(rt.alloc(), 65)?.as_str(),
+        "config fault 3\nconnect_ports: over 64 of them"
+    );
+    Ok(())
+}
+
+// A User-Agent of this many octets.
+fn told_of_agent(alloc: Global, octets: usize) -> Result<String, Fail> {
+    let mut key = String::from_str(alloc, r#""shared_fields": {"user-agent": ""#)?;
+    for _ in 0..octets {
+        key.push_str("a")?;
+    }
+    key.push_str("\"}")?;
+    let told = told_with(alloc, key.as_str())?;
+    Ok(String::from_str(alloc, told.split('"').next().unwrap_or(""))?)
+}
+
+#[test]
+fn long_values(rt: HostRuntime) -> Result<(), Fail> {
+    assert_eq!(rt; told_of_agent(rt.alloc(), 255)?.as_str(), "read");
+    assert_eq!(rt;
+        told_of_agent(rt.alloc(), 256)?.as_str(),
+        "config fault 3\nshared_fields.user-agent: "
+    );
+    Ok(())
+}
+
+#[test]
+fn what_is_left_out_is_usual(rt: HostRuntime) -> Result<(), Fail> {
+    let settings = Settings::read(rt.alloc(), GOOD.as_bytes())?;
+    assert!(rt; settings.methods.is_empty() && settings.connect_ports.is_empty());
+    assert!(rt; settings.large == Large::Refuse);
+    assert!(rt; settings.streams == 256 && settings.tunnels == 1024);
+    assert!(rt; settings.fetch_seconds == 30);
+    assert!(rt; settings.shared_fields.is_empty());
+    Ok(())
+}
+
+// The good configuration with all these keys.
+fn with_all(alloc: Global) -> Result<Settings, Fail> {
+    let keys =
+        r#""methods": ["POST", "HEAD"], "connect_ports": [443, 8443], "large": "stream", "streams": 2, "tunnels": 3, "fetch_seconds": 4, "shared_fields": {"user-agent": "Wabretos 1", "accept": "*/*"}, "volume""#;
+    let text = GOOD.replace(alloc, r#""volume""#, keys)?;
+    Ok(Settings::read(alloc, text.as_bytes())?)
+}
+
+#[test]
+fn what_is_said(rt: HostRuntime) -> Result<(), Fail> {
+    let settings = with_all(rt.alloc())?;
+    assert!(rt; settings.methods.as_slice() == [PassedMethod::Post, PassedMethod::Head].as_slice());
+    assert!(rt; settings.connect_ports.as_slice() == [443, 8443].as_slice());
+    assert!(rt; settings.large == Large::Stream);
+    assert!(rt; settings.streams == 2 && settings.tunnels == 3);
+    assert!(rt; settings.fetch_seconds == 4);
+    assert_eq!(rt; settings.shared_fields.len(), 2);
+    let first = &settings.shared_fields[0];
+    assert!(rt; first.name.as_str() == "accept" && first.value.as_str() == "*/*");
+    let second = &settings.shared_fields[1];
+    assert!(rt; second.name.as_str() == "user-agent" && second.value.as_str() == "Wabretos 1");
+    Ok(())
+}

@@ -1,0 +1,72 @@
+//! Requests without any field that decides how they are answered. The names are those of RFC 9110, 9111 and 8586 that `classify`,
+//! `choose`, `answer_to` and `has_come_back` read.
+
+use crate::heads::head_of;
+use http_rules::{StoredAnswer, answer_to, choose, classify, has_come_back, is_plain_request};
+use node_core::Mode;
+use std::alloc::Global;
+use std::test::Fail;
+
+const PLAIN: [&str; 7] = [
+    "",
+    "Host: a",
+    "Host: a\nUser-Agent: b\nAccept: */*\nAccept-Encoding: gzip\nAccept-Language: en\nReferer: http://a/",
+    "Connection: keep-alive\nUpgrade-Insecure-Requests: 1\nSec-Fetch-Dest: document\nDNT: 1",
+    "Via: 1.1 a\nX-Forwarded-For: 192.0.2.1\nMax-Forwards: 0\nTE: trailers",
+    // Like the names that count, but others.
+    "Cookie2: a\nX-Range: bytes=0-1\nIf-Match-X: *\nProxy-Authorization: Basic YTpi\nAccept-Ranges: bytes",
+    "CDN-Loops: a\nCDN-Cache-Control: no-store\nSurrogate-Control: no-store\nContent-Range: x\nIf: x\nExpires: 0",
+];
+
+const OTHERS: [&str; 16] = [
+    "Authorization: Basic YTpi",
+    "Cookie: a=b",
+    "Cache-Control: no-cache",
+    "Cache-Control: max-age=0",
+    "Pragma: no-cache",
+    "Range: bytes=0-1",
+    "If-Match: \"a\"",
+    "If-None-Match: \"a\"",
+    "If-Modified-Since: Sat, 29 Oct 1994 19:43:31 GMT",
+    "If-Unmodified-Since: Sat, 29 Oct 1994 19:43:31 GMT",
+    "If-Range: \"a\"",
+    "CDN-Loop: a",
+    // In any case, also where the value says nothing.
+    "COOKIE: a=b",
+    "cache-control: x",
+    "rAnGe: x",
+    "pragma: x",
+];
+
+// Whether a request is plain that has these fields, with others before and after them.
+fn is_plain_among(alloc: Global, lines: &str) -> Result<bool, Fail> {
+    let lines = format!(in alloc; "Host: a\nAccept: */*\n{lines}\nUser-Agent: b")?;
+    Ok(is_plain_request(&head_of(alloc, lines.as_str())?))
+}
+
+#[test]
+fn plain_requests(rt: HostRuntime) -> Result<(), Fail> {
+    for lines in PLAIN {
+        assert!(rt; is_plain_request(&head_of(rt.alloc(), lines)?), "{lines}");
+    }
+    for lines in OTHERS {
+        assert!(rt; !is_plain_request(&head_of(rt.alloc(), lines)?), "{lines}");
+        assert!(rt; !is_plain_among(rt.alloc(), lines)?, "{lines}");
+    }
+    Ok(())
+}
+
+// What is said of plain requests.
+#[test]
+fn answers_to_plain_requests(rt: HostRuntime) -> Result<(), Fail> {
+    let object = Vec::new(rt.alloc());
+    for lines in PLAIN {
+        let head = head_of(rt.alloc(), lines)?;
+        assert_eq!(rt; classify("GET", &head), Ok(Mode::Shared), "{lines}");
+        assert_eq!(rt; choose("GET", &head, None), Ok(Mode::Shared), "{lines}");
+        let answer = answer_to("GET", &head, &object, 10);
+        assert_eq!(rt; answer, StoredAnswer::Whole, "{lines}");
+        assert!(rt; !has_come_back(&head, b"a"), "{lines}");
+    }
+    Ok(())
+}

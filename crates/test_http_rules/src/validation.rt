@@ -1,0 +1,262 @@
+//! Validation of stored objects. The cases follow from the text of RFC 9111, sections 3.2 and 4.3, by hand.
+
+use crate::heads::head_of;
+use http_rules::{PassFault, conditions_for, has_validator, is_about, may_validate, updated};
+use std::alloc::Global;
+use std::test::Fail;
+
+// The fields of a stored object, from lines of the form `name: value`.
+fn stored(alloc: Global, lines: &str) -> Result<Vec<(Vec<u8>, Vec<u8>)>, Fail> {
+    let mut fields = Vec::new(alloc);
+    for line in lines.lines() {
+        let (name, value) = line.split_once(": ").ok_or("no field")?;
+        let name = name.as_bytes().to_ascii_lowercase(alloc)?;
+        fields.push((name, value.as_bytes().to_vec(alloc)?))?;
+    }
+    Ok(fields)
+}
+
+// Fields as lines of the form `name: value`.
+fn lines_of(alloc: Global, fields: &[(Vec<u8>, Vec<u8>)]) -> Result<String, Fail> {
+    let mut lines = String::new(alloc);
+    for (name, value) in fields {
+        let (name, value) = (str::from_utf8(name.as_slice())?, value.as_slice());
+        let between = if lines.is_empty() { "" } else { "\n" };
+        let line = format!(in alloc; "{between}{name}: {}", str::from_utf8(value)?)?;
+        lines.push_str(line.as_str())?;
+    }
+    Ok(lines)
+}
+
+// The fields of an object, and those of a request that validates it.
+const CONDITIONS: [(&str, &str); 12] = [
+    ("ETag: \"a\"", "if-none-match: \"a\""),
+    ("ETag: W/\"a\"", "if-none-match: W/\"a\""),
+    (
+        "Last-Modified: Sat, 29 Oct 1994 19:43:31 GMT",
+        "if-modified-since: Sat, 29 Oct 1994 19:43:31 GMT",
+    ),
+    (
+        "Last-Modified: Sat, 29 Oct 1994 19:43:31 GMT\nServer: x\nETag: \"a\"",
+        "if-none-match: \"a\"\nif-modified-since: Sat, 29 Oct 1994 19:43:31 GMT",
+    ),
+    // As it was received, in a format that is out of use too.
+    (
+        "Last-Modified: Sun Nov  6 08:49:37 1994",
+        "if-modified-since: Sun Nov  6 08:49:37 1994",
+    ),
+    // No validators.
+    ("", ""),
+    ("Date: Sat, 29 Oct 1994 19:43:31 GMT", ""),
+    ("ETag: a", ""),
+    ("ETag: w/\"a\"", ""),
+    ("Last-Modified: yesterday", ""),
+    // Which of two is that of the object isn't known.
+    (
+        "ETag: \"a\"\nETag: \"b\"\nLast-Modified: Sat, 29 Oct 1994 19:43:31 GMT",
+        "if-modified-since: Sat, 29 Oct 1994 19:43:31 GMT",
+    ),
+    (
+        "Last-Modified: Sat, 29 Oct 1994 19:43:31 GMT\nLast-Modified: Sat, 29 Oct 1994 19:43:31 GMT\nETag: \"a\"",
+        "if-none-match: \"a\"",
+    ),
+];
+
+#[test]
+fn conditions_of_an_object(rt: HostRuntime) -> Result<(), Fail> {
+    for (lines, wanted) in CONDITIONS {
+        let object = stored(rt.alloc(), lines)?;
+        let fields = conditions_for(rt.alloc(), &object)?;
+        let found = lines_of(rt.alloc(), &fields)?;
+        assert_eq!(rt; found.as_str(), wanted, "{lines}");
+        assert_eq!(rt; has_validator(&object), !wanted.is_empty(), "{lines}");
+    }
+    Ok(())
+}
+
+const TAGGED: &str = "ETag: \"a\"\nLast-Modified: Sat, 29 Oct 1994 19:43:31 GMT";
+
+const WEAK: &str = "ETag: W/\"a\"\nLast-Modified: Sat, 29 Oct 1994 19:43:31 GMT";
+
+const DATED: &str = "Last-Modified: Sat, 29 Oct 1994 19:43:31 GMT";
+
+// The fields of a 304, those of the object, and whether it is about the object.
+const ABOUT: [(&str, &str, bool); 24] = [
+    // A strong entity tag.
+    ("ETag: \"a\"", TAGGED, true),
+    ("ETag: \"b\"", TAGGED, false),
+    ("ETag: \"A\"", TAGGED, false),
+    ("ETag: \"a\"", WEAK, false),
+    ("ETag: \"a\"", DATED, false),
+    ("ETag: \"a\"", "", false),
+    // It decides alone, as one of the strong validators has to be the same.
+    (
+        "ETag: \"a\"\nLast-Modified: Sun, 30 Oct 1994 19:43:31 GMT",
+        TAGGED,
+        true,
+    ),
+    (
+        "ETag: \"b\"\nLast-Modified: Sat, 29 Oct 1994 19:43:31 GMT",
+        TAGGED,
+        false,
+    ),
+    // A weak one.
+    ("ETag: W/\"a\"", TAGGED, true),
+    ("ETag: W/\"a\"", WEAK, true),
+    ("ETag: W/\"b\"", WEAK, false),
+    ("ETag: W/\"a\"", DATED, false),
+    (
+        "ETag: W/\"a\"\nLast-Modified: Sat, 29 Oct 1994 19:43:31 GMT",
+        TAGGED,
+        true,
+    ),
+    (
+        "ETag: W/\"a\"\nLast-Modified: Sun, 30 Oct 1994 19:43:31 GMT",
+        TAGGED,
+        false,
+    ),
+    // Last-Modified alone.
+    (DATED, TAGGED, true),
+    (DATED, DATED, true),
+    (
+        "Last-Modified: Saturday, 29-Oct-94 19:43:31 GMT",
+        DATED,
+        true,
+    ),
+    (
+        "Last-Modified: Sat, 29 Oct 1994 19:43:32 GMT",
+        TAGGED,
+        false,
+    ),
+    (DATED, "ETag: \"a\"", false),
+    ("Last-Modified: x", "Last-Modified: x", false),
+    // No validator.
+    ("Date: Sat, 29 Oct 1994 19:43:31 GMT", TAGGED, true),
+    ("", DATED, true),
+    // What is no entity tag is compared like one, and of two none counts.
+    ("ETag: a", "ETag: a\nLast-Modified: x", true),
+    ("ETag: \"a\"\nETag: \"a\"", TAGGED, false),
+];
+
+#[test]
+fn what_a_304_is_about(rt: HostRuntime) -> Result<(), Fail> {
+    for (lines, object, wanted) in ABOUT {
+        let head = head_of(rt.alloc(), lines)?;
+        let fields = stored(rt.alloc(), object)?;
+        assert_eq!(rt; is_about(&head, &fields), wanted, "{lines} / {object}");
+    }
+    Ok(())
+}
+
+// The fields of an object, those of a 304, and what the object has then.
+const UPDATED: [(&str, &str, &str); 14] = [
+    ("", "", ""),
+    ("Server: a", "", "server: a"),
+    ("", "Server: a", "server: a"),
+    ("Server: a\nX: 1", "Server: b", "x: 1\nserver: b"),
+    // Each field takes the place of all stored ones of its name.
+    ("X: 1\nX: 2\nY: 3", "X: 4", "y: 3\nx: 4"),
+    ("X: 1", "X: 2\nX: 3", "x: 2\nx: 3"),
+    ("X: 1", "X: 1", "x: 1"),
+    // Content-Type is updated, what the stored body depends on is not.
+    (
+        "Content-Type: a/b\nContent-Length: 7\nContent-Encoding: gzip",
+        "Content-Type: c/d\nContent-Length: 0\nContent-Encoding: br\nContent-Range: bytes 0-1/2",
+        "content-length: 7\ncontent-encoding: gzip\ncontent-type: c/d",
+    ),
+    // Neither hop-by-hop fields nor those that Connection names.
+    (
+        "X: 1\nY: 2",
+        "Connection: close, X\nX: 3\nKeep-Alive: a\nTransfer-Encoding: chunked\nTE: b\nTrailer: c\nUpgrade: d",
+        "x: 1\ny: 2",
+    ),
+    // Those of a proxy.
+    (
+        "Y: 2",
+        "Proxy-Authenticate: a\nProxy-Authentication-Info: b\nProxy-Authorization: c",
+        "y: 2",
+    ),
+    // Stored fields of the message that brought the object go.
+    ("Age: 9\nDate: a\nVia: b\nX: 1", "", "x: 1"),
+    (
+        "Age: 9\nDate: a\nVia: b",
+        "Date: c\nVia: d\nAge: 3",
+        "age: 3\ndate: c\nvia: d",
+    ),
+    (
+        "Cache-Control: max-age=1\nExpires: x\nETag: \"a\"",
+        "Cache-Control: max-age=9\nETag: W/\"a\"",
+        "expires: x\ncache-control: max-age=9\netag: W/\"a\"",
+    ),
+    // What is new is added, whatever it is.
+    ("X: 1", "Set-Cookie: a=b", "x: 1\nset-cookie: a=b"),
+];
+
+// The lines of the text in another order.
+fn has_lines(lines: &str, wanted: &str) -> bool {
+    lines.lines().count() == wanted.lines().count()
+        && wanted
+            .lines()
+            .all(|line| lines.lines().any(|other| other == line))
+}
+
+// Fields of different names may be in any order.
+#[test]
+fn fields_brought_up_to_date(rt: HostRuntime) -> Result<(), Fail> {
+    for (object, lines, wanted) in UPDATED {
+        let head = head_of(rt.alloc(), lines)?;
+        let fields = stored(rt.alloc(), object)?;
+        let after = updated(rt.alloc(), &head, &fields)?;
+        let found = lines_of(rt.alloc(), &after)?;
+        assert!(rt;
+            has_lines(found.as_str(), wanted),
+            "{object} / {lines}: {found}"
+        );
+    }
+    Ok(())
+}
+
+// The 65th name is too many.
+#[test]
+fn names_in_connection(rt: HostRuntime) -> Result<(), Fail> {
+    let mut lines = "Connection: a".to_string(rt.alloc())?;
+    for _ in 1..64 {
+        lines.push_str(", a")?;
+    }
+    let head = head_of(rt.alloc(), lines.as_str())?;
+    assert!(rt; updated(rt.alloc(), &head, &Vec::new(rt.alloc())).is_ok());
+    lines.push_str(", a")?;
+    let head = head_of(rt.alloc(), lines.as_str())?;
+    let refused = updated(rt.alloc(), &head, &Vec::new(rt.alloc()));
+    assert!(rt; matches!(refused, Err(PassFault::TooManyNames)));
+    Ok(())
+}
+
+// Requests, and whether the fetch for one may validate.
+const VALIDATING: [(&str, bool); 16] = [
+    ("", true),
+    ("Cache-Control: max-age=0", true),
+    ("Cache-Control: no-cache", true),
+    ("Pragma: no-cache", true),
+    ("Cache-Control: max-age=0\nAccept-Encoding: gzip", true),
+    ("Cache-Control: no-cache, no-store", false),
+    ("Cache-Control: no-cache, x=\"no-store", false),
+    ("Cache-Control: no-cache\nAuthorization: Basic eA==", false),
+    ("Cache-Control: no-cache\nCookie: a=b", false),
+    ("Cache-Control: no-cache\nRange: bytes=0-1", false),
+    ("If-Range: \"a\"", false),
+    ("Cache-Control: max-age=0\nIf-None-Match: \"a\"", false),
+    ("If-None-Match: *", false),
+    ("If-Modified-Since: Sat, 29 Oct 1994 19:43:31 GMT", false),
+    ("If-Match: \"a\"", false),
+    ("If-Unmodified-Since: Sat, 29 Oct 1994 19:43:31 GMT", false),
+];
+
+#[test]
+fn requests_that_validate(rt: HostRuntime) -> Result<(), Fail> {
+    for (lines, wanted) in VALIDATING {
+        let head = head_of(rt.alloc(), lines)?;
+        assert_eq!(rt; may_validate(&head), wanted, "{lines}");
+    }
+    Ok(())
+}

@@ -1,0 +1,121 @@
+//! Lines of the access log, in both forms (`access_log`).
+use access_log::{Course, Entry, Form, Supplier, line_of};
+use std::test::Fail;
+
+const USUAL: Entry<'static> = Entry {
+    millis: 1_795_587_252_345,
+    client: [192, 168, 0, 250],
+    method: b"GET",
+    url: b"http://a.example/x?y=1",
+    referer: b"",
+    agent: b"curl/8.5.0",
+    status: Some(200),
+    octets: 1234,
+    taken: 12,
+    course: Course::Miss,
+    supplier: Some(Supplier::Origin),
+    is_whole: true,
+};
+
+// 2026-11-25 is 20,782 days after 1970-01-01: 56 years of 365 days with 14 leap days, and 328 days of 2026. 20,782 * 86,400 is
+// 1,795,564,800, and 06:14:12 is 22,452 s.
+#[test]
+fn lines_are_as_analysers_read_them(rt: HostRuntime) -> Result<(), Fail> {
+    let absent = Entry {
+        millis: 0,
+        client: [0, 0, 0, 0],
+        method: b"",
+        url: b"",
+        agent: b"",
+        status: None,
+        octets: 0,
+        taken: u64::MAX,
+        course: Course::Own,
+        supplier: None,
+        is_whole: false,
+        ..USUAL
+    };
+    let hostile = Entry {
+        millis: 4_294_967_295_007,
+        url: b"/\r\n\"\\\x00\xff\x7f~ ",
+        referer: b"\" 200 0",
+        agent: b"\xc3\xa9\t",
+        course: Course::Collapsed,
+        supplier: Some(Supplier::Neighbour(3)),
+        ..USUAL
+    };
+    let leap = Entry {
+        millis: 951_782_400_999,
+        course: Course::Hit,
+        supplier: None,
+        ..USUAL
+    };
+    let rows: [(Form, Entry, &[u8]); 7] = [
+        (
+            Form::Common,
+            USUAL,
+            b"192.168.0.250 - - [25/Nov/2026:06:14:12 +0000] \"GET http://a.example/x?y=1 HTTP/1.1\" 200 1234 \"-\" \"curl/8.5.0\" \"miss origin\" 12\n",
+        ),
+        (
+            Form::Json,
+            USUAL,
+            b"{\"time\":\"2026-11-25T06:14:12.345Z\",\"client\":\"192.168.0.250\",\"method\":\"GET\",\"url\":\"http://a.example/x?y=1\",\"status\":200,\"octets\":1234,\"ms\":12,\"how\":\"miss\",\"source\":\"origin\",\"whole\":true,\"agent\":\"curl/8.5.0\"}\n",
+        ),
+        (
+            Form::Common,
+            absent,
+            b"0.0.0.0 - - [01/Jan/1970:00:00:00 +0000] \"-\" 499 0 \"-\" \"-\" \"refused -\" 18446744073709551615\n",
+        ),
+        (
+            Form::Json,
+            absent,
+            b"{\"time\":\"1970-01-01T00:00:00.000Z\",\"client\":\"0.0.0.0\",\"method\":\"\",\"url\":\"\",\"status\":499,\"octets\":0,\"ms\":18446744073709551615,\"how\":\"refused\",\"source\":\"-\",\"whole\":false}\n",
+        ),
+        (
+            Form::Common,
+            hostile,
+            b"192.168.0.250 - - [07/Feb/2106:06:28:15 +0000] \"GET /\\x0D\\x0A\\x22\\x5C\\x00\\xFF\\x7F~  HTTP/1.1\" 200 1234 \"\\x22 200 0\" \"\\xC3\\xA9\\x09\" \"collapsed neighbour/3\" 12\n",
+        ),
+        (
+            Form::Json,
+            hostile,
+            b"{\"time\":\"2106-02-07T06:28:15.007Z\",\"client\":\"192.168.0.250\",\"method\":\"GET\",\"url\":\"/\\u000D\\u000A\\u0022\\u005C\\u0000\\u00FF\\u007F~ \",\"status\":200,\"octets\":1234,\"ms\":12,\"how\":\"collapsed\",\"source\":\"neighbour/3\",\"whole\":true,\"referer\":\"\\u0022 200 0\",\"agent\":\"\\u00C3\\u00A9\\u0009\"}\n",
+        ),
+        (
+            Form::Common,
+            leap,
+            b"192.168.0.250 - - [29/Feb/2000:00:00:00 +0000] \"GET http://a.example/x?y=1 HTTP/1.1\" 200 1234 \"-\" \"curl/8.5.0\" \"hit -\" 12\n",
+        ),
+    ];
+    for (form, entry, wanted) in rows {
+        let line = line_of(rt.alloc(), form, &entry)?;
+        assert_eq!(rt; line.as_slice(), wanted);
+    }
+    Ok(())
+}
+
+// A text is cut before it is escaped. Moments past the year 9999 are shown as its last millisecond.
+#[test]
+fn long_texts_and_late_moments_are_cut(rt: HostRuntime) -> Result<(), Fail> {
+    let long = vec![in rt.alloc(); b'\n'; 20_000]?;
+    let entry = Entry {
+        millis: u64::MAX,
+        url: long.as_slice(),
+        ..USUAL
+    };
+    let line = line_of(rt.alloc(), Form::Common, &entry)?;
+    let front = b"192.168.0.250 - - [31/Dec/9999:23:59:59 +0000] \"GET \\x0A\\x0A";
+    assert!(rt; line.as_slice().starts_with(front));
+    let back = b"\\x0A HTTP/1.1\" 200 1234 \"-\" \"curl/8.5.0\" \"miss origin\" 12\n";
+    assert!(rt; line.as_slice().ends_with(back));
+    assert_eq!(rt; line.len(), front.len() - 8 + 4 * 8_192 + back.len() - 4);
+    for millis in [253_402_300_799_999, 253_402_300_800_000, u64::MAX] {
+        let late = Entry { millis, ..USUAL };
+        let line = line_of(rt.alloc(), Form::Json, &late)?;
+        assert!(rt;
+            line.as_slice()
+                .starts_with(b"{\"time\":\"9999-12-31T23:59:59.999Z\",")
+        );
+    }
+    Ok(())
+}
