@@ -393,7 +393,10 @@ def answer_at(octets, at, method, ending):
         answer.judge(DOUBTFUL, "many before it", True)
     options = elements_of(answer.fields, b"connection")
     answer.judge(DOUBTFUL if len(options) > MANY_NAMES else GOOD, "names in Connection", True)
-    answer.closes = b"close" in options or head.lines[0].startswith(b"HTTP/1.0") and b"keep-alive" not in options
+    is_old = head.lines[0].startswith(b"HTTP/1.0")
+    answer.closes = b"close" in options or is_old and b"keep-alive" not in options
+    # Its framing counts as faulty (RFC 9112, section 6.1).
+    answer.judge(DOUBTFUL if is_old and is_chunked(answer.fields)[0] else GOOD, "chunks of HTTP/1.0")
     take_content(answer, octets, at, method, ending)
     return answer
 
