@@ -274,7 +274,7 @@ def opened_at(request, octets, at):
     that there is one, what stands behind it may be the next request."""
     has_framing = values_of(request.fields, b"content-length") or values_of(request.fields, b"transfer-encoding")
     request.judge(DOUBTFUL if has_framing else GOOD, "a framing of nothing")
-    is_empty = not has_framing or length_of(request.fields) == (0, GOOD) and not values_of(request.fields, b"transfer-encoding")
+    is_empty = not has_framing or length_of(request.fields)[0] == 0 and not values_of(request.fields, b"transfer-encoding")
     request.next = at if is_empty and not request.closes else None
     request.content, request.end, request.has_all, request.is_tunnel, request.closes = octets[at:], len(octets), True, True, True
     return request
