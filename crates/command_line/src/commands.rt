@@ -5,7 +5,7 @@ use clap::{Arg, Command};
 use std::alloc::{AllocError, Global};
 
 /// The version: the day of the newest entry of CHANGELOG.md.
-pub const VERSION: &str = "2026-11-25";
+pub const VERSION: &str = "2026-11-26";
 
 /// The usage of `replay`, whose three forms take other words.
 const REPLAY_USAGE: &str = "cache_main replay <filter> <capture> [OPTIONS]

@@ -626,11 +626,12 @@ fn is_token_octet(octet: u8) -> bool {
 /// once clients are accepted, and keeps in `open` how many connections of clients are open that are admitted. Errors: the socket or the
 /// event loop failed.
 ///
-/// A request is taken as `Front::road` says by its method: answered through the node, passed on with its content and the answer's as they
-/// come, or refused. An answer that `PassOn::is_large` says is too long to be stored is passed on as well. A client that is not admitted gets 403 before its head is read, and a client that stays silent for too
-/// long is disconnected. If a client disconnects while it waits, `FollowUp::gone` is called. A client that joined a fetch whose
-/// object may not be stored is not given it: its request is passed on once more, by `Front::ask_alone`. Responses with an object
-/// carry Cache-Status, and stored ones their Age; errors carry a line with the reason and a line with the URL.
+/// A request is taken as `Front::road` says by its method: answered through the node, passed on with its content and the answer's
+/// as they come, or refused. An answer that `PassOn::is_large` says is too long to be stored is passed on as well. A client that is
+/// not admitted gets 403 before its head is read, and a client that stays silent for too long is disconnected. If a client
+/// disconnects while it waits, `FollowUp::gone` is called. A client that joined a fetch whose object may not be stored is not given
+/// it: its request is passed on once more, by `Front::ask_alone`. Responses with an object carry Cache-Status, and stored ones
+/// their Age; errors carry a line with the reason and a line with the URL.
 ///
 /// `FollowUp::tell` is called once for each request, once for each client that is not admitted, and once for each connection that ends
 /// within a request's head: with the status of the library's answer where the head could not be read, and otherwise without an answer.
