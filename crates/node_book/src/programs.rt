@@ -65,9 +65,24 @@ impl Programs {
     {
         let swaps = desk.swaps();
         if self.slots.is_none() || self.swaps != swaps {
-            self.slots = Some(desk.programs(rt)?);
-            self.swaps = swaps;
+            return self.refresh(rt, desk, swaps);
         }
+        Ok(())
+    }
+
+    // Copies the programs, which were swapped this often before. A function of its own: inlined into `judge` it has the room for a
+    // copy cleared at every datagram, also where nothing was swapped.
+    #[inline(never)]
+    fn refresh<L: Ledger, R: Wait>(
+        &mut self,
+        rt: &R,
+        desk: &Desk<L>,
+        swaps: u64,
+    ) -> Result<(), NoMemory>
+        ensures { IfOk result (λ _. IsSome self.new) }
+    {
+        self.slots = Some(desk.programs(rt)?);
+        self.swaps = swaps;
         Ok(())
     }
 }
