@@ -66,6 +66,7 @@ struct Rules {
     origins: OriginRules,
     profile: Profile,
     shelf: Option<Mutex<Shelf>>,
+    serve_stale: u32,
     passes: Passes,
     shared_fields: Vec<Field>,
 }
@@ -133,6 +134,7 @@ fn rules_in(
         origins,
         profile: profile_of(alloc, settings)?,
         shelf: shelf_of(alloc, settings)?,
+        serve_stale: settings.serve_stale,
         passes,
         shared_fields: shared_fields_of(alloc, settings)?,
     })
@@ -211,6 +213,7 @@ fn state_of<L: Ledger>(
         origins,
         profile,
         shelf,
+        serve_stale,
         passes,
         shared_fields,
     } = kept.rules;
@@ -227,6 +230,7 @@ fn state_of<L: Ledger>(
         fetching: given.fetching,
         profile,
         shelf,
+        serve_stale,
         passes,
         shared_fields,
         admin_port: AtomicU16::new(kept.admin_port),

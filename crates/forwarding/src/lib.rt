@@ -14,5 +14,5 @@ mod validating;
 pub use addressing::{Destination, Peer, end_in_digits, origin_of, peer_of};
 pub use keeping::{Exchange, Life, Profile};
 pub use mailbox::{Field, Flight, Landed, Mailbox, Waiting};
-pub use objects::{object_of, refusal, via};
+pub use objects::{object_of, refusal, stale_object, via};
 pub use validating::confirmed;

@@ -233,7 +233,8 @@ impl Mailbox {
     }
 }
 
-fn copy_of(alloc: Global, fields: &[Field]) -> Result<Vec<Field>, AllocError> {
+/// A copy of some fields. Errors: out of memory.
+pub(crate) fn copy_of(alloc: Global, fields: &[Field]) -> Result<Vec<Field>, AllocError> {
     let mut copy = Vec::new(alloc);
     for (name, value) in fields {
         copy.push((name.to_vec(alloc)?, value.to_vec(alloc)?))?;

@@ -1,6 +1,6 @@
 //! Turns a fetched response into an object.
 use crate::keeping::Life;
-use crate::mailbox::Field;
+use crate::mailbox::{Field, copy_of};
 use http_rules::{PassFault, end_to_end};
 use http_traffic::Page;
 use object_store::{Object, SharedObject};
@@ -41,6 +41,14 @@ fn add_ours(
     }
     fields.push(via(alloc, name)?)?;
     Ok(())
+}
+
+/// An object as it is served while it is stale: with this age in seconds, and without a life, so that it is not stored. Errors: out of
+/// memory.
+pub fn stale_object(alloc: Global, object: &Object, age: u32) -> Result<SharedObject, AllocError> {
+    let fields = copy_of(alloc, object.head())?;
+    let body = object.body().to_vec(alloc)?;
+    SharedObject::new(alloc, Object::new(object.status(), fields, body, age, 0))
 }
 
 /// What a client gets whose URL is one of a server that may not be fetched from.

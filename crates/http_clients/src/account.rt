@@ -65,7 +65,11 @@ impl Facts {
     /// Notes how the request is answered.
     pub(crate) fn note_outcome(&mut self, outcome: &Outcome) {
         match outcome {
-            Outcome::Hit { .. } => self.how = How::Hit,
+            Outcome::Hit { .. }
+            | Outcome::Got {
+                supplier: Some(Supplier::Stale(_)),
+                ..
+            } => self.how = How::Hit,
             Outcome::Got { supplier, .. } => self.supplier = *supplier,
             Outcome::Fail(_) => {}
         }

@@ -305,9 +305,9 @@ impl<F: Front + FollowUp + PassOn> Waiting<F> {
     fn is_for_another(&self, answer: &Option<Outcome>) -> bool {
         if let Some(waits) = &self.waits
             && waits.forward == Forward::Collapsed
-            && let Some(Outcome::Got { object, .. }) = answer
+            && let Some(Outcome::Got { object, supplier }) = answer
         {
-            return object.get().life() == 0;
+            return object.get().life() == 0 && stale_age(*supplier).is_none();
         }
         false
     }
@@ -508,17 +508,16 @@ fn given_of(
     answer: Outcome,
     shape: Shape,
 ) -> Result<Given, u16> {
-    let (object, age, is_confirmed) = match answer {
-        Outcome::Hit { object, age } => (object, Some(age), false),
-        Outcome::Got { object, supplier } => {
-            (object, None, supplier == Some(Supplier::Confirmed))
-        }
+    let (object, age, supplier) = match answer {
+        Outcome::Hit { object, age } => (object, Some(age), None),
+        Outcome::Got { object, supplier } => (object, stale_age(supplier), supplier),
         Outcome::Fail(status) => return Err(status),
     };
-    let told = match age {
-        Some(age) => told_hit(alloc, label, ttl_of(&object, age)),
-        None if is_confirmed => told_confirmed(alloc, label, forward),
-        None => told_forward(alloc, label, forward),
+    let told = match (age, supplier) {
+        (_, Some(Supplier::Stale(_))) => told_stale(alloc, label),
+        (_, Some(Supplier::Confirmed)) => told_confirmed(alloc, label, forward),
+        (Some(age), _) => told_hit(alloc, label, ttl_of(&object, age)),
+        (None, _) => told_forward(alloc, label, forward),
     };
     match told {
         Ok(told) => Ok(Given::Object {
@@ -528,6 +527,14 @@ fn given_of(
             told,
         }),
         Err(_) => Err(503),
+    }
+}
+
+// The age of an object that was there before and is stale.
+fn stale_age(supplier: Option<Supplier>) -> Option<u32> {
+    match supplier {
+        Some(Supplier::Stale(age)) => Some(age),
+        _ => None,
     }
 }
 
@@ -543,6 +550,13 @@ fn told_hit(alloc: Global, label: &[u8], ttl: u64) -> Result<Vec<u8>, AllocError
     let mut told = label.to_vec(alloc)?;
     told.extend_from_slice(b"; hit; ttl=")?;
     told.extend_from_slice(ttl.to_string(alloc)?.as_bytes())?;
+    Ok(told)
+}
+
+// The Cache-Status member of a request that is given what is stale.
+fn told_stale(alloc: Global, label: &[u8]) -> Result<Vec<u8>, AllocError> {
+    let mut told = label.to_vec(alloc)?;
+    told.extend_from_slice(b"; hit; detail=stale")?;
     Ok(told)
 }
 

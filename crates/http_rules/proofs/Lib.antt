@@ -9,6 +9,7 @@ pub mod Named
 pub mod Numerals
 pub mod Lengths
 pub mod PlainHeads
+pub mod StoredDirectives
 pub mod StoredValues
 pub mod TagElements
 pub mod Texts

@@ -23,6 +23,7 @@ pub mod Refresh
 pub mod Requests
 pub mod Responses
 pub mod Reuse
+pub mod Stale
 pub mod Targets
 pub mod Text
 pub mod Updating

@@ -35,6 +35,7 @@ mod request;
 mod response;
 mod reuse;
 mod seconds;
+mod stale;
 mod target;
 mod text;
 mod updating;
@@ -61,6 +62,9 @@ pub use refresh::{RefreshRule, UrlPlace};
 pub use request::classify;
 pub use response::may_store;
 pub use reuse::accepts;
+pub use stale::{
+    StaleUse, has_stale_use, is_error, may_serve_stale, supersedes, takes_stale,
+};
 pub use target::{TargetFault, key_of, key_of_url};
 pub use updating::updated;
 pub use validation::{conditions_for, has_validator, is_about, may_validate};

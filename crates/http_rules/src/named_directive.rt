@@ -1,11 +1,12 @@
 //! Looking up directives by name (RFC 9111, section 5.2).
-ghost use Rattle.std.specs.Prelude.{◌≡◌};
+ghost use Rattle.std.specs.Prelude.{◌≡◌, ◌∷◌, []};
 ghost use Rattle.std.specs.Option.{option_copied};
 ghost use Rattle.http_header.specs.Token.{lowercase};
 ghost use Rattle.http_rules.specs.Fields.{fields_of};
-ghost use Rattle.http_rules.specs.Directives.{argument, directives_in, first_argument};
+ghost use Rattle.http_rules.specs.Validators.{stored_fields};
+ghost use Rattle.http_rules.specs.Directives.{argument, directives_in, first_argument, has_unclosed};
 
-use crate::directives::{split_directive, split_element};
+use crate::directives::{is_unclosed, split_directive, split_element};
 use crate::fields::values_of;
 use crate::text::is_name;
 use http_header::HeaderMap;
@@ -39,4 +40,46 @@ pub(crate) fn argument_in<'a>(value: &'a [u8], name: &[u8]) -> Option<&'a [u8]>
         rest = others;
     }
     None
+}
+
+/// As `argument_of`, for the fields of a stored object. `name` is in lower case.
+pub(crate) fn stored_argument<'a>(
+    object: &'a [(Vec<u8>, Vec<u8>)],
+    name: &[u8],
+) -> Option<&'a [u8]>
+    requires { lowercase name.now ≡ name.now }
+    ensures { option_copied result ≡ argument name.now (stored_fields object.now) }
+{
+    for i in 0..object.len() {
+        if let Some(argument) = argument_at(&object[i], name) {
+            return Some(argument);
+        }
+    }
+    None
+}
+
+// The argument of the first directive of one stored field with this name. `name` is in lower case.
+fn argument_at<'a>(field: &'a (Vec<u8>, Vec<u8>), name: &[u8]) -> Option<&'a [u8]>
+    requires { lowercase name.now ≡ name.now }
+    ensures { option_copied result ≡ argument name.now ((field.now.0.items, field.now.1.items) ∷ []) }
+{
+    if field.0.as_slice() == b"cache-control".as_slice() {
+        argument_in(field.1.as_slice(), name)
+    } else {
+        None
+    }
+}
+
+/// Whether some Cache-Control value of a stored object has an unclosed double quote.
+pub(crate) fn has_stored_unclosed(object: &[(Vec<u8>, Vec<u8>)]) -> bool
+    ensures { result ≡ has_unclosed (stored_fields object.now) }
+{
+    for i in 0..object.len() {
+        if object[i].0.as_slice() == b"cache-control".as_slice()
+            && is_unclosed(object[i].1.as_slice())
+        {
+            return true;
+        }
+    }
+    false
 }

@@ -30,6 +30,8 @@ pub enum Supplier {
     Confirmed,
     /// The neighbour at this place of the configuration, which is asked only for what it has stored if it is a sibling.
     Neighbour(usize),
+    /// Nobody now: the object was there before, is stale, and has this age in seconds.
+    Stale(u32),
 }
 
 /// The answer to a client.

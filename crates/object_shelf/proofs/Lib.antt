@@ -1,1 +1,1 @@
-pub mod Untimed
+pub mod Timed

@@ -1,9 +1,9 @@
 //! The shelf.
 
 ghost use Rattle.std.specs.Prelude.{◌≡◌, ◌≤◌, [], IsOk, IfOk, IfErr, OnOk, OnErr, length, option_copied};
-ghost use Rattle.object_store.specs.Pairs.{size_of, total_size};
+ghost use Rattle.object_store.specs.Pairs.{size_of, total_size, entry_at};
 ghost use Rattle.object_store.specs.Store.{AreLimits, IsStoreFault, IsPutFault, after_remove};
-ghost use Rattle.object_shelf.specs.Shelf.{IsShelf, after_object, entry_of, object_at};
+ghost use Rattle.object_shelf.specs.Shelf.{IsShelf, after_object, entry_of};
 
 use bpf_run::Moment;
 use object_store::{CacheKey, Entry, PutFault, SharedObject, Store, StoreFault};
@@ -14,19 +14,19 @@ use std::marker::Model;
 /// Contracts see the limits and the list of pairs, the one that was put here last first.
 #[derive(Debug, Drop)]
 pub struct Shelf {
-    // Every entry has the same time, before which all of them are fresh to the store.
+    // No entry has the first millisecond as its time, so that all of them are fresh to the store then.
     store: Store,
 }
 
 impl Model for Shelf {
     ghost use Rattle.object_store.specs.Store.{StoreState};
-    ghost use Rattle.object_shelf.specs.Shelf.{AreUntimed};
+    ghost use Rattle.object_shelf.specs.Shelf.{AreTimed};
 
     ghost Value = { StoreState };
 
     ghost view = { λ s. s.store };
 
-    ghost invariant = { λ s. AreUntimed s.store.pairs };
+    ghost invariant = { λ s. AreTimed s.store.pairs };
 }
 
 impl Shelf {
@@ -60,28 +60,31 @@ impl Shelf {
         self.store.octets()
     }
 
-    /// The object of a key. Changes nothing.
-    #[tactic(auto, using(crate::proofs::Untimed::fresh_before))]
-    pub fn get(&self, key: &[u8]) -> Option<&SharedObject>
-        ensures { option_copied result ≡ object_at key.now self.now }
+    /// The object of a key, and when it was put here. Changes nothing.
+    #[tactic(auto, using(crate::proofs::Timed::fresh_before))]
+    pub fn get(&self, key: &[u8]) -> Option<&Entry>
+        ensures { option_copied result ≡ entry_at key.now self.now.pairs }
     {
-        match self.store.peek_octets(key, first()) {
-            Some(entry) => Some(&entry.object),
-            None => None,
-        }
+        self.store.peek_octets(key, first())
     }
 
-    /// Puts an object here, in place of the one of its key; those that were put here before all others make room for it.
+    /// Puts an object here, in place of the one of its key; those that were put here before all others make room for it. `at` is the
+    /// time, of which the first millisecond counts as the second one.
     ///
     /// Errors: `TooLarge` if key and object alone exceed the octet limit, `NoMemory` if the allocation fails; nothing changes.
-    #[tactic(auto, using(crate::proofs::Untimed::untimed_put))]
-    pub fn put(&mut self, key: CacheKey, object: SharedObject) -> Result<(), PutFault>
-        ensures fits { IsOk result → size_of key (entry_of object) ≤ self.old.most_octets }
-        ensures changed { OnOk result (self.new ≡ after_object key object self.old) }
-        ensures fault { IfErr result (λ fault. IsPutFault self.old key (entry_of object) fault) }
+    #[tactic(auto, using(crate::proofs::Timed::timed_put))]
+    pub fn put(
+        &mut self,
+        key: CacheKey,
+        object: SharedObject,
+        at: Moment,
+    ) -> Result<(), PutFault>
+        ensures fits { IsOk result → size_of key (entry_of object at) ≤ self.old.most_octets }
+        ensures changed { OnOk result (self.new ≡ after_object key object at self.old) }
+        ensures fault { IfErr result (λ fault. IsPutFault self.old key (entry_of object at) fault) }
         ensures unchanged { OnErr result (self.new ≡ self.old) }
     {
-        let at = second();
+        let at = at.later(second());
         let entry = Entry { object, at };
         match self.store.put(key, entry) {
             Ok(()) => Ok(()),
@@ -90,7 +93,7 @@ impl Shelf {
     }
 
     /// Takes the object of a key away, if there is one.
-    #[tactic(auto, using(crate::proofs::Untimed::untimed_without))]
+    #[tactic(auto, using(crate::proofs::Timed::timed_without))]
     pub fn remove(&mut self, key: &[u8])
         ensures { self.new ≡ after_remove key.now self.old }
     {
@@ -105,7 +108,7 @@ fn first() -> Moment
     Moment::new(0).unwrap()
 }
 
-// The one after it, that of all entries.
+// The one after it.
 fn second() -> Moment
     ensures { result ≡ 1 }
 {

@@ -1,6 +1,7 @@
 //! Tests of the shelf: what is found, what makes room, and what is too large.
 
 use crate::Shelf;
+use bpf_run::Moment;
 use object_store::{CacheKey, Object, PutFault, SharedObject};
 use std::alloc::Global;
 use std::test::Fail;
@@ -26,15 +27,26 @@ fn put(
     body: usize,
 ) -> Result<bool, Fail> {
     let object = object(alloc, status, body)?;
-    match shelf.put(key(alloc, text)?, object) {
+    match shelf.put(key(alloc, text)?, object, moment(u64::from(status))?) {
         Ok(()) => Ok(true),
         Err(PutFault::TooLarge) => Ok(false),
         Err(PutFault::NoMemory) => Err("no memory".into()),
     }
 }
 
+fn moment(millis: u64) -> Result<Moment, Fail> {
+    Moment::new(millis).ok_or("no moment".into())
+}
+
+// The status of the object of a key, which is also when it was put there.
 fn status(shelf: &Shelf, text: &str) -> Option<u16> {
-    Some(shelf.get(text.as_bytes())?.get().status())
+    let entry = shelf.get(text.as_bytes())?;
+    let status = entry.object.get().status();
+    if entry.at.millis() == u64::from(status) {
+        Some(status)
+    } else {
+        None
+    }
 }
 
 #[test]
@@ -63,6 +75,17 @@ fn newest_stay(rt: HostRuntime) -> Result<(), Fail> {
     shelf.remove(b"http://a/9");
     assert_eq!(rt; status(&shelf, "http://a/4"), None);
     assert_eq!(rt; status(&shelf, "http://a/5"), Some(205));
+    Ok(())
+}
+
+#[test]
+fn first_millisecond(rt: HostRuntime) -> Result<(), Fail> {
+    let mut shelf = Shelf::new(rt.alloc(), 3, 100)?;
+    let first = moment(0)?;
+    let object = object(rt.alloc(), 200, 5)?;
+    assert!(rt; shelf.put(key(rt.alloc(), "http://a/1")?, object, first).is_ok());
+    let found = shelf.get(b"http://a/1");
+    assert_eq!(rt; found.map(|entry| entry.at.millis()), Some(1));
     Ok(())
 }
 

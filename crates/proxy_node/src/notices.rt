@@ -110,7 +110,7 @@ fn fetch_line(
     let url = url.get(..URL_OCTETS).unwrap_or(url);
     let url = str::from_utf8(url).unwrap_or("?");
     let line = match supplier {
-        Supplier::Origin | Supplier::Confirmed => {
+        Supplier::Origin | Supplier::Confirmed | Supplier::Stale(_) => {
             format!(in alloc; "fetch {fetch} of {url} from origin failed: {reason}")
         }
         Supplier::Neighbour(place) => {

@@ -1,15 +1,16 @@
 //! State shared by the threads of a proxy.
+use crate::clock::now;
 use crate::log::AccessLog;
 use crate::neighbour_counts::NeighbourEnds;
 use crate::notices::Notices;
 use crate::passes::Passes;
 use capture_tap::Tap;
 use crossbeam_channel::Sender;
-use filter_slots::End;
+use filter_slots::{End, Moment};
 use forwarding::{Destination, Field, Flight, Mailbox, Peer, Profile, origin_of, peer_of, via};
 use futures::channel::mpsc::UnboundedSender;
 use futures::channel::oneshot;
-use http_rules::{OriginRules, conditions_for};
+use http_rules::{OriginRules, StaleUse, conditions_for, has_validator, may_serve_stale};
 use http_traffic as serving;
 use http_traffic::{Admit, Job, Order, Passage, Server, Supplier};
 use mio_queries::Timeline;
@@ -17,7 +18,7 @@ use name_lookup::{NameDesk, hand_over, pass_over, server_of};
 use node_book::Desk;
 use node_core::{Action, Answer, Mode, NoMemory};
 use object_shelf::Shelf;
-use object_store::{CacheKey, SharedObject};
+use object_store::{CacheKey, Entry, SharedObject};
 use peer_select::Source;
 use plain_node::MAX_PENDING_FETCHES;
 use std::alloc::{AllocError, Global};
@@ -70,9 +71,11 @@ pub struct ProxyState<L: Ledger> {
     pub fetching: Duration,
     /// The rules by which responses are kept and requests answered from what is stored.
     pub profile: Profile,
-    /// What origins are asked about; `None` if they are asked for whole objects alone. Locked to look for an object, to put one there,
-    /// or to take one away.
+    /// What origins are asked about, and what may be served while it is stale; `None` if they are asked for whole objects alone. Locked
+    /// to look for an object, to put one there, or to take one away.
     pub shelf: Option<Mutex<Shelf>>,
+    /// For how many seconds after it went stale an object may be served whose origin is down, if its own directives allow no more.
+    pub serve_stale: u32,
     /// What passes the proxy without the node.
     pub passes: Passes,
     /// The fields of each shared fetch.
@@ -135,6 +138,27 @@ impl Wanted {
             began,
         }
     }
+}
+
+/// An object that is stale and may be served all the same, and its age in seconds.
+#[derive(Drop)]
+pub struct Stale {
+    pub object: SharedObject,
+    pub age: u32,
+}
+
+/// The object of an entry of the shelf, if it is stale and may be used for this. `serve_stale` are the operator's seconds.
+fn stale_in(entry: &Entry, now: Moment, occasion: StaleUse, serve_stale: u32) -> Option<Stale> {
+    let object = entry.object.get();
+    let stay = now.millis().saturating_sub(entry.at.millis()) / 1000;
+    let stay = u32::try_from(stay).unwrap_or(u32::MAX);
+    if !may_serve_stale(object.head(), occasion, stay, object.life(), serve_stale) {
+        return None;
+    }
+    Some(Stale {
+        object: entry.object.share().ok()?,
+        age: object.age().saturating_add(stay),
+    })
 }
 
 impl<L: Ledger> ProxyState<L> {
@@ -265,8 +289,20 @@ impl<L: Ledger> ProxyState<L> {
             return None;
         }
         let shelf = shelf.lock(rt);
-        let object = shelf.get(key)?;
-        object.share().ok()
+        let object = &shelf.get(key)?.object;
+        if has_validator(object.get().head()) {
+            object.share().ok()
+        } else {
+            None
+        }
+    }
+
+    /// What is on the shelf under a key, if it is stale and may be used for this.
+    pub fn stale<R: Wait + Clock>(&self, rt: &R, key: &[u8], occasion: StaleUse) -> Option<Stale> {
+        let shelf = self.shelf.as_ref()?;
+        let now = now(rt, &self.timeline);
+        let shelf = shelf.lock(rt);
+        stale_in(shelf.get(key)?, now, occasion, self.serve_stale)
     }
 
     /// The request fields of a fetch of `key` other than Host: those of the client that owns a private fetch, or the CDN-Loop

@@ -2,10 +2,13 @@
 use crate::clock::{date_seconds, micros_since, now};
 use crate::limits::{RETRIES, RETRY_MILLIS};
 use crate::node_handle::NodeHandle;
+use crate::proxy_state::Stale;
 use crossbeam_channel::Sender;
 use fetch_chain::Submit;
-use forwarding::{Exchange, Flight, Landed, Life, Profile, confirmed, object_of, refusal};
-use http_rules::has_validator;
+use forwarding::{
+    Exchange, Flight, Landed, Life, Profile, confirmed, object_of, refusal, stale_object,
+};
+use http_rules::{StaleUse, has_stale_use, has_validator, is_error, supersedes};
 use http_traffic::{FetchEnd, FetchFault, Fetched, Page, Supplier};
 use httpdate::HttpDate;
 use node_core::{Event, Mode, Outcome};
@@ -37,6 +40,34 @@ fn supplier_of(landed: &Landed, end: &FetchEnd) -> Option<Supplier> {
         }
         FetchEnd::Whole(_) | FetchEnd::Failed(_) => Some(landed.flight.supplier),
     }
+}
+
+/// Whether a stale object may be served in place of what came: a fetch for all clients from the origin brought an error, or no response
+/// that could be read. A body that is too long is no error: it is passed on.
+fn is_down(flight: Flight, end: &FetchEnd) -> bool {
+    if !flight.is_origin() || flight.mode != Mode::Shared {
+        return false;
+    }
+    match end {
+        FetchEnd::Whole(page) => is_error(page.status),
+        FetchEnd::Failed(fault) => matches!(
+            fault,
+            FetchFault::Lookup
+                | FetchFault::Connect
+                | FetchFault::Cut
+                | FetchFault::NotHttp
+                | FetchFault::LargeHead
+                | FetchFault::Time
+        ),
+        FetchEnd::Refused => false,
+    }
+}
+
+/// What the node is told of a fetch, and whom its object comes from.
+#[derive(Drop)]
+struct Delivery {
+    outcome: Outcome,
+    supplier: Option<Supplier>,
 }
 
 /// Submits the results of one fetch thread.
@@ -88,20 +119,35 @@ impl<R: Wait + Clock + Drop, L: Ledger> Results<R, L> {
         whole
     }
 
-    // Puts an object on the shelf that is stored and can be asked about. Where memory is short, or if it is too large for the shelf,
-    // it is not put there.
-    fn shelve(&self, key: Option<&CacheKey>, object: &SharedObject) {
-        let Some(shelf) = &self.node.proxy().shelf else {
+    // Puts an object on the shelf that is stored, and that can be asked about or may be of use once it is stale. Where memory is short,
+    // or if it is too large for the shelf, it is not put there.
+    fn shelve(&self, key: &CacheKey, object: &SharedObject) {
+        let proxy = self.node.proxy();
+        let Some(shelf) = &proxy.shelf else {
             return;
         };
-        if object.get().life() == 0 || !has_validator(object.get().head()) {
+        let head = object.get().head();
+        if !has_validator(head) && !has_stale_use(head, proxy.serve_stale) {
             return;
         }
-        if let Some(key) = key
-            && let Ok(key) = key.share()
+        if let Ok(key) = key.share()
             && let Ok(object) = object.share()
         {
-            let _ = shelf.lock(&self.rt).put(key, object);
+            let now = now(&self.rt, &proxy.timeline);
+            let _ = shelf.lock(&self.rt).put(key, object, now);
+        }
+    }
+
+    // Has the shelf follow what a fetch brought: what is stored is put there, and what the origin has something else for now is taken
+    // away, for all but the one client of a private fetch.
+    fn follow(&self, key: Option<&CacheKey>, flight: Flight, object: &SharedObject) {
+        let Some(key) = key else {
+            return;
+        };
+        if object.get().life() > 0 {
+            self.shelve(key, object);
+        } else if flight.mode == Mode::Shared && supersedes(object.get().status()) {
+            self.node.proxy().unshelve(&self.rt, key);
         }
     }
 
@@ -136,7 +182,7 @@ impl<R: Wait + Clock + Drop, L: Ledger> Results<R, L> {
         let life = self.life_of(key.as_ref(), flight, &page);
         let name = self.node.proxy().name.as_bytes();
         let object = object_of(self.alloc, name, life, page, date).ok()?;
-        self.shelve(key.as_ref(), &object);
+        self.follow(key.as_ref(), flight, &object);
         Some(object)
     }
 
@@ -157,6 +203,35 @@ impl<R: Wait + Clock + Drop, L: Ledger> Results<R, L> {
         }
     }
 
+    // What is served in place of what the origin could not give, if there is something.
+    fn stale(&self, fetch: u32) -> Option<Delivery> {
+        let proxy = self.node.proxy();
+        if proxy.shelf.is_none() {
+            return None;
+        }
+        let key = self.key_of(fetch)?;
+        let Stale { object, age } =
+            proxy.stale(&self.rt, key.as_slice(), StaleUse::InPlaceOfError)?;
+        let object = stale_object(self.alloc, object.get(), age).ok()?;
+        Some(Delivery {
+            outcome: Outcome::Object(object),
+            supplier: Some(Supplier::Stale(age)),
+        })
+    }
+
+    // What the node is told of a fetch.
+    fn delivery(&self, fetch: u32, landed: Landed, end: FetchEnd) -> Delivery {
+        if is_down(landed.flight, &end)
+            && let Some(stale) = self.stale(fetch)
+        {
+            return stale;
+        }
+        Delivery {
+            supplier: supplier_of(&landed, &end),
+            outcome: self.outcome(fetch, landed, end),
+        }
+    }
+
     // Counts how a fetch ended.
     fn note(&self, flight: Flight, end: &FetchEnd) {
         let (outcome, octets) = match end {
@@ -166,7 +241,7 @@ impl<R: Wait + Clock + Drop, L: Ledger> Results<R, L> {
         };
         let note = FetchNote {
             from: match flight.supplier {
-                Supplier::Origin | Supplier::Confirmed => FetchedFrom::Origin,
+                Supplier::Origin | Supplier::Confirmed | Supplier::Stale(_) => FetchedFrom::Origin,
                 Supplier::Neighbour(place) => FetchedFrom::Neighbour(place),
             },
             outcome,
@@ -237,8 +312,7 @@ impl<R: Wait + Clock + Drop, L: Ledger> Submit<Fetched> for Results<R, L> {
             self.tell(fetch, flight.supplier, *fault);
             self.note_large(fetch, *fault);
         }
-        let supplier = supplier_of(&landed, &end);
-        let outcome = self.outcome(fetch, landed, end);
+        let Delivery { outcome, supplier } = self.delivery(fetch, landed, end);
         if self.take(fetch, attempt, supplier, outcome) {
             return;
         }

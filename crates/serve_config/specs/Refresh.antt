@@ -36,3 +36,8 @@ pub record AreRules (freshness : Freshness) (rules : List RefreshRule) : Type 0 
   pub most : length rules ≤ 64
   pub each : All IsRule rules
   pub judged : freshness ≡ Published → rules ≡ []
+
+-- the seconds for which answers may be used once they are stale: at most 365 days, and none where freshness is judged as published
+pub record AreStaleSeconds (freshness : Freshness) (seconds : ℕ) : Type 0 where
+  pub most : seconds ≤ 31536000
+  pub judged : freshness ≡ Published → seconds ≡ 0

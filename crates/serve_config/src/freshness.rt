@@ -2,7 +2,7 @@
 ghost use Rattle.std.specs.Prelude.{◌≡◌, ◌≤◌, All, IfOk, Some, length};
 ghost use Rattle.std.specs.String.{string_bytes};
 ghost use Rattle.serde_json.specs.View.{view};
-ghost use Rattle.serve_config.specs.Refresh.{AreRules, IsRule, IsUrlPart, part_text};
+ghost use Rattle.serve_config.specs.Refresh.{AreRules, AreStaleSeconds, IsRule, IsUrlPart, part_text};
 ghost use Rattle.serve_config.specs.Words.{freshness_said};
 
 use crate::fault::Fault;
@@ -84,6 +84,28 @@ pub(crate) fn refresh_rules(
             ))
         }
         _ => Ok(rules),
+    }
+}
+
+/// Parses for how many seconds after it went stale an answer may be used whose origin is down; 0 without the key. Errors: not 0 to
+/// 31,536,000, or above 0 where freshness is judged as published.
+pub(crate) fn serve_stale(
+    alloc: Global,
+    value: &Value,
+    freshness: Freshness,
+) -> Result<u32, Fault>
+    ensures { IfOk result (λ seconds. AreStaleSeconds freshness seconds) }
+{
+    if value.get("serve_stale").is_none() {
+        return Ok(0);
+    }
+    let place = Place::whole().key("serve_stale");
+    let seconds = number(alloc, value, place, 0, 31_536_000)? as u32;
+    match freshness {
+        Freshness::Published if seconds > 0 => {
+            Err(Fault::value(alloc, place, "above 0, but freshness is not rfc9111"))
+        }
+        _ => Ok(seconds),
     }
 }
 

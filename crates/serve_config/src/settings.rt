@@ -11,14 +11,14 @@ ghost use Rattle.serve_config.specs.Mirrors.{AreMirrors};
 ghost use Rattle.serve_config.specs.Origins.{AreNetworks, ArePorts};
 ghost use Rattle.serve_config.specs.Own.{is_self, shares_port};
 ghost use Rattle.serve_config.specs.Passing.{AreConnectPorts, AreMethods, large_said};
-ghost use Rattle.serve_config.specs.Refresh.{AreRules, IsVisible};
+ghost use Rattle.serve_config.specs.Refresh.{AreRules, AreStaleSeconds, IsVisible};
 ghost use Rattle.serve_config.specs.SharedFields.{AreSharedFields};
 ghost use Rattle.serve_config.specs.Tokens.{IsToken};
 ghost use Rattle.serve_config.specs.Words.{form_said, freshness_said, level_said};
 
 use crate::fault::Fault;
 use crate::filters::{FilterFile, file, filters};
-use crate::freshness::{Freshness, RefreshRule, freshness_of, refresh_rules};
+use crate::freshness::{Freshness, RefreshRule, freshness_of, refresh_rules, serve_stale};
 use crate::group::{keys, neighbours};
 use crate::mirrors::{MirrorPath, mirrors};
 use crate::own::{check_apart, check_ports};
@@ -94,6 +94,9 @@ pub struct Settings {
     pub freshness: Freshness,
     /// The operator's rules about freshness, at most 64; none where `freshness` is as published.
     pub refresh: Vec<RefreshRule>,
+    /// For how many seconds after it went stale an answer may be used whose origin is down: 0 to 31,536,000, and 0 where `freshness` is
+    /// as published.
+    pub serve_stale: u32,
     /// What requests in origin form stand for.
     pub mirrors: Vec<MirrorPath>,
     /// The methods beside GET whose requests are passed on as they are, none of them twice.
@@ -138,6 +141,7 @@ impl Settings {
         ensures log_level { IfOk result (λ s. option_and_then level_said (read_json text.now) ≡ Some s.log_level) }
         ensures freshness { IfOk result (λ s. option_and_then freshness_said (read_json text.now) ≡ Some s.freshness) }
         ensures refresh { IfOk result (λ s. AreRules s.freshness s.refresh.items) }
+        ensures serve_stale { IfOk result (λ s. AreStaleSeconds s.freshness s.serve_stale) }
         ensures mirrors { IfOk result (λ s. AreMirrors s.mirrors.items) }
         ensures methods { IfOk result (λ s. IsSomeAnd (read_json text.now) (λ d. AreMethods d s.methods.items)) }
         ensures connect_ports { IfOk result (λ s. AreConnectPorts s.connect_ports.items) }
@@ -185,6 +189,7 @@ impl fmt::Debug for Settings {
             .field("log_level", &self.log_level)
             .field("freshness", &self.freshness)
             .field("refresh", &self.refresh)
+            .field("serve_stale", &self.serve_stale)
             .field("mirrors", &self.mirrors)
             .field("methods", &self.methods)
             .field("connect_ports", &self.connect_ports)
@@ -216,6 +221,7 @@ fn parse_values(alloc: Global, value: &Value) -> Result<Settings, Fault>
     ensures log_level { IfOk result (λ s. level_said (view value.now) ≡ Some s.log_level) }
     ensures freshness { IfOk result (λ s. freshness_said (view value.now) ≡ Some s.freshness) }
     ensures refresh { IfOk result (λ s. AreRules s.freshness s.refresh.items) }
+    ensures serve_stale { IfOk result (λ s. AreStaleSeconds s.freshness s.serve_stale) }
     ensures mirrors { IfOk result (λ s. AreMirrors s.mirrors.items) }
     ensures methods { IfOk result (λ s. AreMethods (view value.now) s.methods.items) }
     ensures connect_ports { IfOk result (λ s. AreConnectPorts s.connect_ports.items) }
@@ -259,6 +265,7 @@ fn parse_values(alloc: Global, value: &Value) -> Result<Settings, Fault>
         log_level: log_level(alloc, value)?,
         freshness,
         refresh: refresh_rules(alloc, value, freshness)?,
+        serve_stale: serve_stale(alloc, value, freshness)?,
         mirrors: mirrors(alloc, value)?,
         shared_fields: shared_fields(alloc, value)?,
         methods: passing.methods,

@@ -38,7 +38,7 @@ const TOP: [Known; 16] = [
 ];
 
 /// The keys that a configuration may leave out.
-const OPTIONAL: [Known; 22] = [
+const OPTIONAL: [Known; 23] = [
     ("receipt_octets", Kind::Number),
     ("book_octets", Kind::Number),
     ("fetch_octets", Kind::Number),
@@ -53,6 +53,7 @@ const OPTIONAL: [Known; 22] = [
     ("log_level", Kind::Text),
     ("freshness", Kind::Text),
     ("refresh", Kind::List),
+    ("serve_stale", Kind::Number),
     ("mirrors", Kind::Object),
     ("methods", Kind::List),
     ("connect_ports", Kind::List),

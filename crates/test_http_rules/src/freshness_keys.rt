@@ -1,4 +1,4 @@
-//! The keys `log_level`, `freshness` and `refresh` of a configuration of `serve`, and own ports that are in each other's way.
+//! The keys `log_level`, `freshness`, `refresh` and `serve_stale` of a configuration of `serve`, and own ports that are in each other's way.
 use crate::settings::{GOOD, told, told_with};
 use serve_config::{Freshness, LogLevel, Settings, UrlPart};
 use std::alloc::Global;
@@ -173,6 +173,40 @@ fn rules_need_rfc_9111(rt: HostRuntime) -> Result<(), Fail> {
     Ok(())
 }
 
+// A value of `serve_stale`, and the expected result.
+const STALE: [(&str, &str); 6] = [
+    ("0", "read"),
+    ("1", "read"),
+    ("31536000", "read"),
+    (
+        "31536001",
+        "config fault 3\nserve_stale: 31536001 is above 31536000",
+    ),
+    ("-1", "config fault 3\nserve_stale: -1 is below 0"),
+    ("true", "config fault 2\nserve_stale: not a whole number"),
+];
+
+#[test]
+fn stale_seconds(rt: HostRuntime) -> Result<(), Fail> {
+    for (seconds, wanted) in STALE {
+        let keys =
+            format!(in rt.alloc(); "\"freshness\": \"rfc9111\", \"serve_stale\": {seconds}")?;
+        let told = told_with(rt.alloc(), keys.as_str())?;
+        assert_eq!(rt; told.as_str(), wanted, "{seconds}");
+    }
+    Ok(())
+}
+
+#[test]
+fn stale_seconds_need_rfc_9111(rt: HostRuntime) -> Result<(), Fail> {
+    let wanted = "config fault 3\nserve_stale: above 0, but freshness is not rfc9111";
+    let published = r#""freshness": "published", "serve_stale": 1"#;
+    assert_eq!(rt; told_with(rt.alloc(), r#""serve_stale": 1"#)?.as_str(), wanted);
+    assert_eq!(rt; told_with(rt.alloc(), published)?.as_str(), wanted);
+    assert_eq!(rt; told_with(rt.alloc(), r#""serve_stale": 0"#)?.as_str(), "read");
+    Ok(())
+}
+
 // This many rules.
 fn told_of_count(alloc: Global, count: usize) -> Result<String, Fail> {
     let mut rules = String::from_str(alloc, r#"{"suffix": "a", "seconds": 1}"#)?;
@@ -223,13 +257,14 @@ fn what_is_left_out_is_usual(rt: HostRuntime) -> Result<(), Fail> {
     assert!(rt; settings.log_level == LogLevel::Quiet);
     assert!(rt; settings.freshness == Freshness::Published);
     assert!(rt; settings.refresh.is_empty());
+    assert!(rt; settings.serve_stale == 0);
     Ok(())
 }
 
 // The good configuration with all these keys.
 fn with_rules(alloc: Global) -> Result<Settings, Fail> {
     let keys =
-        r#""log_level": "info", "freshness": "rfc9111", "refresh": [{"suffix": ".deb", "seconds": 2592000}, {"prefix": "http://deb.example/", "seconds": 0, "override": true}], "volume""#;
+        r#""log_level": "info", "freshness": "rfc9111", "serve_stale": 3600, "refresh": [{"suffix": ".deb", "seconds": 2592000}, {"prefix": "http://deb.example/", "seconds": 0, "override": true}], "volume""#;
     let text = GOOD.replace(alloc, r#""volume""#, keys)?;
     Ok(Settings::read(alloc, text.as_bytes())?)
 }
@@ -239,6 +274,7 @@ fn rules_in_their_order(rt: HostRuntime) -> Result<(), Fail> {
     let settings = with_rules(rt.alloc())?;
     assert!(rt; settings.log_level == LogLevel::Info);
     assert!(rt; settings.freshness == Freshness::Rfc9111);
+    assert!(rt; settings.serve_stale == 3600);
     assert_eq!(rt; settings.refresh.len(), 2);
     let deb = &settings.refresh[0];
     assert!(rt; matches!(&deb.place, UrlPart::Suffix(text) if text.as_str() == ".deb"));

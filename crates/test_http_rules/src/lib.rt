@@ -24,4 +24,6 @@ mod rules;
 #[cfg(test)]
 mod settings;
 #[cfg(test)]
+mod stale;
+#[cfg(test)]
 mod validation;

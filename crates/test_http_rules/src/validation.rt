@@ -5,8 +5,8 @@ use http_rules::{PassFault, conditions_for, has_validator, is_about, may_validat
 use std::alloc::Global;
 use std::test::Fail;
 
-// The fields of a stored object, from lines of the form `name: value`.
-fn stored(alloc: Global, lines: &str) -> Result<Vec<(Vec<u8>, Vec<u8>)>, Fail> {
+/// The fields of a stored object, from lines of the form `name: value`.
+pub(crate) fn stored(alloc: Global, lines: &str) -> Result<Vec<(Vec<u8>, Vec<u8>)>, Fail> {
     let mut fields = Vec::new(alloc);
     for line in lines.lines() {
         let (name, value) = line.split_once(": ").ok_or("no field")?;

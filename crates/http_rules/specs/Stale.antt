@@ -1,0 +1,68 @@
+-- When a stored object may be served that is stale (RFC 9111, section 4.2.4; RFC 5861). Times are in seconds.
+use Rattle.std.specs.Prelude.{ℕ, ◌-◌, List, codes, nat_le, nat_lt, ◌==◌, not, ◌&&◌, ◌||◌, Bool, false, Option, Some, None, is_some, option_and_then, if◌then◌else◌}
+use Rattle.http_rules.specs.declared.stale.StaleUse.{StaleUse}
+use Rattle.http_rules.specs.declared.stale.StaleUse.TheVariants.{InPlaceOfError, WhileValidated}
+use Rattle.http_rules.specs.Fields.{Field}
+use Rattle.http_rules.specs.Directives.{argument, argument_seconds, asks, has_unclosed}
+
+-- whether a status is an error in whose place a stale object may be served (RFC 5861, section 4)
+abbrev pub is_error : ℕ → Bool
+is_error status = status == 500 || status == 502 || status == 503 || status == 504
+
+-- whether a response with this status that is not kept says that what was kept before is no longer so: the origin has something else
+-- there now, or nothing any more. Other errors and refusals, and a 304, say nothing of that.
+abbrev pub supersedes : ℕ → Bool
+supersedes status =
+    (nat_le 200 status && (nat_lt status 400 && not (status == 304))) || status == 404 || status == 410
+
+-- whether an object must not be served while it is stale (RFC 9111, section 4.2.4)
+abbrev pub prohibits_stale : List Field → Bool
+prohibits_stale fields =
+    -- section 5.2.2.4
+    asks (codes "no-cache") fields
+    -- section 5.2.2.2
+    || asks (codes "must-revalidate") fields
+    -- section 5.2.2.8
+    || asks (codes "proxy-revalidate") fields
+    -- section 5.2.2.10: it says what proxy-revalidate says
+    || asks (codes "s-maxage") fields
+    -- any of them might be hidden by the quote
+    || has_unclosed fields
+
+-- the seconds of a directive of RFC 5861; one whose argument is no number allows nothing
+abbrev pub window : List ℕ → List Field → Option ℕ
+window name fields = option_and_then argument_seconds (argument name fields)
+
+-- the operator's seconds: 0 allows nothing
+abbrev pub operators_window : ℕ → Option ℕ
+operators_window seconds = if nat_lt 0 seconds then Some seconds else None
+
+-- whether an object that has been stale for so long is within a window: the window says for how long it may have been
+abbrev pub is_within : ℕ → Option ℕ → Bool
+is_within staleness None = false
+is_within staleness (Some most) = nat_le staleness most
+
+-- whether an object that has been stale for so long may be used for this: in place of an error by stale-if-error (RFC 5861, section 4)
+-- or by the operator, and while it is validated by stale-while-revalidate (RFC 5861, section 3)
+abbrev pub permits : StaleUse → ℕ → ℕ → List Field → Bool
+permits InPlaceOfError staleness operators fields =
+    is_within staleness (window (codes "stale-if-error") fields) || is_within staleness (operators_window operators)
+permits WhileValidated staleness operators fields = is_within staleness (window (codes "stale-while-revalidate") fields)
+
+-- whether an object is stale and may be used for this. It came `stay` seconds ago and was fresh for `life` seconds from then on, so
+-- that it has been stale for the difference.
+abbrev pub may_serve_stale : StaleUse → ℕ → ℕ → ℕ → List Field → Bool
+may_serve_stale occasion stay life operators fields =
+    nat_le life stay && (not (prohibits_stale fields) && permits occasion (stay - life) operators fields)
+
+-- whether there is a use for an object once it is stale
+abbrev pub has_stale_use : ℕ → List Field → Bool
+has_stale_use operators fields =
+    not (prohibits_stale fields)
+    && (is_some (window (codes "stale-if-error") fields) || is_some (operators_window operators)
+    || is_some (window (codes "stale-while-revalidate") fields))
+
+-- whether a request takes what is stale: with max-age it wants nothing stale (RFC 9111, section 5.2.1.1), and with min-fresh something
+-- that is fresh for a time (section 5.2.1.3)
+abbrev pub takes_stale : List Field → Bool
+takes_stale request = not (asks (codes "max-age") request || asks (codes "min-fresh") request)

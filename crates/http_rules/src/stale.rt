@@ -1,0 +1,127 @@
+//! When an object may be served that is stale (RFC 9111, section 4.2.4; RFC 5861).
+ghost use Rattle.std.specs.Prelude.{◌≡◌, codes};
+ghost use Rattle.http_header.specs.Token.{lowercase};
+ghost use Rattle.http_rules.specs.Fields.{fields_of};
+ghost use Rattle.http_rules.specs.Validators.{stored_fields};
+ghost use Rattle.http_rules.specs.Stale.{is_error, supersedes, prohibits_stale, window, operators_window, is_within, permits, may_serve_stale, has_stale_use, takes_stale};
+
+use crate::directives::argument_seconds;
+use crate::named_directive::{argument_of, has_stored_unclosed, stored_argument};
+use http_header::HeaderMap;
+
+/// Why an object would be served although it is stale.
+#[derive(Clone, Copy, Debug, PartialEq, Eq)]
+pub enum StaleUse {
+    /// Its origin server has answered with an error, or not at all (RFC 5861, section 4).
+    InPlaceOfError,
+    /// Its origin server is asked about it meanwhile (RFC 5861, section 3).
+    WhileValidated,
+}
+
+/// Whether a status is an error in whose place a stale object may be served: 500, 502, 503 or 504 (RFC 5861, section 4).
+pub fn is_error(status: u16) -> bool
+    ensures { result ≡ is_error status }
+{
+    status == 500 || status == 502 || status == 503 || status == 504
+}
+
+/// Whether a response with this status that is not kept says that what was kept before is no longer so: 200 to 399 but for 304, 404
+/// and 410.
+pub fn supersedes(status: u16) -> bool
+    ensures { result ≡ supersedes status }
+{
+    (200 <= status && (status < 400 && status != 304)) || status == 404 || status == 410
+}
+
+/// Whether a stored object is stale and may be used for this. It came `stay` seconds ago, and was fresh for `life` seconds from then
+/// on.
+///
+/// In place of an error it may if it has been stale for at most as many seconds as its `stale-if-error` says, or as the operator
+/// allows, whose 0 allows nothing; while it is validated, if for at most as many as its `stale-while-revalidate` says. A directive
+/// whose argument is no number allows nothing. With `no-cache`, `must-revalidate`, `proxy-revalidate` or `s-maxage`, or a Cache-Control
+/// value with an unclosed quote, it never may (RFC 9111, section 4.2.4).
+pub fn may_serve_stale(
+    object: &[(Vec<u8>, Vec<u8>)],
+    occasion: StaleUse,
+    stay: u32,
+    life: u32,
+    operators: u32,
+) -> bool
+    ensures { result ≡ may_serve_stale occasion stay life operators (stored_fields object.now) }
+{
+    if stay < life || prohibits_stale(object) {
+        return false;
+    }
+    permits(object, occasion, stay - life, operators)
+}
+
+/// Whether there may be a use for a stored object once it is stale: whether it or the operator allows any.
+pub fn has_stale_use(object: &[(Vec<u8>, Vec<u8>)], operators: u32) -> bool
+    ensures { result ≡ has_stale_use operators (stored_fields object.now) }
+{
+    !prohibits_stale(object)
+        && (window(object, b"stale-if-error").is_some()
+            || operators_window(operators).is_some()
+            || window(object, b"stale-while-revalidate").is_some())
+}
+
+/// Whether a request takes what is stale: it has neither `max-age` nor `min-fresh` (RFC 9111, sections 5.2.1.1 and 5.2.1.3).
+pub fn takes_stale(head: &HeaderMap) -> bool
+    ensures { result ≡ takes_stale (fields_of head.now) }
+{
+    !(argument_of(head, b"max-age").is_some() || argument_of(head, b"min-fresh").is_some())
+}
+
+// Whether an object must not be served while it is stale.
+fn prohibits_stale(object: &[(Vec<u8>, Vec<u8>)]) -> bool
+    ensures { result ≡ prohibits_stale (stored_fields object.now) }
+{
+    stored_argument(object, b"no-cache").is_some()
+        || stored_argument(object, b"must-revalidate").is_some()
+        || stored_argument(object, b"proxy-revalidate").is_some()
+        || stored_argument(object, b"s-maxage").is_some()
+        || has_stored_unclosed(object)
+}
+
+// Whether an object that has been stale for so many seconds may be used for this.
+fn permits(
+    object: &[(Vec<u8>, Vec<u8>)],
+    occasion: StaleUse,
+    staleness: u32,
+    operators: u32,
+) -> bool
+    ensures { result ≡ permits occasion staleness operators (stored_fields object.now) }
+{
+    match occasion {
+        StaleUse::InPlaceOfError => {
+            is_within(staleness, window(object, b"stale-if-error"))
+                || is_within(staleness, operators_window(operators))
+        }
+        StaleUse::WhileValidated => is_within(staleness, window(object, b"stale-while-revalidate")),
+    }
+}
+
+// The seconds of a directive of an object. `name` is in lower case.
+fn window(object: &[(Vec<u8>, Vec<u8>)], name: &[u8]) -> Option<u32>
+    requires { lowercase name.now ≡ name.now }
+    ensures { result ≡ window name.now (stored_fields object.now) }
+{
+    argument_seconds(stored_argument(object, name)?)
+}
+
+// The operator's seconds, if they allow anything.
+fn operators_window(seconds: u32) -> Option<u32>
+    ensures { result ≡ operators_window seconds }
+{
+    if 0 < seconds { Some(seconds) } else { None }
+}
+
+// Whether an object that has been stale for so many seconds is within a window.
+fn is_within(staleness: u32, window: Option<u32>) -> bool
+    ensures { result ≡ is_within staleness window }
+{
+    match window {
+        Some(most) => staleness <= most,
+        None => false,
+    }
+}
