@@ -2,17 +2,19 @@
 use crate::clock::{micros_since, now};
 use crate::handing::{Call, Returned, TakeCalls, hand_over};
 use crate::node_handle::NodeHandle;
-use crate::proxy_state::{ProxyState, end_at};
+use crate::proxy_state::{ProxyState, Stale, end_at};
 use crate::storage::Purger;
 use crossbeam_channel::Sender;
 use forwarding::{Field, Profile, Waiting, end_in_digits};
 use futures::channel::oneshot;
 use http_rules::{
-    Mirror, PassFault, Stored, StoredAnswer, TargetFault, answer_to, choose, classify,
+    Mirror, PassFault, StaleUse, Stored, StoredAnswer, TargetFault, answer_to, choose, classify,
     content_range, end_to_end, has_come_back, is_in_not_modified, is_plain_request, key_of,
-    may_validate, mirrored, unsatisfied_range,
+    may_validate, mirrored, takes_stale, unsatisfied_range,
 };
-use http_traffic::{Asked, Asking, FollowUp, Forward, Front, How, Outcome, PassOn, Shape, Told};
+use http_traffic::{
+    Asked, Asking, FollowUp, Forward, Front, How, Outcome, PassOn, Shape, Supplier, Told,
+};
 use node_core::{Event, Mode, Network};
 use object_store::{CacheKey, Object};
 use std::alloc::{AllocError, Global};
@@ -64,6 +66,15 @@ struct Request {
     fields: Vec<Field>,
     looped: Option<CacheKey>,
     validates: bool,
+}
+
+/// What became of the event of a request.
+#[derive(Clone, Copy)]
+struct Taken {
+    /// How many actions it caused.
+    actions: usize,
+    /// Whether one of them answered a client.
+    has_answered: bool,
 }
 
 /// The key of what a request asks for: its target, or the URL that stands for it at one of these mirrors. Errors: the HTTP status to
@@ -211,6 +222,34 @@ impl<R: Wait + Clock + Drop, L: Ledger> NodeFront<R, L> {
         self.node.lock(&self.rt).take(event).ok()
     }
 
+    /// Submits the event of a request. Returns `None` if it was refused.
+    fn take_request(&self, event: Event) -> Option<Taken> {
+        let mut node = self.node.lock(&self.rt);
+        let actions = node.take(event).ok()?;
+        Some(Taken {
+            actions,
+            has_answered: node.has_answered(),
+        })
+    }
+
+    /// Gives a client that waits for a fetch for all clients what is on the shelf, if it may have that while its origin is asked about it
+    /// (RFC 5861, section 3). The fetch goes on without it.
+    fn give_stale(&self, asked: &Asked, client: u64) {
+        if self.proxy.shelf.is_none() || !takes_stale(&asked.head) {
+            return;
+        }
+        let Ok(key) = self.key(asked) else {
+            return;
+        };
+        let key = key.as_slice();
+        let found = self.proxy.stale(&self.rt, key, StaleUse::WhileValidated);
+        if let Some(Stale { object, age }) = found {
+            let supplier = Some(Supplier::Stale(age));
+            let answer = Outcome::Got { object, supplier };
+            self.proxy.mailbox.lock(&self.rt).answer(client, answer);
+        }
+    }
+
     /// Errors: 508 if a request has come through this cache before, 403 if its host is an address in digits that may not be fetched
     /// from. A request has CDN-Loop fields only if `is_marked`.
     pub(crate) fn check(&self, asked: &Asked, key: &CacheKey, is_marked: bool) -> Result<(), u16> {
@@ -300,13 +339,16 @@ impl<R: Wait + Clock + Drop, L: Ledger> NodeFront<R, L> {
             mode,
             now: now(&self.rt, &self.proxy.timeline),
         };
-        let Some(actions) = self.take(event) else {
+        let Some(taken) = self.take_request(event) else {
             self.forget(client);
             return Err(503);
         };
+        if mode == Mode::Shared && !taken.has_answered && !is_marked {
+            self.give_stale(asked, client);
+        }
         Ok(Asking {
             client,
-            forward: forward_of(mode, actions),
+            forward: forward_of(mode, taken.actions),
             began,
             answer,
         })

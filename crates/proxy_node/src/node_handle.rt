@@ -113,6 +113,17 @@ impl<R: Wait + Clock + Drop, L: Ledger> NodeHandle<R, L> {
         Ok(count)
     }
 
+    /// Whether an action of the event that was taken last answered a client.
+    pub fn has_answered(&self) -> bool {
+        match &self.out {
+            Some(out) => out
+                .actions()
+                .iter()
+                .any(|action| matches!(action, Action::Serve { .. })),
+            None => false,
+        }
+    }
+
     /// As `take`, for the result of a fetch, and whom its object came from.
     pub fn take_fetched(
         &mut self,
