@@ -15,7 +15,9 @@ use mio_queries::Timeline;
 use node_book::{BOOK_OCTETS, BookFault, Booked, Desk, RECEIPT_OCTETS, Seat};
 use node_core::{Config, Node};
 use object_shelf::Shelf;
-use proxy_node::{AccessLog, NeighbourEnds, Notices, Passes, ProxyState, no_failures};
+use proxy_node::{
+    AccessLog, NeighbourEnds, Notices, PartKeys, Passes, ProxyState, no_failures,
+};
 use serve_config::{Freshness, Settings, SharedField, UrlPart};
 use std::alloc::{AllocError, Global};
 use std::mem;
@@ -67,6 +69,7 @@ struct Rules {
     profile: Profile,
     shelf: Option<Mutex<Shelf>>,
     serve_stale: u32,
+    parts: Option<Mutex<PartKeys>>,
     passes: Passes,
     shared_fields: Vec<Field>,
 }
@@ -135,6 +138,7 @@ fn rules_in(
         profile: profile_of(alloc, settings)?,
         shelf: shelf_of(alloc, settings)?,
         serve_stale: settings.serve_stale,
+        parts: parts_of(alloc, settings)?,
         passes,
         shared_fields: shared_fields_of(alloc, settings)?,
     })
@@ -170,6 +174,14 @@ fn shelf_of(alloc: Global, settings: &Settings) -> Result<Option<Mutex<Shelf>>, 
     match Shelf::new(alloc, settings.node.entries, octets) {
         Ok(shelf) => Ok(Some(Mutex::new(shelf))),
         Err(_) => Err(AllocError),
+    }
+}
+
+/// The URLs of which parts are asked for. `None` by the published rules.
+fn parts_of(alloc: Global, settings: &Settings) -> Result<Option<Mutex<PartKeys>>, AllocError> {
+    match settings.freshness {
+        Freshness::Published => Ok(None),
+        Freshness::Rfc9111 => Ok(Some(Mutex::new(PartKeys::new(alloc, settings.body_limit)?))),
     }
 }
 
@@ -214,6 +226,7 @@ fn state_of<L: Ledger>(
         profile,
         shelf,
         serve_stale,
+        parts,
         passes,
         shared_fields,
     } = kept.rules;
@@ -231,6 +244,7 @@ fn state_of<L: Ledger>(
         profile,
         shelf,
         serve_stale,
+        parts,
         passes,
         shared_fields,
         admin_port: AtomicU16::new(kept.admin_port),

@@ -1,4 +1,5 @@
 //! For how long responses are kept.
+use http_header::HeaderMap;
 use http_rules::{RefreshRule, age_of, may_keep, may_store, tells_end};
 use http_traffic::Page;
 use node_core::Mode;
@@ -69,6 +70,24 @@ impl Profile {
                     },
                     None => unkept,
                 }
+            }
+        }
+    }
+
+    /// Whether the whole may be stored of which a part has come with this head: whether a response with status 200 and the same fields
+    /// may be, if it was fetched for all clients. Only by RFC 9111.
+    pub fn may_keep_whole(&self, exchange: Exchange<'_>, head: &HeaderMap) -> bool {
+        let Exchange {
+            url,
+            requested,
+            received,
+            ..
+        } = exchange;
+        match self {
+            Profile::Published => false,
+            Profile::Rfc9111(rules) => {
+                let rules = rules.as_slice();
+                may_keep(Mode::Shared, url, 200, head, requested, received, rules).is_some()
             }
         }
     }

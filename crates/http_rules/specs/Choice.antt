@@ -1,13 +1,15 @@
 -- How a request is answered in the profile rfc9111, from what it says and from what is stored under its URL.
-use Rattle.std.specs.Prelude.{ℕ, List, codes, bytes_eq, not, ◌&&◌, ◌||◌, Bool, false, Option, Some, None, Result, Ok, Err, if◌then◌else◌}
+use Rattle.std.specs.Prelude.{ℕ, List, codes, bytes_eq, not, ◌&&◌, ◌||◌, Bool, false, Option, Some, None, is_some, option_and_then, Result, Ok, Err, if◌then◌else◌}
 use Rattle.plain_node.specs.declared.event.Mode.{Mode}
 use Rattle.plain_node.specs.declared.event.Mode.TheVariants.{Shared, Cached, Private}
 use Rattle.http_rules.specs.declared.choice.Stored.{Stored}
 use Rattle.http_rules.specs.Fields.{Field, has_field}
 use Rattle.http_rules.specs.Directives.{asks}
+use Rattle.http_rules.specs.Ranges.{range_of}
 use Rattle.http_rules.specs.Requests.{may_ask_no_cache}
 use Rattle.http_rules.specs.Reuse.{accepts, asks_by_pragma}
 use Rattle.http_rules.specs.Conditions.{is_for_origin}
+use Rattle.http_rules.specs.Validators.{only_value}
 
 -- requests that nothing stored answers: those with credentials, those that do not want it, and those that the origin has to judge
 abbrev pub is_own : List Field → Bool
@@ -38,3 +40,14 @@ chosen method fields stored =
     else if asks (codes "only-if-cached") fields then Ok Cached
     else if is_own fields then alone (bytes_eq method (codes "GET"))
     else shared (bytes_eq method (codes "GET")) fields stored
+
+-- whether a request asks for a single range
+abbrev pub has_single_range : List Field → Bool
+has_single_range fields = is_some (option_and_then range_of (only_value (codes "range") fields))
+
+-- whether nothing but a single range keeps a GET for which nothing is stored from sharing a fetch: it is neither one for the store
+-- alone, nor one that is fetched for alone in any case, nor one whose range holds only for what it has a part of
+abbrev pub is_for_a_part : List Field → Bool
+is_for_a_part fields =
+    not (asks (codes "only-if-cached") fields)
+    && (not (is_own fields) && (not (has_field (codes "if-range") fields) && has_single_range fields))

@@ -1,14 +1,16 @@
 -- Ranges of octets (RFC 9110, sections 14.1.2, 14.2 and 14.4). Octets are counted from 0.
--- 45 is a hyphen, 61 an equals sign.
-use Rattle.std.specs.Prelude.{ℕ, ◌+◌, ◌-◌, ◌^◌, List, ◌++◌, codes, decimal, length, take, drop, bytes_eq, min, nat_lt, ◌==◌, ◌&&◌, not, Bool, Option, Some, None, if◌then◌else◌}
-use Rattle.std.specs.List.{position_or_len}
+-- 45 is a hyphen, 47 a slash, 61 an equals sign.
+use Rattle.std.specs.Prelude.{ℕ, ◌+◌, ◌-◌, ◌^◌, List, ◌++◌, codes, decimal, length, take, drop, bytes_eq, min, nat_eq, nat_lt, ◌==◌, ◌&&◌, not, Bool, Option, Some, None, option_and_then, if◌then◌else◌}
+use Rattle.std.specs.List.{position_or_len, starts_with}
 use Rattle.http_header.specs.Token.{lowercase}
 use Rattle.wire_octets.specs.Decimal.{is_numeral, value_after}
 use Rattle.http_rules.specs.declared.ranges.ByteRange.{ByteRange}
 use Rattle.http_rules.specs.declared.ranges.ByteRange.TheVariants.{Span, Rest, Suffix}
 use Rattle.http_rules.specs.declared.conditions.StoredAnswer.{StoredAnswer}
 use Rattle.http_rules.specs.declared.conditions.StoredAnswer.TheVariants.{Whole, Part, Unsatisfiable}
-use Rattle.http_rules.specs.Text.{trimmed}
+use Rattle.http_rules.specs.Fields.{Field}
+use Rattle.http_rules.specs.Text.{trimmed, seconds}
+use Rattle.http_rules.specs.Validators.{only_value}
 
 -- the value of digits: no content has 2^64 - 1 octets, so this and every larger number count as one behind the end
 abbrev pub number_of : List ℕ → ℕ
@@ -60,3 +62,16 @@ content_range first last length = codes "bytes " ++ (decimal first ++ (codes "-"
 -- Content-Range where no part is sent: the length of the whole
 abbrev pub unsatisfied_range : ℕ → List ℕ
 unsatisfied_range length = codes "bytes */" ++ decimal length
+
+-- the length of the whole in a Content-Range value: the number behind the slash, in the unit bytes, capped at 2,147,483,648. An
+-- asterisk there, for a length that is not known, is none
+abbrev pub complete_in : List ℕ → Option ℕ
+complete_in value =
+    let end = position_or_len (λ c. c == 47) value in
+    if end == length value then None
+    else if starts_with nat_eq value (codes "bytes ") then seconds (drop (end + 1) value)
+    else None
+
+-- the length of the whole that a response is a part of
+abbrev pub complete_length : List Field → Option ℕ
+complete_length fields = option_and_then complete_in (only_value (codes "content-range") fields)

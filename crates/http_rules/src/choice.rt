@@ -2,13 +2,15 @@
 ghost use Rattle.std.specs.Prelude.{◌≡◌};
 ghost use Rattle.http_rules.specs.Fields.{fields_of};
 ghost use Rattle.http_rules.specs.Elements.{Finds};
-ghost use Rattle.http_rules.specs.Choice.{is_own, has_accepted, alone, shared, chosen};
+ghost use Rattle.http_rules.specs.Choice.{is_own, has_accepted, alone, shared, chosen, is_for_a_part, has_single_range};
 
 use crate::conditions::is_for_origin;
 use crate::directives::Directives;
 use crate::fields::has_field;
+use crate::ranges::range_of;
 use crate::request::may_ask_no_cache;
 use crate::reuse::{accepts, asks_by_pragma};
+use crate::validators::only_value;
 use http_header::HeaderMap;
 use node_core::Mode;
 
@@ -51,6 +53,28 @@ pub fn choose(method: &str, head: &HeaderMap, stored: Option<Stored>) -> Result<
         alone(is_get)
     } else {
         shared(is_get, head, stored)
+    }
+}
+
+/// Whether nothing but a single range keeps a GET for which nothing is stored from sharing a fetch (RFC 9110, section 14.2). One with
+/// If-Range is fetched alone in any case.
+pub fn is_for_a_part(head: &HeaderMap) -> bool
+    ensures { result ≡ is_for_a_part (fields_of head.now) }
+{
+    let directives = Directives::of(head);
+    !directives.only_if_cached
+        && !is_own(head, &directives)
+        && !has_field(head, "if-range")
+        && has_single_range(head)
+}
+
+// Whether a request asks for a single range.
+fn has_single_range(head: &HeaderMap) -> bool
+    ensures { result ≡ has_single_range (fields_of head.now) }
+{
+    match only_value(head, "range") {
+        Some(value) => range_of(value).is_some(),
+        None => false,
     }
 }
 

@@ -1,11 +1,14 @@
 //! Ranges of octets that a request asks for (RFC 9110, section 14).
 ghost use Rattle.std.specs.Prelude.{◌≡◌, ◌==◌, ◌≤◌, IfOk, length};
 ghost use Rattle.std.specs.List.{position_or_len};
-ghost use Rattle.http_rules.specs.Ranges.{number_of, spec_between, spec_of, range_of, selected, content_range, unsatisfied_range};
+ghost use Rattle.http_rules.specs.Fields.{fields_of};
+ghost use Rattle.http_rules.specs.Ranges.{number_of, spec_between, spec_of, range_of, selected, content_range, unsatisfied_range, complete_in, complete_length};
 
 use crate::conditions::StoredAnswer;
-use crate::seconds::is_numeral;
+use crate::seconds::{is_numeral, seconds};
 use crate::text::{is_name, trimmed};
+use crate::validators::only_value;
+use http_header::HeaderMap;
 use itoa::Buffer;
 use std::alloc::{AllocError, Global};
 
@@ -162,4 +165,23 @@ pub fn unsatisfied_range(alloc: Global, length: usize) -> Result<Vec<u8>, AllocE
     let mut value = Vec::from_slice(alloc, b"bytes */")?;
     value.extend_from_slice(buffer.format(length).as_bytes())?;
     Ok(value)
+}
+
+/// The length in octets of the whole of which a response with status 206 is a part, as its Content-Range says it (RFC 9110, section
+/// 14.4), at most 2,147,483,648. `None` if it says none, or in another unit.
+pub fn complete_length(head: &HeaderMap) -> Option<u32>
+    ensures { result ≡ complete_length (fields_of head.now) }
+{
+    complete_in(only_value(head, "content-range")?)
+}
+
+// The length of the whole in a value of Content-Range.
+fn complete_in(value: &[u8]) -> Option<u32>
+    ensures { result ≡ complete_in value.now }
+{
+    let place = place_of(value, b'/');
+    if place == value.len() || !value.starts_with(b"bytes ") {
+        return None;
+    }
+    seconds(&value[place + 1..])
 }

@@ -9,8 +9,8 @@ use forwarding::{Field, Profile, Waiting, end_in_digits};
 use futures::channel::oneshot;
 use http_rules::{
     Mirror, PassFault, StaleUse, Stored, StoredAnswer, TargetFault, answer_to, choose, classify,
-    content_range, end_to_end, has_come_back, is_in_not_modified, is_plain_request, key_of,
-    may_validate, mirrored, takes_stale, unsatisfied_range,
+    content_range, end_to_end, has_come_back, is_for_a_part, is_in_not_modified, is_plain_request,
+    key_of, may_validate, mirrored, takes_stale, unsatisfied_range,
 };
 use http_traffic::{
     Asked, Asking, FollowUp, Forward, Front, How, Outcome, PassOn, Shape, Supplier, Told,
@@ -289,6 +289,32 @@ impl<R: Wait + Clock + Drop, L: Ledger> NodeFront<R, L> {
         choose(asked.method.as_str(), &asked.head, stored)
     }
 
+    /// How a request for this key that has come now is answered by RFC 9111: as `fresh_mode` says, but for the third one within a minute
+    /// for a part of what is not stored and may be, which has the whole fetched for all. Errors: the HTTP status to answer.
+    fn counted_mode(&self, asked: &Asked, key: &CacheKey) -> Result<Mode, u16> {
+        let stored = self.stored_for(asked, key);
+        let mode = choose(asked.method.as_str(), &asked.head, stored)?;
+        if mode == Mode::Private && stored.is_none() && self.is_for_the_whole(asked, key) {
+            return Ok(Mode::Shared);
+        }
+        Ok(mode)
+    }
+
+    /// Whether a GET for which nothing is stored has the whole fetched although it asks for a part: it is counted.
+    fn is_for_the_whole(&self, asked: &Asked, key: &CacheKey) -> bool {
+        let Some(parts) = &self.proxy.parts else {
+            return false;
+        };
+        if !is_for_a_part(&asked.head) {
+            return false;
+        }
+        let Ok(key) = key.share() else {
+            return false;
+        };
+        let now = now(&self.rt, &self.proxy.timeline);
+        parts.lock(&self.rt).note(key, now.millis())
+    }
+
     /// What is stored under a key, where that makes a difference to the request. An object that cannot get one more owner counts as
     /// not stored.
     fn stored_for(&self, asked: &Asked, key: &CacheKey) -> Option<Stored> {
@@ -396,7 +422,7 @@ impl<R: Wait + Clock + Drop, L: Ledger> NodeFront<R, L> {
         let key = self.key(asked)?;
         let mode = match published {
             Some(mode) => mode,
-            None => self.fresh_mode(asked, &key)?,
+            None => self.counted_mode(asked, &key)?,
         };
         self.request(asked, key, mode, has_marks(asked))
     }

@@ -3,6 +3,7 @@ use crate::clock::now;
 use crate::log::AccessLog;
 use crate::neighbour_counts::NeighbourEnds;
 use crate::notices::Notices;
+use crate::parts::PartKeys;
 use crate::passes::Passes;
 use capture_tap::Tap;
 use crossbeam_channel::Sender;
@@ -76,6 +77,8 @@ pub struct ProxyState<L: Ledger> {
     pub shelf: Option<Mutex<Shelf>>,
     /// For how many seconds after it went stale an object may be served whose origin is down, if its own directives allow no more.
     pub serve_stale: u32,
+    /// URLs of which parts were asked for and nothing is stored; `None` by the published rules. Locked to note a request or a length.
+    pub parts: Option<Mutex<PartKeys>>,
     /// What passes the proxy without the node.
     pub passes: Passes,
     /// The fields of each shared fetch.

@@ -8,7 +8,9 @@ use fetch_chain::Submit;
 use forwarding::{
     Exchange, Flight, Landed, Life, Profile, confirmed, object_of, refusal, stale_object,
 };
-use http_rules::{StaleUse, has_stale_use, has_validator, is_error, supersedes};
+use http_rules::{
+    StaleUse, complete_length, has_stale_use, has_validator, is_error, supersedes,
+};
 use http_traffic::{FetchEnd, FetchFault, Fetched, Page, Supplier};
 use httpdate::HttpDate;
 use node_core::{Event, Mode, Outcome};
@@ -22,6 +24,9 @@ use traffic_figures::{FetchNote, FetchOutcome, FetchedFrom};
 
 /// The status with which a cache refuses a request that has come back to it (RFC 5842, section 7.2).
 const LOOP_DETECTED: u16 = 508;
+
+/// The status of a response with a part of an object (RFC 9110, section 15.3.7).
+const PARTIAL_CONTENT: u16 = 206;
 
 /// The status of a response to a request with conditions that are not met (RFC 9110, section 15.4.5).
 const NOT_MODIFIED: u16 = 304;
@@ -151,11 +156,11 @@ impl<R: Wait + Clock + Drop, L: Ledger> Results<R, L> {
         }
     }
 
-    // The age of a response, and for how long it may be stored.
-    fn life_of(&self, key: Option<&CacheKey>, flight: Flight, page: &Page) -> Life {
+    // A fetch of this key whose response has come, as far as the life of that depends on it.
+    fn exchange<'a>(&self, key: Option<&'a CacheKey>, flight: Flight) -> Exchange<'a> {
         let received = date_seconds(&self.rt);
         let took = micros_since(&self.rt, flight.began).unwrap_or(0) / 1_000_000;
-        let exchange = Exchange {
+        Exchange {
             mode: flight.mode,
             url: match key {
                 Some(key) => key.as_slice(),
@@ -163,8 +168,34 @@ impl<R: Wait + Clock + Drop, L: Ledger> Results<R, L> {
             },
             requested: received.saturating_sub(took),
             received,
-        };
+        }
+    }
+
+    // The age of a response, and for how long it may be stored.
+    fn life_of(&self, key: Option<&CacheKey>, flight: Flight, page: &Page) -> Life {
+        let exchange = self.exchange(key, flight);
         self.node.proxy().profile.life_of(exchange, page)
+    }
+
+    // Notes the length of what a part has come of, if the whole may be stored.
+    fn note_part(&self, fetch: u32, flight: Flight, end: &FetchEnd) {
+        let proxy = self.node.proxy();
+        let (Some(parts), FetchEnd::Whole(page)) = (&proxy.parts, end) else {
+            return;
+        };
+        if page.status != PARTIAL_CONTENT {
+            return;
+        }
+        let Some(length) = complete_length(&page.head) else {
+            return;
+        };
+        if let Some(key) = self.key_of(fetch)
+            && proxy
+                .profile
+                .may_keep_whole(self.exchange(Some(&key), flight), &page.head)
+        {
+            parts.lock(&self.rt).note_length(key, length);
+        }
     }
 
     // The object of a response that came on this date. `None` for a 304 that fits nothing, if there are too many names in Connection,
@@ -312,6 +343,7 @@ impl<R: Wait + Clock + Drop, L: Ledger> Submit<Fetched> for Results<R, L> {
             self.tell(fetch, flight.supplier, *fault);
             self.note_large(fetch, *fault);
         }
+        self.note_part(fetch, flight, &end);
         let Delivery { outcome, supplier } = self.delivery(fetch, landed, end);
         if self.take(fetch, attempt, supplier, outcome) {
             return;

@@ -14,6 +14,8 @@ mod freshness_keys;
 #[cfg(test)]
 mod heads;
 #[cfg(test)]
+mod parts;
+#[cfg(test)]
 mod passing;
 #[cfg(test)]
 mod passing_keys;
