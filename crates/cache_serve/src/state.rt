@@ -244,6 +244,7 @@ fn state_of<L: Ledger>(
         profile,
         shelf,
         serve_stale,
+        changed: Mutex::new(Vec::new(alloc)),
         parts,
         passes,
         shared_fields,

@@ -232,6 +232,30 @@ impl<R: Wait + Clock + Drop, L: Ledger> NodeFront<R, L> {
         })
     }
 
+    /// Has what a reload has found changed fetched anew for all: what is stored is taken out, as the administration does, and a request of
+    /// the cache's own, whose answer nobody waits for, asks for it. Without a key for the first it stays.
+    fn renew_changed(&mut self) {
+        let Some(key) = self.proxy.next_changed(&self.rt) else {
+            return;
+        };
+        let now = now(&self.rt, &self.proxy.timeline);
+        let Ok(event) = self.rules.purger.event(self.alloc, &key, now) else {
+            return;
+        };
+        if self.take(event).is_none() {
+            return;
+        }
+        self.last = self.last.saturating_add(1);
+        let client = self.last;
+        let mode = Mode::Shared;
+        let _ = self.take(Event::Request {
+            client,
+            key,
+            mode,
+            now,
+        });
+    }
+
     /// Gives a client that waits for a fetch for all clients what is on the shelf, if it may have that while its origin is asked about it
     /// (RFC 5861, section 3). The fetch goes on without it.
     fn give_stale(&self, asked: &Asked, client: u64) {
@@ -462,6 +486,9 @@ impl<R: Wait + Clock + Drop, L: Ledger> NodeFront<R, L> {
 
     fn tell(&mut self, told: &Told<'_>) -> Returned {
         let how = how_of(told);
+        if how == How::Fetch(Forward::Bypass) {
+            self.renew_changed();
+        }
         let micros = micros_since(&self.rt, told.began);
         self.proxy.figures.note_answer(note_of(told, how, micros));
         if let Some(log) = &self.proxy.log {

@@ -46,6 +46,9 @@ pub struct Attempt {
     pub attempt: u16,
 }
 
+/// The most keys whose objects are to be fetched anew, at a time.
+const CHANGED_KEYS: usize = 64;
+
 /// State shared by the threads of a proxy. No thread holds two of these locks at once.
 #[derive(Drop)]
 pub struct ProxyState<L: Ledger> {
@@ -77,6 +80,8 @@ pub struct ProxyState<L: Ledger> {
     pub shelf: Option<Mutex<Shelf>>,
     /// For how many seconds after it went stale an object may be served whose origin is down, if its own directives allow no more.
     pub serve_stale: u32,
+    /// The keys of what reloads have found changed and has not been fetched anew for all yet. Locked to add or remove one.
+    pub changed: Mutex<Vec<CacheKey>>,
     /// URLs of which parts were asked for and nothing is stored; `None` by the published rules. Locked to note a request or a length.
     pub parts: Option<Mutex<PartKeys>>,
     /// What passes the proxy without the node.
@@ -414,6 +419,19 @@ impl<L: Ledger> ProxyState<L> {
     /// Removes a recorded attempt, which the caller reports to the node.
     pub fn next_failure<R: Wait>(&self, rt: &R) -> Option<Attempt> {
         self.failed.lock(rt).pop()
+    }
+
+    /// Notes the key of what a reload has found changed. Where 64 are noted, it is not.
+    pub fn note_changed<R: Wait>(&self, rt: &R, key: CacheKey) {
+        let mut changed = self.changed.lock(rt);
+        if changed.len() < CHANGED_KEYS {
+            let _ = changed.push(key);
+        }
+    }
+
+    /// Removes the key of what a reload has found changed, which the caller has fetched anew.
+    pub fn next_changed<R: Wait>(&self, rt: &R) -> Option<CacheKey> {
+        self.changed.lock(rt).pop()
     }
 
     /// Takes what is on the shelf under a key away.

@@ -198,6 +198,21 @@ impl<R: Wait + Clock + Drop, L: Ledger> Results<R, L> {
         }
     }
 
+    // Notes that a client's reload has brought something else than was there, if that may be stored.
+    fn note_changed(&self, key: &CacheKey, landed: &Landed, page: &Page) {
+        let is_changed = landed.asked.is_some() && page.status == 200;
+        if !is_changed || landed.flight.mode != Mode::Private {
+            return;
+        }
+        let proxy = self.node.proxy();
+        let exchange = self.exchange(Some(key), landed.flight);
+        if proxy.profile.may_keep_whole(exchange, &page.head)
+            && let Ok(key) = key.share()
+        {
+            proxy.note_changed(&self.rt, key);
+        }
+    }
+
     // The object of a response that came on this date. `None` for a 304 that fits nothing, if there are too many names in Connection,
     // or if out of memory.
     fn object_in(
@@ -207,8 +222,11 @@ impl<R: Wait + Clock + Drop, L: Ledger> Results<R, L> {
         page: Page,
         date: &[u8],
     ) -> Option<SharedObject> {
-        let Landed { flight, asked } = landed;
         let key = self.key_of(fetch);
+        if let Some(key) = &key {
+            self.note_changed(key, &landed, &page);
+        }
+        let Landed { flight, asked } = landed;
         let page = self.whole_of(key.as_ref(), flight, asked, page)?;
         let life = self.life_of(key.as_ref(), flight, &page);
         let name = self.node.proxy().name.as_bytes();
