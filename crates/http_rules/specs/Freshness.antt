@@ -1,16 +1,17 @@
 -- What a shared cache keeps of a response to a GET request, and for how long (RFC 9111), for a cache that understands status 200,
 -- stores nothing that it would have to validate before each use, and sends no fields of its clients but CDN-Loop with a shared request.
--- A response with two Age fields, or with two members in one, has the age that the published rules give it.
-use Rattle.std.specs.Prelude.{ℕ, ◌+◌, ◌-◌, min, max, List, [], ◌∷◌, codes, bytes_eq, nat_lt, ◌==◌, not, ◌&&◌, ◌||◌, Bool, true, false, Option, Some, None, option_map, unwrap_or, if◌then◌else◌}
+-- Of two Age fields the first counts. 44 is a comma.
+use Rattle.std.specs.Prelude.{ℕ, ◌+◌, ◌-◌, min, max, List, [], ◌∷◌, take, codes, bytes_eq, nat_lt, ◌==◌, not, ◌&&◌, ◌||◌, Bool, true, false, Option, Some, None, option_map, option_and_then, unwrap_or, if◌then◌else◌}
+use Rattle.std.specs.List.{position_or_len}
 use Rattle.std.specs.Option.{option_or}
 use Rattle.http_header.specs.Token.{lowercase}
 use Rattle.plain_node.specs.declared.event.Mode.{Mode}
 use Rattle.plain_node.specs.declared.event.Mode.TheVariants.{Shared, Cached, Private}
 use Rattle.http_rules.specs.declared.freshness.Kept.{Kept}
 use Rattle.http_rules.specs.declared.refresh.RefreshRule.{RefreshRule}
-use Rattle.http_rules.specs.Fields.{Field, values_of, has_field}
+use Rattle.http_rules.specs.Fields.{Field, values_of, first_value, has_field}
 use Rattle.http_rules.specs.Directives.{argument, argument_seconds, asks, has_unclosed}
-use Rattle.http_rules.specs.Responses.{age_of}
+use Rattle.http_rules.specs.Text.{trimmed, seconds}
 use Rattle.http_rules.specs.Expiry.{date_of, expires_lifetime, heuristic_lifetime}
 use Rattle.http_rules.specs.Refresh.{first_rule, ruled_lifetime}
 
@@ -77,9 +78,17 @@ apparent_age fields received = received - date_of fields received
 abbrev pub response_delay : ℕ → ℕ → ℕ
 response_delay requested received = received - requested
 
+-- the first member of a list, without surrounding white space
+abbrev pub first_member : List ℕ → List ℕ
+first_member value = trimmed (take (position_or_len (λ c. c == 44) value) value)
+
+-- the seconds of the Age field: those of its first member where it is a list; 0 if that is no number, or if there is none (section 5.1)
+abbrev pub age_value : List Field → ℕ
+age_value fields = unwrap_or (option_and_then (λ value. seconds (first_member value)) (first_value (codes "age") fields)) 0
+
 -- the Age field, and the time that the response may have been on its way (section 4.2.3)
 abbrev pub corrected_age_value : List Field → ℕ → ℕ → ℕ
-corrected_age_value fields requested received = age_of fields + response_delay requested received
+corrected_age_value fields requested received = age_value fields + response_delay requested received
 
 -- the age of a response when it was received (section 4.2.3), capped at 2,147,483,648 (section 1.2.2)
 abbrev pub corrected_initial_age : List Field → ℕ → ℕ → ℕ

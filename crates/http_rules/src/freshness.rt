@@ -4,7 +4,7 @@ ghost use Rattle.http_rules.specs.Fields.{fields_of};
 ghost use Rattle.http_rules.specs.Elements.{Finds};
 ghost use Rattle.http_rules.specs.Freshness.{forbids_store, varies, is_barred, stated_lifetime, freshness_lifetime, corrected_initial_age, kept_of};
 
-use crate::age_of;
+use crate::age::age_value;
 use crate::directives::Directives;
 use crate::expiry::{date_of, expires_lifetime, heuristic_lifetime};
 use crate::fields::{has_field, values_of};
@@ -157,6 +157,6 @@ fn corrected_initial_age(head: &HeaderMap, requested: u64, received: u64) -> u32
 {
     let apparent_age = received.saturating_sub(date_of(head, received));
     let response_delay = received.saturating_sub(requested);
-    let corrected_age_value = u64::from(age_of(head)).saturating_add(response_delay);
+    let corrected_age_value = u64::from(age_value(head)).saturating_add(response_delay);
     capped(apparent_age.max(corrected_age_value))
 }

@@ -46,8 +46,8 @@ fn spec_of(text: &[u8]) -> Option<ByteRange>
     spec_between(&text[..dash], &text[dash + 1..])
 }
 
-// The first place of an octet in a text, or the length of the text.
-fn place_of(text: &[u8], octet: u8) -> usize
+/// The first place of an octet in a text, or the length of the text.
+pub(crate) fn place_of(text: &[u8], octet: u8) -> usize
     ensures value { result ≡ position_or_len (λ c. c == octet) text.now }
     ensures bound { result ≤ length text.now }
 {

@@ -138,7 +138,7 @@ fn heuristic_lifetimes(rt: HostRuntime) -> Result<(), Fail> {
 fn ages(rt: HostRuntime) -> Result<(), Fail> {
     let date = "Date: Sun, 06 Nov 1994 08:49:37 GMT";
     let none = "Server: a";
-    let table: [(&str, &str, u64, u64, Option<(u32, u32)>); 17] = [
+    let table: [(&str, &str, u64, u64, Option<(u32, u32)>); 21] = [
         (date, "Age: 10", NOVEMBER, NOVEMBER, Some((10, 50))),
         (date, "Age: 10", NOVEMBER, NOVEMBER + 5, Some((15, 45))),
         (date, none, NOVEMBER + 19, NOVEMBER + 20, Some((20, 40))),
@@ -158,6 +158,11 @@ fn ages(rt: HostRuntime) -> Result<(), Fail> {
         (date, none, NOVEMBER + 10, NOVEMBER, Some((0, 60))),
         (date, none, NOVEMBER - 100, NOVEMBER - 100, Some((0, 60))),
         (date, "Age: x", NOVEMBER, NOVEMBER, Some((0, 60))),
+        // Section 5.1: the first member of a list; what is no number is ignored.
+        (date, "Age: 10, 5", NOVEMBER, NOVEMBER, Some((10, 50))),
+        (date, "Age: 5 ,100", NOVEMBER, NOVEMBER, Some((5, 55))),
+        (date, "Age: 60, 5", NOVEMBER, NOVEMBER, None),
+        (date, "Age: x, 5", NOVEMBER, NOVEMBER, Some((0, 60))),
         (date, "Age: 5\nAge: 50", NOVEMBER, NOVEMBER, Some((5, 55))),
         (none, none, NOVEMBER, NOVEMBER + 3, Some((3, 57))),
         ("Date: today", none, NOVEMBER, NOVEMBER + 3, Some((3, 57))),
