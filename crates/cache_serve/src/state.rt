@@ -15,9 +15,7 @@ use mio_queries::Timeline;
 use node_book::{BOOK_OCTETS, BookFault, Booked, Desk, RECEIPT_OCTETS, Seat};
 use node_core::{Config, Node};
 use object_shelf::Shelf;
-use proxy_node::{
-    AccessLog, NeighbourEnds, Notices, PartKeys, Passes, ProxyState, no_failures,
-};
+use proxy_node::{AccessLog, NeighbourEnds, Notices, PartKeys, Passes, ProxyState, no_failures};
 use serve_config::{Freshness, Settings, SharedField, UrlPart};
 use std::alloc::{AllocError, Global};
 use std::mem;

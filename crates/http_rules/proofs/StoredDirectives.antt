@@ -15,11 +15,12 @@ pub argument-cons : (name : List ℕ) (f : Field) (fs : List Field) → argument
 argument-cons name f fs = by (bytes_eq f.0 (codes "cache-control"))
   where
     others = filter (λ (g : Field). bytes_eq g.0 (codes "cache-control")) fs
+
     by : (b : Bool)
         → first_argument name (directives_from (cond b (f ∷ others) others))
         ≡ option_or (first_argument name (directives_from (cond b (f ∷ []) []))) (first_argument name (directives_from others))
     by true =
         first_argument-append name (directives_in f.1) (directives_from others)
         ∙ ap (λ (a : Option (List ℕ)). option_or a (first_argument name (directives_from others)))
-            (sym (first_argument-append name (directives_in f.1) [] ∙ option_or_nothing (first_argument name (directives_in f.1))))
+        (sym (first_argument-append name (directives_in f.1) [] ∙ option_or_nothing (first_argument name (directives_in f.1))))
     by false = refl

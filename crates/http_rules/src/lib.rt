@@ -64,9 +64,7 @@ pub use refresh::{RefreshRule, UrlPlace};
 pub use request::classify;
 pub use response::may_store;
 pub use reuse::accepts;
-pub use stale::{
-    StaleUse, has_stale_use, is_error, may_serve_stale, supersedes, takes_stale,
-};
+pub use stale::{StaleUse, has_stale_use, is_error, may_serve_stale, supersedes, takes_stale};
 pub use target::{TargetFault, key_of, key_of_url};
 pub use updating::updated;
 pub use validation::{conditions_for, has_validator, is_about, may_validate};

@@ -43,10 +43,7 @@ pub(crate) fn argument_in<'a>(value: &'a [u8], name: &[u8]) -> Option<&'a [u8]>
 }
 
 /// As `argument_of`, for the fields of a stored object. `name` is in lower case.
-pub(crate) fn stored_argument<'a>(
-    object: &'a [(Vec<u8>, Vec<u8>)],
-    name: &[u8],
-) -> Option<&'a [u8]>
+pub(crate) fn stored_argument<'a>(object: &'a [(Vec<u8>, Vec<u8>)], name: &[u8]) -> Option<&'a [u8]>
     requires { lowercase name.now ≡ name.now }
     ensures { option_copied result ≡ argument name.now (stored_fields object.now) }
 {

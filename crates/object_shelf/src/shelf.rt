@@ -73,12 +73,7 @@ impl Shelf {
     ///
     /// Errors: `TooLarge` if key and object alone exceed the octet limit, `NoMemory` if the allocation fails; nothing changes.
     #[tactic(auto, using(crate::proofs::Timed::timed_put))]
-    pub fn put(
-        &mut self,
-        key: CacheKey,
-        object: SharedObject,
-        at: Moment,
-    ) -> Result<(), PutFault>
+    pub fn put(&mut self, key: CacheKey, object: SharedObject, at: Moment) -> Result<(), PutFault>
         ensures fits { IsOk result → size_of key (entry_of object at) ≤ self.old.most_octets }
         ensures changed { OnOk result (self.new ≡ after_object key object at self.old) }
         ensures fault { IfErr result (λ fault. IsPutFault self.old key (entry_of object at) fault) }

@@ -83,7 +83,11 @@ fn first_millisecond(rt: HostRuntime) -> Result<(), Fail> {
     let mut shelf = Shelf::new(rt.alloc(), 3, 100)?;
     let first = moment(0)?;
     let object = object(rt.alloc(), 200, 5)?;
-    assert!(rt; shelf.put(key(rt.alloc(), "http://a/1")?, object, first).is_ok());
+    assert!(rt;
+        shelf
+            .put(key(rt.alloc(), "http://a/1")?, object, first)
+            .is_ok()
+    );
     let found = shelf.get(b"http://a/1");
     assert_eq!(rt; found.map(|entry| entry.at.millis()), Some(1));
     Ok(())

@@ -73,9 +73,8 @@ fn course_of(how: How) -> Course {
 
 fn supplier_of(supplier: traffic::Supplier) -> Supplier {
     match supplier {
-        traffic::Supplier::Origin
-        | traffic::Supplier::Confirmed
-        | traffic::Supplier::Stale(_) => Supplier::Origin,
+        traffic::Supplier::Origin | traffic::Supplier::Confirmed | traffic::Supplier::Stale(_) =>
+            Supplier::Origin,
         traffic::Supplier::Neighbour(place) => Supplier::Neighbour(place),
     }
 }

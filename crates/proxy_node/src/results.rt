@@ -8,9 +8,7 @@ use fetch_chain::Submit;
 use forwarding::{
     Exchange, Flight, Landed, Life, Profile, confirmed, object_of, refusal, stale_object,
 };
-use http_rules::{
-    StaleUse, complete_length, has_stale_use, has_validator, is_error, supersedes,
-};
+use http_rules::{StaleUse, complete_length, has_stale_use, has_validator, is_error, supersedes};
 use http_traffic::{FetchEnd, FetchFault, Fetched, Page, Supplier};
 use httpdate::HttpDate;
 use node_core::{Event, Mode, Outcome};
@@ -259,8 +257,11 @@ impl<R: Wait + Clock + Drop, L: Ledger> Results<R, L> {
             return None;
         }
         let key = self.key_of(fetch)?;
-        let Stale { object, age } =
-            proxy.stale(&self.rt, key.as_slice(), StaleUse::InPlaceOfError)?;
+        let Stale { object, age } = proxy.stale(
+            &self.rt,
+            key.as_slice(),
+            StaleUse::InPlaceOfError,
+        )?;
         let object = stale_object(self.alloc, object.get(), age).ok()?;
         Some(Delivery {
             outcome: Outcome::Object(object),

@@ -89,11 +89,7 @@ pub(crate) fn refresh_rules(
 
 /// Parses for how many seconds after it went stale an answer may be used whose origin is down; 0 without the key. Errors: not 0 to
 /// 31,536,000, or above 0 where freshness is judged as published.
-pub(crate) fn serve_stale(
-    alloc: Global,
-    value: &Value,
-    freshness: Freshness,
-) -> Result<u32, Fault>
+pub(crate) fn serve_stale(alloc: Global, value: &Value, freshness: Freshness) -> Result<u32, Fault>
     ensures { IfOk result (λ seconds. AreStaleSeconds freshness seconds) }
 {
     if value.get("serve_stale").is_none() {

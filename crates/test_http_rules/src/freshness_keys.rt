@@ -189,8 +189,9 @@ const STALE: [(&str, &str); 6] = [
 #[test]
 fn stale_seconds(rt: HostRuntime) -> Result<(), Fail> {
     for (seconds, wanted) in STALE {
-        let keys =
-            format!(in rt.alloc(); "\"freshness\": \"rfc9111\", \"serve_stale\": {seconds}")?;
+        let keys = format!(in rt.alloc();
+            "\"freshness\": \"rfc9111\", \"serve_stale\": {seconds}"
+        )?;
         let told = told_with(rt.alloc(), keys.as_str())?;
         assert_eq!(rt; told.as_str(), wanted, "{seconds}");
     }
@@ -201,9 +202,15 @@ fn stale_seconds(rt: HostRuntime) -> Result<(), Fail> {
 fn stale_seconds_need_rfc_9111(rt: HostRuntime) -> Result<(), Fail> {
     let wanted = "config fault 3\nserve_stale: above 0, but freshness is not rfc9111";
     let published = r#""freshness": "published", "serve_stale": 1"#;
-    assert_eq!(rt; told_with(rt.alloc(), r#""serve_stale": 1"#)?.as_str(), wanted);
+    assert_eq!(rt;
+        told_with(rt.alloc(), r#""serve_stale": 1"#)?.as_str(),
+        wanted
+    );
     assert_eq!(rt; told_with(rt.alloc(), published)?.as_str(), wanted);
-    assert_eq!(rt; told_with(rt.alloc(), r#""serve_stale": 0"#)?.as_str(), "read");
+    assert_eq!(rt;
+        told_with(rt.alloc(), r#""serve_stale": 0"#)?.as_str(),
+        "read"
+    );
     Ok(())
 }
 

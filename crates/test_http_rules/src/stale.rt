@@ -3,17 +3,25 @@
 
 use crate::heads::head_of;
 use crate::validation::stored;
-use http_rules::{
-    StaleUse, has_stale_use, is_error, may_serve_stale, supersedes, takes_stale,
-};
+use http_rules::{StaleUse, has_stale_use, is_error, may_serve_stale, supersedes, takes_stale};
 use std::test::Fail;
 
 // The Cache-Control of an object that is fresh for 600 s when it comes, for how many seconds it is here, and whether it may be served
 // in place of an error and while it is validated.
 const USES: [(&str, u32, bool, bool); 43] = [
     // It is fresh for 600 s: its age is below its lifetime (RFC 9111, section 4.2).
-    ("max-age=600, stale-if-error=1200, stale-while-revalidate=1200", 599, false, false),
-    ("max-age=600, stale-if-error=1200, stale-while-revalidate=1200", 600, true, true),
+    (
+        "max-age=600, stale-if-error=1200, stale-while-revalidate=1200",
+        599,
+        false,
+        false,
+    ),
+    (
+        "max-age=600, stale-if-error=1200, stale-while-revalidate=1200",
+        600,
+        true,
+        true,
+    ),
     // RFC 5861, section 4: the upper limit to staleness.
     ("max-age=600, stale-if-error=1200", 900, true, false),
     ("max-age=600, stale-if-error=1200", 1800, true, false),
@@ -25,57 +33,137 @@ const USES: [(&str, u32, bool, bool); 43] = [
     ("max-age=600, stale-while-revalidate=30", 630, false, true),
     ("max-age=600, stale-while-revalidate=30", 631, false, false),
     ("max-age=600, stale-while-revalidate=0", 601, false, false),
-    ("max-age=600, stale-if-error=60, stale-while-revalidate=30", 640, true, false),
-    ("max-age=600, stale-if-error=30, stale-while-revalidate=60", 640, false, true),
+    (
+        "max-age=600, stale-if-error=60, stale-while-revalidate=30",
+        640,
+        true,
+        false,
+    ),
+    (
+        "max-age=600, stale-if-error=30, stale-while-revalidate=60",
+        640,
+        false,
+        true,
+    ),
     // Nothing allows it (RFC 9111, section 4.2.4).
     ("max-age=600", 600, false, false),
     ("public, max-age=600, immutable", 700, false, false),
     // What prohibits it, with or without an argument.
-    ("max-age=600, stale-if-error=60, must-revalidate", 610, false, false),
-    ("must-revalidate, max-age=600, stale-while-revalidate=60", 610, false, false),
-    ("max-age=600, stale-if-error=60, stale-while-revalidate=60, proxy-revalidate", 610, false, false),
-    ("s-maxage=600, stale-if-error=60, stale-while-revalidate=60", 610, false, false),
-    ("max-age=600, s-maxage=x, stale-if-error=60", 610, false, false),
-    ("no-cache, stale-if-error=60, stale-while-revalidate=60", 610, false, false),
-    ("no-cache=\"set-cookie\", stale-if-error=60", 610, false, false),
+    (
+        "max-age=600, stale-if-error=60, must-revalidate",
+        610,
+        false,
+        false,
+    ),
+    (
+        "must-revalidate, max-age=600, stale-while-revalidate=60",
+        610,
+        false,
+        false,
+    ),
+    (
+        "max-age=600, stale-if-error=60, stale-while-revalidate=60, proxy-revalidate",
+        610,
+        false,
+        false,
+    ),
+    (
+        "s-maxage=600, stale-if-error=60, stale-while-revalidate=60",
+        610,
+        false,
+        false,
+    ),
+    (
+        "max-age=600, s-maxage=x, stale-if-error=60",
+        610,
+        false,
+        false,
+    ),
+    (
+        "no-cache, stale-if-error=60, stale-while-revalidate=60",
+        610,
+        false,
+        false,
+    ),
+    (
+        "no-cache=\"set-cookie\", stale-if-error=60",
+        610,
+        false,
+        false,
+    ),
     ("MUST-REVALIDATE, Stale-If-Error=60", 610, false, false),
     ("must-revalidate=1, stale-if-error=60", 610, false, false),
     // Names without regard to case (section 5.2); other names mean nothing here.
     ("Stale-If-Error=60", 610, true, false),
     ("STALE-WHILE-REVALIDATE=60", 610, false, true),
-    ("stale-if-errors=60, stale-while-revalidated=60, stale=60", 610, false, false),
-    ("x-must-revalidate, must-revalidate-x, stale-if-error=60", 610, true, false),
+    (
+        "stale-if-errors=60, stale-while-revalidated=60, stale=60",
+        610,
+        false,
+        false,
+    ),
+    (
+        "x-must-revalidate, must-revalidate-x, stale-if-error=60",
+        610,
+        true,
+        false,
+    ),
     // A number of seconds, in quotes too (sections 1.2.2 and 5.2).
     ("stale-if-error=\"60\"", 610, true, false),
     ("stale-while-revalidate=\"60\"", 610, false, true),
     ("stale-if-error", 600, false, false),
     ("stale-if-error=", 600, false, false),
-    ("stale-if-error=x, stale-while-revalidate=-1", 600, false, false),
+    (
+        "stale-if-error=x, stale-while-revalidate=-1",
+        600,
+        false,
+        false,
+    ),
     ("stale-if-error=6.5", 600, false, false),
     ("stale-if-error=1 0", 600, false, false),
     ("stale-if-error = 60", 600, false, false),
     // Greater than any number that can be represented: 2,147,483,648 (section 1.2.2).
-    ("stale-if-error=99999999999999999999", 2147484248, true, false),
-    ("stale-if-error=99999999999999999999", 2147484249, false, false),
+    (
+        "stale-if-error=99999999999999999999",
+        2147484248,
+        true,
+        false,
+    ),
+    (
+        "stale-if-error=99999999999999999999",
+        2147484249,
+        false,
+        false,
+    ),
     // Of two the first counts (section 4.2.1).
     ("stale-if-error=60, stale-if-error=5", 610, true, false),
     ("stale-if-error=5, stale-if-error=60", 610, false, false),
     ("stale-if-error=x, stale-if-error=60", 610, false, false),
     // A comma in quotes separates nothing; behind an open quote anything may stand.
-    ("x=\"must-revalidate, no-cache\", stale-if-error=60", 610, true, false),
+    (
+        "x=\"must-revalidate, no-cache\", stale-if-error=60",
+        610,
+        true,
+        false,
+    ),
     ("stale-if-error=60, x=\"a", 610, false, false),
 ];
 
 #[test]
 fn uses(rt: HostRuntime) -> Result<(), Fail> {
     for (value, stay, in_error, while_validated) in USES {
-        let line = format!(in rt.alloc(); "Date: Sat, 29 Oct 1994 19:43:31 GMT\nCache-Control: {value}")?;
+        let line = format!(in rt.alloc();
+            "Date: Sat, 29 Oct 1994 19:43:31 GMT\nCache-Control: {value}"
+        )?;
         let object = stored(rt.alloc(), line.as_str())?;
         let found = may_serve_stale(&object, StaleUse::InPlaceOfError, stay, 600, 0);
         assert_eq!(rt; found, in_error, "{value}, error after {stay} s");
         let found = may_serve_stale(&object, StaleUse::WhileValidated, stay, 600, 0);
         assert_eq!(rt; found, while_validated, "{value}, validated after {stay} s");
-        assert!(rt; has_stale_use(&object, 0) || !(in_error || while_validated), "{value}");
+        assert!(rt;
+            has_stale_use(&object, 0) || !(in_error || while_validated),
+            "{value}"
+        );
     }
     Ok(())
 }
@@ -96,9 +184,19 @@ const OPERATORS: [(&str, u32, u32, bool); 14] = [
     ("Cache-Control: stale-if-error=x", 60, 70, true),
     // Never against what the origin prohibits.
     ("Cache-Control: must-revalidate", 60, 10, false),
-    ("Cache-Control: max-age=10\nCache-Control: proxy-revalidate", 60, 10, false),
+    (
+        "Cache-Control: max-age=10\nCache-Control: proxy-revalidate",
+        60,
+        10,
+        false,
+    ),
     ("Cache-Control: s-maxage=10", 60, 10, false),
-    ("Cache-Control: max-age=10\nServer: x\nCache-Control: a=\"", 60, 10, false),
+    (
+        "Cache-Control: max-age=10\nServer: x\nCache-Control: a=\"",
+        60,
+        10,
+        false,
+    ),
 ];
 
 #[test]
