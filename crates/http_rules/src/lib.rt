@@ -1,7 +1,7 @@
 //! HTTP caching rules for a shared cache (RFC 9110 to 9112, restricted): how a request may be answered, whether and for how long
 //! a response may be stored, by the published rules and by those of RFC 9111, what a stored one answers to conditions and ranges,
-//! how one is validated, when one may be served stale, the cache key of a request target, where a tunnel leads, which header fields are forwarded, and what a
-//! change makes stale.
+//! how one is validated, when one may be served stale, which range has the whole fetched, the cache key of a request target, where a
+//! tunnel leads, which header fields are forwarded, and what a change makes stale.
 //!
 //! Pure functions on header maps and URLs, without any I/O. Their contracts define each result from the list of header fields
 //! (names in lower case) or from the parsed URL.
