@@ -50,14 +50,19 @@ pub struct Landed {
     pub flight: Flight,
     /// The object whose validators its request had.
     pub asked: Option<SharedObject>,
+    /// Whether what it fetched was changed while it was under way, so that it may have brought what was there before.
+    pub is_outdated: bool,
 }
 
 /// An in-flight fetch.
 #[derive(Drop)]
 struct Fetching {
+    /// The key of what is fetched.
+    key: CacheKey,
     flight: Flight,
     /// The object whose validators its request has.
     asked: Option<SharedObject>,
+    is_outdated: bool,
     /// Cancels the fetch when dropped.
     _wanted: oneshot::Sender<()>,
 }
@@ -180,18 +185,21 @@ impl Mailbox {
         }
     }
 
-    /// Adds an in-flight fetch, which is cancelled when `wanted` is dropped. Its request has the validators of `asked`. It replaces,
-    /// and so cancels, an earlier attempt of the same fetch. Errors: out of memory.
+    /// Adds an in-flight fetch of this key, which is cancelled when `wanted` is dropped. Its request has the validators of `asked`. It
+    /// replaces, and so cancels, an earlier attempt of the same fetch. Errors: out of memory.
     pub fn begin(
         &mut self,
         fetch: u32,
+        key: CacheKey,
         flight: Flight,
         asked: Option<SharedObject>,
         wanted: oneshot::Sender<()>,
     ) -> Result<(), AllocError> {
         let fetching = Fetching {
+            key,
             flight,
             asked,
+            is_outdated: false,
             _wanted: wanted,
         };
         match self.fetches.insert(fetch, fetching) {
@@ -200,10 +208,30 @@ impl Mailbox {
         }
     }
 
+    /// Notes that what is stored under a key was changed: what is being fetched of it may be what was there before.
+    pub fn outdate(&mut self, key: &[u8]) {
+        for fetching in self.fetches.values_mut() {
+            if fetching.key.as_slice() == key {
+                fetching.is_outdated = true;
+            }
+        }
+    }
+
     /// Removes a fetch whose attempt has ended. One that is not in flight counts as private, so that nothing is stored.
     pub fn end(&mut self, fetch: u32) -> Landed {
         match self.fetches.remove(&fetch) {
-            Some(Fetching { flight, asked, .. }) => Landed { flight, asked },
+            Some(
+                Fetching {
+                    flight,
+                    asked,
+                    is_outdated,
+                    ..
+                },
+            ) => Landed {
+                flight,
+                asked,
+                is_outdated,
+            },
             None => Landed {
                 flight: Flight {
                     mode: Mode::Private,
@@ -211,6 +239,7 @@ impl Mailbox {
                     began: None,
                 },
                 asked: None,
+                is_outdated: false,
             },
         }
     }

@@ -5,13 +5,20 @@ use http_traffic::Page;
 use object_store::Object;
 use std::alloc::Global;
 
+/// The octets of names and values that an object's fields may have after a 304, some more than a head that is received can have.
+const MOST_OCTETS: usize = 65_536;
+
 /// The whole response that a 304 with this head stands for, to a request with the validators of this object: the object's status
-/// and body, and its fields brought up to date. `None` if the 304 is not about the object, or if out of memory.
+/// and body, and its fields brought up to date. `None` if the 304 is not about the object, if its fields would have more than 65,536
+/// octets (each 304 may add some), or if out of memory.
 pub fn confirmed(alloc: Global, head: &HeaderMap, object: &Object) -> Option<Page> {
     if !is_about(head, object.head()) {
         return None;
     }
     let fields = updated(alloc, head, object.head()).ok()?;
+    if octets_of(fields.as_slice()) > MOST_OCTETS {
+        return None;
+    }
     let body = object.body().to_vec(alloc).ok()?;
     let mut head = HeaderMap::new(alloc);
     for (name, value) in &fields {
@@ -26,6 +33,15 @@ pub fn confirmed(alloc: Global, head: &HeaderMap, object: &Object) -> Option<Pag
         head,
         body,
     })
+}
+
+/// The octets of all names and values of these fields.
+fn octets_of(fields: &[(Vec<u8>, Vec<u8>)]) -> usize {
+    let mut sum = 0usize;
+    for (name, value) in fields {
+        sum = sum.saturating_add(name.len()).saturating_add(value.len());
+    }
+    sum
 }
 
 /// Appends a field. Returns `None` if it is invalid, if there are too many, or if out of memory.

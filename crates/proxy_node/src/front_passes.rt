@@ -215,7 +215,7 @@ impl<R: Wait + Clock + Drop, L: Ledger> NodeFront<R, L> {
 
     // Takes what is stored under a key out of the store and off the shelf, as the administration does.
     fn clear(&self, key: &CacheKey) {
-        self.proxy.unshelve(&self.rt, key);
+        self.proxy.withdraw(&self.rt, key);
         let now = now(&self.rt, &self.proxy.timeline);
         if let Ok(event) = self.rules.purger.event(self.alloc, key, now) {
             let _ = self.take(event);

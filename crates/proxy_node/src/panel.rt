@@ -120,7 +120,7 @@ impl<R: Wait + Clock + Files + AllocGlobal + Drop, L: Ledger> NodePanel<R, L> {
     // Takes the object of a percent-encoded URL out of the store, and off the shelf even if it is no longer stored. Shows nothing.
     fn remove(&self, url: &str) -> Result<Vec<u8>, StoreFault> {
         let key = key_in(self.alloc, url)?;
-        self.node.lock(&self.rt).proxy().unshelve(&self.rt, &key);
+        self.node.lock(&self.rt).proxy().withdraw(&self.rt, &key);
         let _ = self.entry(&key)?;
         let moment = self.moment();
         let event = self.purger.event(self.alloc, &key, moment)?;

@@ -169,6 +169,18 @@ fn stale_in(entry: &Entry, now: Moment, occasion: StaleUse, serve_stale: u32) ->
     })
 }
 
+/// These fields of a client's request without Accept-Encoding: what is asked about was fetched without the fields of any client, so
+/// that an entity tag for another coding would not be its own (RFC 9110, section 8.8.3.3).
+fn without_codings(alloc: Global, fields: Vec<Field>) -> Result<Vec<Field>, AllocError> {
+    let mut kept = Vec::new(alloc);
+    for (name, value) in fields {
+        if name.as_slice() != b"accept-encoding".as_slice() {
+            kept.push((name, value))?;
+        }
+    }
+    Ok(kept)
+}
+
 impl<L: Ledger> ProxyState<L> {
     /// Carries out an action other than `Send`, which it ignores. If it gives a client a fetched object, that came from `supplier`.
     /// Errors: a fetch could not be started.
@@ -227,7 +239,7 @@ impl<L: Ledger> ProxyState<L> {
         let deadline = deadline.ok_or(AllocError)?;
         self.mailbox
             .lock(rt)
-            .begin(wanted.fetch, flight, asked, sender)?;
+            .begin(wanted.fetch, key, flight, asked, sender)?;
         let Destination {
             name,
             port,
@@ -313,8 +325,8 @@ impl<L: Ledger> ProxyState<L> {
         stale_in(shelf.get(key)?, now, occasion, self.serve_stale)
     }
 
-    /// The request fields of a fetch of `key` other than Host: those of the client that owns a private fetch, or the CDN-Loop
-    /// fields of one that waits for a shared one and the fields of all shared ones; the conditions of the object that is asked about;
+    /// The request fields of a fetch of `key` other than Host: those of the client that owns a private fetch, without Accept-Encoding
+    /// where something is asked about, or the CDN-Loop fields of one that waits for a shared one and the fields of all shared ones; the conditions of the object that is asked about;
     /// `only-if-cached` for a sibling; CDN-Loop and Via of this cache.
     fn fields<R: Wait>(
         &self,
@@ -330,7 +342,11 @@ impl<L: Ledger> ProxyState<L> {
                     .mailbox
                     .lock(rt)
                     .fields_for(alloc, client, wanted.fetch)?;
-                kept.ok_or(AllocError)?
+                let kept = kept.ok_or(AllocError)?;
+                match asked {
+                    Some(_) => without_codings(alloc, kept)?,
+                    None => kept,
+                }
             }
             None => self.shared(rt, alloc, key)?,
         };
@@ -432,6 +448,13 @@ impl<L: Ledger> ProxyState<L> {
     /// Removes the key of what a reload has found changed, which the caller has fetched anew.
     pub fn next_changed<R: Wait>(&self, rt: &R) -> Option<CacheKey> {
         self.changed.lock(rt).pop()
+    }
+
+    /// Notes that what is stored under a key was changed: takes what is on the shelf away, and has what is being fetched given only to
+    /// those who wait for it, as it may be what was there before.
+    pub fn withdraw<R: Wait>(&self, rt: &R, key: &CacheKey) {
+        self.unshelve(rt, key);
+        self.mailbox.lock(rt).outdate(key.as_slice());
     }
 
     /// Takes what is on the shelf under a key away.

@@ -29,6 +29,9 @@ const PARTIAL_CONTENT: u16 = 206;
 /// The status of a response to a request with conditions that are not met (RFC 9110, section 15.4.5).
 const NOT_MODIFIED: u16 = 304;
 
+/// The status of a response to a request with conditions that are not met, where it is no GET (RFC 9110, section 15.5.13).
+const PRECONDITION_FAILED: u16 = 412;
+
 /// Whether a page says only that its neighbour would have asked this cache again, so that the next source is to be asked.
 fn is_for_the_next(flight: Flight, page: &Page) -> bool {
     !flight.is_origin() && page.status == LOOP_DETECTED
@@ -66,6 +69,20 @@ fn is_down(flight: Flight, end: &FetchEnd) -> bool {
     }
 }
 
+/// Whether an origin that was asked about an object was reached, and has not answered as it should. It may answer a request without
+/// conditions, so the next fetch has none.
+fn is_unanswered(landed: &Landed, end: &FetchEnd) -> bool {
+    landed.asked.is_some()
+        && match end {
+            FetchEnd::Whole(page) => page.status == PRECONDITION_FAILED,
+            FetchEnd::Failed(fault) => matches!(
+                fault,
+                FetchFault::Cut | FetchFault::NotHttp | FetchFault::LargeHead | FetchFault::Time
+            ),
+            FetchEnd::Refused => false,
+        }
+}
+
 /// What the node is told of a fetch, and whom its object comes from.
 #[derive(Drop)]
 struct Delivery {
@@ -97,7 +114,7 @@ impl<R: Wait + Clock + Drop, L: Ledger> Results<R, L> {
 
     // The response that a page stands for: what was asked about, if it is a 304 that confirms this, and otherwise itself. `None` for
     // a 304 that fits nothing: that of another object, and one that nobody's conditions have asked for. Then the object goes, so that
-    // the next fetch asks for the whole of it.
+    // the next fetch asks for the whole of it. `None` also for a 412 to conditions that are not the client's.
     fn whole_of(
         &self,
         key: Option<&CacheKey>,
@@ -106,6 +123,9 @@ impl<R: Wait + Clock + Drop, L: Ledger> Results<R, L> {
         page: Page,
     ) -> Option<Page> {
         let proxy = self.node.proxy();
+        if page.status == PRECONDITION_FAILED && asked.is_some() {
+            return None;
+        }
         if page.status != NOT_MODIFIED {
             return Some(page);
         }
@@ -141,14 +161,17 @@ impl<R: Wait + Clock + Drop, L: Ledger> Results<R, L> {
         }
     }
 
-    // Has the shelf follow what a fetch brought: what is stored is put there, and what the origin has something else for now is taken
-    // away, for all but the one client of a private fetch.
+    // Has the shelf follow what a fetch brought: what is stored is put there if the origin has given it itself, since its 304 would
+    // otherwise confirm what a neighbour made of it; and what the origin has something else for now is taken away, for all but the one
+    // client of a private fetch.
     fn follow(&self, key: Option<&CacheKey>, flight: Flight, object: &SharedObject) {
         let Some(key) = key else {
             return;
         };
         if object.get().life() > 0 {
-            self.shelve(key, object);
+            if flight.is_origin() {
+                self.shelve(key, object);
+            }
         } else if flight.mode == Mode::Shared && supersedes(object.get().status()) {
             self.node.proxy().unshelve(&self.rt, key);
         }
@@ -224,9 +247,16 @@ impl<R: Wait + Clock + Drop, L: Ledger> Results<R, L> {
         if let Some(key) = &key {
             self.note_changed(key, &landed, &page);
         }
-        let Landed { flight, asked } = landed;
+        let Landed {
+            flight,
+            asked,
+            is_outdated,
+        } = landed;
         let page = self.whole_of(key.as_ref(), flight, asked, page)?;
-        let life = self.life_of(key.as_ref(), flight, &page);
+        let mut life = self.life_of(key.as_ref(), flight, &page);
+        if is_outdated {
+            life.left = 0;
+        }
         let name = self.node.proxy().name.as_bytes();
         let object = object_of(self.alloc, name, life, page, date).ok()?;
         self.follow(key.as_ref(), flight, &object);
@@ -275,6 +305,11 @@ impl<R: Wait + Clock + Drop, L: Ledger> Results<R, L> {
             && let Some(stale) = self.stale(fetch)
         {
             return stale;
+        }
+        if is_unanswered(&landed, &end)
+            && let Some(key) = self.key_of(fetch)
+        {
+            self.node.proxy().unshelve(&self.rt, &key);
         }
         Delivery {
             supplier: supplier_of(&landed, &end),
