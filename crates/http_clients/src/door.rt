@@ -14,14 +14,13 @@ use futures::task::{Context, Poll};
 use futures::{Future, ready};
 use http_body::Body;
 use http_content::{
-    AtMost, Ending, Heard, Read, Relayed, add_field, add_object_fields, append_field,
-    has_foreign_coding,
+    AtMost, Ending, Heard, Read, Relayed, add_field, add_object_fields, has_foreign_coding,
 };
 use http_rules::end_to_end;
 use http_traffic::{Asked, Coming, PassedHead, Piece, Road, Shape};
 use hyper::body::Incoming;
 use hyper::service::Service;
-use hyper::header::HeaderName;
+use hyper::header::{HeaderName, HeaderValue};
 use hyper::{HeaderMap, Request, Response, StatusCode, Uri, header};
 use object_body::Portions;
 use object_store::SharedObject;
@@ -505,6 +504,13 @@ fn add_own_fields(
     append_field(headers, HeaderName::from_static("cache-status"), told)
 }
 
+// Appends a field whose value is not copied. Returns `None` as `add_field` does.
+fn append_field(headers: &mut HeaderMap, name: HeaderName, value: Vec<u8>) -> Option<()> {
+    let value = HeaderValue::from_vec(value).ok()?;
+    let _ = headers.append(name, value).ok()?;
+    Some(())
+}
+
 // The response with an object in this shape, without Age if `is_age_apart`. Returns `None` if out of memory, or if there are too many
 // fields.
 fn shaped_response<H: Answers, I: Drop>(
@@ -549,7 +555,10 @@ fn object_response<H: Answers, I: Drop>(
 ) -> Option<Response<Reply<H, I>>> {
     let mut response = Response::new(alloc, Reply::of(body));
     *response.status_mut() = status_of(status);
-    add_object_fields(alloc, response.headers_mut(), fields, is_age_apart)?;
+    let headers = response.headers_mut();
+    // Room for Age and Cache-Status as well.
+    headers.reserve(fields.len().saturating_add(2)).ok()?;
+    add_object_fields(alloc, headers, fields, is_age_apart)?;
     Some(response)
 }
 

@@ -11,13 +11,6 @@ pub fn add_field(alloc: Global, headers: &mut HeaderMap, name: &[u8], value: &[u
     Some(())
 }
 
-/// Appends a field whose value is not copied. Returns `None` as `add_field` does.
-pub fn append_field(headers: &mut HeaderMap, name: HeaderName, value: Vec<u8>) -> Option<()> {
-    let value = HeaderValue::from_vec(value).ok()?;
-    let _ = headers.append(name, value).ok()?;
-    Some(())
-}
-
 /// Appends fields, in order. Returns `None` as `add_field` does.
 pub fn add_fields(
     alloc: Global,
@@ -31,14 +24,13 @@ pub fn add_fields(
 }
 
 /// Appends the fields of a stored object, without Content-Length and Transfer-Encoding, which depend on how this response is
-/// framed, and without Age if `is_age_apart`. Makes room for two more, such as Age and Cache-Status. Returns `None` as `add_field` does.
+/// framed, and without Age if `is_age_apart`. Returns `None` as `add_field` does.
 pub fn add_object_fields(
     alloc: Global,
     headers: &mut HeaderMap,
     fields: &[(Vec<u8>, Vec<u8>)],
     is_age_apart: bool,
 ) -> Option<()> {
-    headers.reserve(fields.len().saturating_add(2)).ok()?;
     for (name, value) in fields {
         let name = name.as_slice();
         let is_framing = name == b"content-length".as_slice()

@@ -11,5 +11,5 @@ mod relay;
 pub use content::{
     AtMost, Content, Ending, Excess, Gathered, Gathering, Hear, Heard, Purse, Read, ReadFault,
 };
-pub use heads::{add_field, add_fields, add_object_fields, append_field, has_foreign_coding};
+pub use heads::{add_field, add_fields, add_object_fields, has_foreign_coding};
 pub use relay::{Relay, Relayed};

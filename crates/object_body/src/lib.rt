@@ -1,5 +1,5 @@
 //! The HTTP body of a response: the octets of a text, or of a stored object that many responses share or of a part of it, at most
-//! 128 KiB a frame.
+//! 64 KiB a frame.
 //!
 //! Contracts see a body as the octets that remain. They prove that the frames are those octets in order, that the body ends only
 //! when none remain, and that the size hint is exact; an allocation failure loses nothing.
@@ -19,8 +19,8 @@ use object_store::SharedObject;
 use std::alloc::{AllocError, Global};
 use std::marker::Model;
 
-// The most octets of a frame. The HTTP library takes over a frame of so many octets, and copies a shorter one once more.
-const PIECE: usize = 128 * 1024;
+// The most octets of a frame.
+const PIECE: usize = 64 * 1024;
 
 // The octets of a body.
 #[derive(Drop)]
@@ -54,7 +54,7 @@ fn up_to(octets: &[u8], end: usize) -> &[u8]
     }
 }
 
-/// The octets of an object, of a part of it or of a text, in frames of at most 128 KiB. Contracts see the octets that remain.
+/// The octets of an object, of a part of it or of a text, in frames of at most 64 KiB. Contracts see the octets that remain.
 #[derive(Drop)]
 pub struct Portions {
     alloc: Global,
