@@ -19,8 +19,8 @@ use http_content::{
 use http_rules::end_to_end;
 use http_traffic::{Asked, Coming, PassedHead, Piece, Road, Shape};
 use hyper::body::Incoming;
-use hyper::service::Service;
 use hyper::header::{HeaderName, HeaderValue};
+use hyper::service::Service;
 use hyper::{HeaderMap, Request, Response, StatusCode, Uri, header};
 use object_body::Portions;
 use object_store::SharedObject;
