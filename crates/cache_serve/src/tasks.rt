@@ -7,6 +7,7 @@ use crate::queries::carry;
 use client_streams::Stops;
 use crossbeam_channel::{Receiver, Sender};
 use filter_slots::{End, Socket};
+use forwarding::KnownKeys;
 use futures::channel::{mpsc, oneshot};
 use http_clients::{serve_admin, serve_clients};
 use http_fetches::{Budget, FetchLimits, FetchRules, run_fetches};
@@ -303,6 +304,7 @@ where
         proxy,
         node: shared,
         rules,
+        keys: KnownKeys::new(alloc),
         last: 0,
         left: config.stop_after,
         stop,

@@ -1,11 +1,11 @@
 //! The hyper service of one connection.
-ghost use Rattle.std.specs.Prelude.{◌≡◌, IfSome, IfOk, None};
+ghost use Rattle.std.specs.Prelude.{◌≡◌, IfSome, IfOk, None, box_value};
 ghost use Rattle.futures.specs.Poll.{OnPending};
 ghost use Rattle.futures.specs.Task.{Covers, Keeps};
 
 use crate::account::{SharedFacts, Telling};
 use crate::reply::Reply;
-use crate::requests::{Answers, Given, TextKind};
+use crate::requests::{Answers, Given, PassedAnswer, TextKind};
 use crate::upload::{Pieces, Upload};
 use admin_page::POLICY;
 use client_streams::{SharedStage, Stage};
@@ -19,13 +19,17 @@ use http_content::{
 use http_rules::end_to_end;
 use http_traffic::{Asked, Coming, PassedHead, Piece, Road, Shape};
 use hyper::body::Incoming;
+use hyper::header::{HeaderName, HeaderValue};
 use hyper::service::Service;
-use hyper::{Request, Response, StatusCode, header};
+use hyper::{HeaderMap, Request, Response, StatusCode, Uri, header};
 use object_body::Portions;
 use object_store::SharedObject;
-use std::alloc::Global;
+use std::alloc::{AllocError, Global};
 use std::convert::Infallible;
 use std::net::IpAddr;
+
+// The octets of a target that are made room for at once.
+const USUAL_TARGET: usize = 128;
 
 /// Passes the requests of one connection to `answers`, which is shared by all connections.
 #[derive(Drop)]
@@ -45,7 +49,7 @@ impl<H: Answers> Door<H> {
     fn keep(&self, parts: http::request::Parts) -> Option<Asked> {
         Some(Asked {
             method: String::from_str(self.alloc, parts.method.as_str()).ok()?,
-            target: parts.uri.to_string(self.alloc).ok()?,
+            target: target_of(self.alloc, &parts.uri).ok()?,
             head: parts.headers,
             content: Vec::new(self.alloc),
             from: self.from,
@@ -78,14 +82,15 @@ impl<I: Drop, H: Answers> Service<Request<Incoming<I>>> for Door<H> {
             Ok(_) => {
                 let is_empty = body.size_hint().exact() == Some(0);
                 let mut serving = self.serving(parts);
-                if self.answers.refuses(&self.facts) {
+                if is_empty || self.answers.refuses(&self.facts) {
                     self.stage.set(Stage::Asked);
                     serving.answering = begin(&serving.telling, Vec::new(self.alloc));
                     serving.is_last = serving.is_last || !is_empty;
                     return serving;
                 }
                 let heard = Heard::new(body, Pieces(self.stage.share().ok()));
-                serving.content = Some(AtMost::new(self.alloc, self.limit).read(heard));
+                let reading = AtMost::new(self.alloc, self.limit).read(heard);
+                serving.content = boxed(self.alloc, reading);
                 serving
             }
             Err(status) => {
@@ -187,9 +192,9 @@ pub(crate) struct Serving<H: Answers, T: Read, I> {
     refusal: u16,
     // Receives whether the server of a tunnel is connected, or the status to answer.
     tunnel: Option<oneshot::Receiver<Result<(), u16>>>,
-    content: Option<T::Reading>,
+    content: Option<Box<T::Reading>>,
     // The content that is passed on, until it is complete.
-    upload: Option<Upload<I>>,
+    upload: Option<Box<Upload<I>>>,
     answering: Option<H::Answering>,
 }
 
@@ -232,8 +237,8 @@ impl<H: Answers, T: Read, I: Drop> Serving<H, T, I> {
     // Whether the response is one that is passed on and has a content (RFC 9110, section 6.4.1).
     fn passes_content(&self, given: &Given) -> bool {
         match given {
-            Given::Passed { head, .. } => {
-                !matches!(head.status, 204 | 205 | 304) && !is_for_head(&self.telling)
+            Given::Passed(answer) => {
+                !matches!(answer.head.status, 204 | 205 | 304) && !is_for_head(&self.telling)
             }
             _ => false,
         }
@@ -321,7 +326,8 @@ impl<H: Answers, T: Read, I: Drop> Serving<H, T, I> {
 impl<H: Answers, T: Read, I: Drop> Future for Serving<H, T, I> {
     type Output = Result<Response<Reply<H, I>>, Infallible>;
 
-    ghost can_poll = { λ w. IfSome w.content T.Reading.can_poll × IfSome w.answering H.Answering.can_poll };
+    ghost can_poll = { λ w. IfSome w.content (λ c. T.Reading.can_poll (box_value c))
+        × IfSome w.answering H.Answering.can_poll };
 
     fn poll(&mut self, cx: &mut Context<'_>) -> Poll<Result<Response<Reply<H, I>>, Infallible>> {
         if ready!(self.poll_tunnel(cx)) {
@@ -351,6 +357,32 @@ impl<H: Answers, T: Read, I: Drop> Future for Serving<H, T, I> {
         let given = ready!(answering.poll(cx));
         Poll::Ready(Ok(self.respond(given)))
     }
+}
+
+// The target of a request as it is written (RFC 3986, section 5.3). Errors: out of memory.
+fn target_of(alloc: Global, uri: &Uri) -> Result<String, AllocError> {
+    let mut text = String::with_capacity(alloc, USUAL_TARGET)?;
+    if let Some(scheme) = uri.scheme_str() {
+        text.push_str(scheme)?;
+        text.push_str("://")?;
+    }
+    if let Some(authority) = uri.authority() {
+        text.push_str(authority.as_str())?;
+    }
+    text.push_str(uri.path())?;
+    if let Some(query) = uri.query() {
+        text.push_str("?")?;
+        text.push_str(query)?;
+    }
+    Ok(text)
+}
+
+// A future in a box. Returns `None` if out of memory.
+fn boxed<F: Future>(alloc: Global, future: F) -> Option<Box<F>>
+    requires { F.can_poll future }
+    ensures { IfSome result (λ f. F.can_poll (box_value f)) }
+{
+    Box::new(alloc, future).ok()
 }
 
 // Passes on a request whose content is complete. Returns `None` if out of memory.
@@ -413,8 +445,7 @@ fn response_of<H: Answers, I: Drop>(alloc: Global, given: Given) -> Option<Respo
             told,
         } => {
             let response = shaped_response(alloc, &object, shape, age.is_some());
-            let aged = with_age(alloc, response, age);
-            with_field(alloc, aged, b"cache-status", told.as_slice())
+            with_own_fields(alloc, response, age, told)
         }
         Given::Text { status, text, kind } => text_response(alloc, status, text, kind.media_type()),
         Given::Page(text) => page_response(alloc, text),
@@ -423,16 +454,7 @@ fn response_of<H: Answers, I: Drop>(alloc: Global, given: Given) -> Option<Respo
             let kind = b"application/x-pcapng";
             with_field(alloc, Some(response), b"content-type", kind)
         }
-        Given::Passed {
-            head,
-            pieces,
-            via,
-            told,
-        } => {
-            let response = passed_response(alloc, head, pieces);
-            let passed = with_field(alloc, response, b"via", via.as_slice());
-            with_field(alloc, passed, b"cache-status", told.as_slice())
-        }
+        Given::Passed(answer) => passed_response(alloc, answer),
         Given::Challenge(text) => {
             let response = text_response(alloc, 401, text, b"text/plain");
             with_field(alloc, response, b"www-authenticate", b"Bearer")
@@ -454,19 +476,39 @@ fn with_field<H: Answers, I: Drop>(
     }
 }
 
-// A response with this Age, if one is given. Returns `None` as `with_field` does.
-fn with_age<H: Answers, I: Drop>(
+// A response with this Age, if one is given, and this Cache-Status. Returns `None` as `with_field` does.
+fn with_own_fields<H: Answers, I: Drop>(
     alloc: Global,
     response: Option<Response<Reply<H, I>>>,
     age: Option<u32>,
+    told: Vec<u8>,
 ) -> Option<Response<Reply<H, I>>> {
-    let Some(age) = age else {
-        return response;
-    };
-    match age.to_string(alloc) {
-        Ok(age) => with_field(alloc, response, b"age", age.as_bytes()),
-        Err(_) => None,
+    let mut response = response?;
+    match add_own_fields(alloc, response.headers_mut(), age, told) {
+        Some(()) => Some(response),
+        None => None,
     }
+}
+
+// Appends this Age, if one is given, and this Cache-Status. Returns `None` as `add_field` does.
+fn add_own_fields(
+    alloc: Global,
+    headers: &mut HeaderMap,
+    age: Option<u32>,
+    told: Vec<u8>,
+) -> Option<()> {
+    if let Some(age) = age {
+        let age = age.to_string(alloc).ok()?;
+        append_field(headers, header::AGE, age.into_bytes())?;
+    }
+    append_field(headers, HeaderName::from_static("cache-status"), told)
+}
+
+// Appends a field whose value is not copied. Returns `None` as `add_field` does.
+fn append_field(headers: &mut HeaderMap, name: HeaderName, value: Vec<u8>) -> Option<()> {
+    let value = HeaderValue::from_vec(value).ok()?;
+    let _ = headers.append(name, value).ok()?;
+    Some(())
 }
 
 // The response with an object in this shape, without Age if `is_age_apart`. Returns `None` if out of memory, or if there are too many
@@ -513,13 +555,32 @@ fn object_response<H: Answers, I: Drop>(
 ) -> Option<Response<Reply<H, I>>> {
     let mut response = Response::new(alloc, Reply::of(body));
     *response.status_mut() = status_of(status);
-    add_object_fields(alloc, response.headers_mut(), fields, is_age_apart)?;
+    let headers = response.headers_mut();
+    // Room for Age and Cache-Status as well.
+    headers.reserve(fields.len().saturating_add(2)).ok()?;
+    add_object_fields(alloc, headers, fields, is_age_apart)?;
     Some(response)
+}
+
+// The response with an answer that is passed on. Returns `None` as `relayed_response` does.
+fn passed_response<H: Answers, I: Drop>(
+    alloc: Global,
+    answer: Box<PassedAnswer>,
+) -> Option<Response<Reply<H, I>>> {
+    let PassedAnswer {
+        head,
+        pieces,
+        via,
+        told,
+    } = Box::into_inner(answer);
+    let response = relayed_response(alloc, head, pieces);
+    let passed = with_field(alloc, response, b"via", via.as_slice());
+    with_field(alloc, passed, b"cache-status", told.as_slice())
 }
 
 // The response with an answer that is passed on: its fields that are not only for its connection (RFC 9110, section 7.6.1). Returns `None`
 // if out of memory, if there are too many fields, or if Connection names too many.
-fn passed_response<H: Answers, I: Drop>(
+fn relayed_response<H: Answers, I: Drop>(
     alloc: Global,
     head: PassedHead,
     pieces: mpsc::Receiver<Piece>,
@@ -535,7 +596,7 @@ fn passed_response<H: Answers, I: Drop>(
         // It has no content, however it is framed (RFC 9110, section 15.3.6).
         Reply::of(Portions::of_text(alloc, Vec::new(alloc)))
     } else {
-        Reply::of_passed(alloc, pieces, length, wanted)
+        Reply::of_passed(alloc, pieces, length, wanted)?
     };
     let mut response = Response::new(alloc, reply);
     *response.status_mut() = status_of(status);

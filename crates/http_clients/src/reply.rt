@@ -24,7 +24,7 @@ use std::alloc::{AllocError, Global};
 pub(crate) struct Reply<H: Answers, I> {
     known: Portions,
     coming: Option<mpsc::Receiver<Vec<u8>>>,
-    passed: Option<Passed<I>>,
+    passed: Option<Box<Passed<I>>>,
     telling: Option<Telling<H>>,
 }
 
@@ -35,7 +35,7 @@ struct Passed<I> {
     length: Option<u64>,
     // Ends the passage when it is dropped.
     wanted: oneshot::Sender<()>,
-    upload: Option<Upload<I>>,
+    upload: Option<Box<Upload<I>>>,
     // None if there are too many handles.
     stage: Option<SharedStage>,
 }
@@ -84,29 +84,31 @@ impl<H: Answers, I: Drop> Reply<H, I> {
     }
 
     /// A body of the pieces of an answer that is passed on; it fails if they end without `Piece::End`. The passage ends when this is
-    /// dropped, with `wanted`.
+    /// dropped, with `wanted`. Returns `None` if out of memory.
     pub(crate) fn of_passed(
         alloc: Global,
         pieces: mpsc::Receiver<Piece>,
         length: Option<u64>,
         wanted: oneshot::Sender<()>,
-    ) -> Reply<H, I> {
-        Reply {
+    ) -> Option<Reply<H, I>> {
+        let passed = Passed {
+            pieces,
+            length,
+            wanted,
+            upload: None,
+            stage: None,
+        };
+        let passed = Box::new(alloc, passed).ok()?;
+        Some(Reply {
             known: Portions::of_text(alloc, Vec::new(alloc)),
             coming: None,
-            passed: Some(Passed {
-                pieces,
-                length,
-                wanted,
-                upload: None,
-                stage: None,
-            }),
+            passed: Some(passed),
             telling: None,
-        }
+        })
     }
 
     /// Leaves it to a body that is passed on to pass on what is left of its request's content, and to set the stage once it has ended.
-    pub(crate) fn attend(&mut self, upload: Option<Upload<I>>, stage: Option<SharedStage>) {
+    pub(crate) fn attend(&mut self, upload: Option<Box<Upload<I>>>, stage: Option<SharedStage>) {
         if let Some(passed) = &mut self.passed {
             passed.upload = upload;
             passed.stage = stage;

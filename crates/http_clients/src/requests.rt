@@ -29,7 +29,20 @@ impl TextKind {
     }
 }
 
-/// The content of a response.
+/// The answer to a request that was passed on.
+#[derive(Drop)]
+pub(crate) struct PassedAnswer {
+    /// Its head.
+    pub(crate) head: PassedHead,
+    /// The pieces of its content.
+    pub(crate) pieces: mpsc::Receiver<Piece>,
+    /// The Via that is added to it.
+    pub(crate) via: Vec<u8>,
+    /// Its Cache-Status.
+    pub(crate) told: Vec<u8>,
+}
+
+/// The content of a response. What is moved for each response is kept small.
 #[derive(Drop)]
 pub(crate) enum Given {
     /// An object in this shape, with this Cache-Status. If `age` is given, it replaces the Age field of the object.
@@ -49,13 +62,8 @@ pub(crate) enum Given {
     Page(Vec<u8>),
     /// The pieces of a capture file, which are made while they are sent.
     Capture(mpsc::Receiver<Vec<u8>>),
-    /// The answer to a request that was passed on: its head and the pieces of its content, with this Via added and this Cache-Status.
-    Passed {
-        head: PassedHead,
-        pieces: mpsc::Receiver<Piece>,
-        via: Vec<u8>,
-        told: Vec<u8>,
-    },
+    /// The answer to a request that was passed on.
+    Passed(Box<PassedAnswer>),
     /// A text with status 401, for a client that has to show a bearer token (RFC 6750, section 3).
     Challenge(Vec<u8>),
 }

@@ -4,7 +4,7 @@ ghost use Rattle.futures.specs.Poll.{OnPending};
 ghost use Rattle.futures.specs.Task.{Covers, Keeps};
 
 use crate::account::SharedFacts;
-use crate::requests::{Answers, Given, TextKind};
+use crate::requests::{Answers, Given, PassedAnswer, TextKind};
 use crate::server::{ServeLimits, serve};
 use client_streams::Stops;
 use crossbeam_channel::Sender;
@@ -27,6 +27,9 @@ use std::rc::Rc;
 use std::sync::atomic::AtomicUsize;
 use std::sync::{Arc, Wait};
 use std::time::Clock;
+
+// The most octets that Cache-Status has behind the name of the cache for a hit.
+const HIT_OCTETS: usize = 31;
 
 // State shared by all connections.
 #[derive(Drop)]
@@ -103,8 +106,19 @@ fn is_large<F: Front + FollowUp + PassOn>(
     }
 }
 
-// Has the front pass on the request of these facts, with this content. Errors: the status to answer.
+// As `passes_of`, in a box.
 fn pass_on<F: Front + FollowUp + PassOn>(
+    context: &Rc<ClientContext<F>>,
+    facts: &SharedFacts,
+    content: Option<Coming>,
+) -> Result<Box<Passes<F>>, u16> {
+    let alloc = context.alloc;
+    let passes = passes_of(context, facts, content)?;
+    Box::new(alloc, passes).map_err(|_| 503u16)
+}
+
+// Has the front pass on the request of these facts, with this content. Errors: the status to answer.
+fn passes_of<F: Front + FollowUp + PassOn>(
     context: &Rc<ClientContext<F>>,
     facts: &SharedFacts,
     content: Option<Coming>,
@@ -282,7 +296,7 @@ struct Waiting<F: Front + FollowUp + PassOn> {
     status: u16,
     waits: Option<Waits<F>>,
     // Once the request is passed on.
-    passes: Option<Passes<F>>,
+    passes: Option<Box<Passes<F>>>,
 }
 
 impl<F: Front + FollowUp + PassOn> Waiting<F> {
@@ -373,7 +387,7 @@ impl<F: Front + FollowUp + PassOn> Waiting<F> {
         let Some(passes) = self.passes.take() else {
             return Err(503);
         };
-        let Passes { context, passing } = passes;
+        let Passes { context, passing } = Box::into_inner(passes);
         let Ok(facts) = self.facts.0.try_borrow_mut() else {
             return Err(503);
         };
@@ -390,12 +404,15 @@ impl<F: Front + FollowUp + PassOn> Waiting<F> {
         let told = told_passed(self.alloc, context.label.as_slice(), is_get);
         let via = context.via.as_slice().to_vec(self.alloc);
         match (told, via) {
-            (Ok(told), Ok(via)) => Ok(Given::Passed {
-                head,
-                pieces: passing.pieces,
-                via,
-                told,
-            }),
+            (Ok(told), Ok(via)) => passed_given(
+                self.alloc,
+                PassedAnswer {
+                    head,
+                    pieces: passing.pieces,
+                    via,
+                    told,
+                },
+            ),
             _ => Err(503),
         }
     }
@@ -483,6 +500,14 @@ impl<F: Front + FollowUp + PassOn> Future for Waiting<F> {
     }
 }
 
+// The response with this answer. Errors: 503 if out of memory.
+fn passed_given(alloc: Global, answer: PassedAnswer) -> Result<Given, u16> {
+    match Box::new(alloc, answer) {
+        Ok(answer) => Ok(Given::Passed(answer)),
+        Err(_) => Err(503),
+    }
+}
+
 // Whether the Connection fields of an answer have more names than an answer may have that is given on.
 fn has_too_many_names(alloc: Global, head: &HeaderMap) -> bool {
     matches!(
@@ -547,7 +572,8 @@ fn ttl_of(object: &SharedObject, age: u32) -> u64 {
 
 // The Cache-Status member (RFC 9211) of a hit.
 fn told_hit(alloc: Global, label: &[u8], ttl: u64) -> Result<Vec<u8>, AllocError> {
-    let mut told = label.to_vec(alloc)?;
+    let mut told = Vec::with_capacity(alloc, label.len().saturating_add(HIT_OCTETS))?;
+    told.extend_from_slice(label)?;
     told.extend_from_slice(b"; hit; ttl=")?;
     told.extend_from_slice(ttl.to_string(alloc)?.as_bytes())?;
     Ok(told)

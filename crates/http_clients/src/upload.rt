@@ -37,10 +37,11 @@ impl<I: Drop> Upload<I> {
         body: Heard<I, Pieces>,
         length: Option<u64>,
         stage: Option<SharedStage>,
-    ) -> Option<(Upload<I>, Coming)> {
+    ) -> Option<(Box<Upload<I>>, Coming)> {
         let (to, pieces) = mpsc::channel(alloc, WAITING_PIECES).ok()?;
         let relay = Relay::new(alloc, body, to);
-        Some((Upload { relay, stage }, Coming { length, pieces }))
+        let upload = Box::new(alloc, Upload { relay, stage }).ok()?;
+        Some((upload, Coming { length, pieces }))
     }
 
     // Sets the stage of the connection, if it is another one.

@@ -5,12 +5,12 @@ use crate::node_handle::NodeHandle;
 use crate::proxy_state::{ProxyState, Stale, end_at};
 use crate::storage::Purger;
 use crossbeam_channel::Sender;
-use forwarding::{Field, Profile, Waiting, end_in_digits};
+use forwarding::{Field, KnownKeys, Profile, Waiting, end_in_digits};
 use futures::channel::oneshot;
 use http_rules::{
     Mirror, PassFault, StaleUse, Stored, StoredAnswer, TargetFault, answer_to, choose, classify,
     content_range, end_to_end, has_come_back, is_for_a_part, is_in_not_modified, is_plain_request,
-    key_of, may_validate, mirrored, takes_stale, unsatisfied_range,
+    may_validate, mirrored, takes_stale, unsatisfied_range,
 };
 use http_traffic::{
     Asked, Asking, FollowUp, Forward, Front, How, Outcome, PassOn, Shape, Supplier, Told,
@@ -52,6 +52,8 @@ pub struct NodeFront<R, L: Ledger> {
     /// The thread's handle to the node. Only this thread locks it; a second owner takes the seat back after the server ends.
     pub node: Arc<Mutex<NodeHandle<R, L>>>,
     pub rules: FrontRules,
+    /// The keys of targets that were asked for before.
+    pub keys: KnownKeys,
     /// The number of the last client; the first one is 1.
     pub last: u64,
     /// Answers to give before the proxy stops; 0 means no limit.
@@ -79,14 +81,18 @@ struct Taken {
 
 /// The key of what a request asks for: its target, or the URL that stands for it at one of these mirrors. Errors: the HTTP status to
 /// answer.
-fn key_for(alloc: Global, mirrors: &[Mirror], asked: &Asked) -> Result<CacheKey, u16> {
-    let target = asked.target.as_str();
+fn key_for(
+    alloc: Global,
+    mirrors: &[Mirror],
+    keys: &mut KnownKeys,
+    target: &str,
+) -> Result<CacheKey, u16> {
     let Ok(url) = mirrored(alloc, mirrors, target) else {
         return Err(503);
     };
     let key = match &url {
-        Some(url) => key_of(alloc, url.as_str()),
-        None => key_of(alloc, target),
+        Some(url) => keys.key_of(url.as_str()),
+        None => keys.key_of(target),
     };
     key.map_err(|fault| match fault {
         TargetFault::NotHttp => 400,
@@ -258,7 +264,7 @@ impl<R: Wait + Clock + Drop, L: Ledger> NodeFront<R, L> {
 
     /// Gives a client that waits for a fetch for all clients what is on the shelf, if it may have that while its origin is asked about it
     /// (RFC 5861, section 3). The fetch goes on without it.
-    fn give_stale(&self, asked: &Asked, client: u64) {
+    fn give_stale(&mut self, asked: &Asked, client: u64) {
         if self.proxy.shelf.is_none() || !takes_stale(&asked.head) {
             return;
         }
@@ -287,8 +293,9 @@ impl<R: Wait + Clock + Drop, L: Ledger> NodeFront<R, L> {
     }
 
     /// The key of what a request asks for. Errors: the HTTP status to answer.
-    pub(crate) fn key(&self, asked: &Asked) -> Result<CacheKey, u16> {
-        key_for(self.alloc, self.rules.mirrors.as_slice(), asked)
+    pub(crate) fn key(&mut self, asked: &Asked) -> Result<CacheKey, u16> {
+        let mirrors = self.rules.mirrors.as_slice();
+        key_for(self.alloc, mirrors, &mut self.keys, asked.target.as_str())
     }
 
     /// How a request is answered by the published rules, if these are in force. Errors: the HTTP status to answer.

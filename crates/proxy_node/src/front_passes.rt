@@ -90,7 +90,7 @@ impl<R: Wait + Clock + Drop, L: Ledger> NodeFront<R, L> {
 
     /// Whether a request whose method the node answers is passed on all the same: a HEAD that nothing stored answers, or a GET whose
     /// answer is known to be too long to be stored. Errors: the status to answer.
-    pub(crate) fn is_beside_node(&self, asked: &Asked) -> Result<bool, u16> {
+    pub(crate) fn is_beside_node(&mut self, asked: &Asked) -> Result<bool, u16> {
         if asked.method.as_str() == "HEAD" {
             return self.is_unstored_head(asked);
         }
@@ -106,7 +106,7 @@ impl<R: Wait + Clock + Drop, L: Ledger> NodeFront<R, L> {
     }
 
     // Whether a HEAD is to be passed on which nothing stored answers.
-    fn is_unstored_head(&self, asked: &Asked) -> Result<bool, u16> {
+    fn is_unstored_head(&mut self, asked: &Asked) -> Result<bool, u16> {
         if !self.proxy.passes.has_method("HEAD") {
             return Ok(false);
         }
@@ -126,7 +126,7 @@ impl<R: Wait + Clock + Drop, L: Ledger> NodeFront<R, L> {
     }
 
     // How a request is passed on. Errors: the status to answer.
-    fn way_of(&self, asked: &Asked) -> Result<Way, u16> {
+    fn way_of(&mut self, asked: &Asked) -> Result<Way, u16> {
         let key = self.key(asked)?;
         self.check(asked, &key, true)?;
         let fields = self.onward_fields(asked)?;
@@ -201,7 +201,7 @@ impl<R: Wait + Clock + Drop, L: Ledger> NodeFront<R, L> {
 
     /// Takes out of the store what a request has changed whose answer has this head. Where memory is short, it stays there until it is
     /// stale.
-    pub(crate) fn clear_changed(&self, asked: &Asked, status: u16, head: &HeaderMap) {
+    pub(crate) fn clear_changed(&mut self, asked: &Asked, status: u16, head: &HeaderMap) {
         let Ok(key) = self.key(asked) else {
             return;
         };
