@@ -6,6 +6,7 @@
 #   make install PREFIX=/usr/local DESTDIR=   installs the built program with its unit, manual and examples
 #   make deb     makes a Debian package of the built program, build/wabretos_VERSION_ARCHITECTURE.deb
 #   make package tests both, and what the unit runs (needs dpkg, systemd-analyze, curl and jq; says what it leaves out without)
+#   make systemd starts, reloads, stops and restarts the installed package under a real systemd in a container (needs root and systemd-nspawn)
 #   make page    looks at the administration's page in a Chromium, with pictures in build/page/ (says so where there is none)
 #   make test    proves every crate from nothing, tries the must-fail edits, runs all tests, script cases and documents
 #   make format  lays out the files of all crates as rt fmt does; the gate refuses a crate with a file that is laid out otherwise
@@ -31,7 +32,7 @@ CONFIG ?= examples/serve.json
 PREFIX ?= /usr/local
 DESTDIR ?=
 
-.PHONY: serve group feed build install deb package page test format cases documents loopback attacks open hostile slow interop clients load large fuzz limits edits bench sweep storm
+.PHONY: serve group feed build install deb package systemd page test format cases documents loopback attacks open hostile slow interop clients load large fuzz limits edits bench sweep storm
 
 feed:
 	@tools/feed $(SCRIPT)
@@ -53,6 +54,9 @@ deb:
 
 package:
 	@tests/package $(PROGRAM)
+
+systemd:
+	@tests/systemd $(PROGRAM)
 
 page:
 	@tools/page --check
