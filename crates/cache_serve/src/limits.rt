@@ -51,6 +51,8 @@ pub struct ProxyLimits {
     pub connecting: Duration,
     /// Time for a whole fetch, from the moment that it is ordered.
     pub fetching: Duration,
+    /// How long a fetch's connection may be without an octet, if that is limited.
+    pub idle: Option<Duration>,
 }
 
 impl ProxyLimits {
@@ -66,6 +68,7 @@ impl ProxyLimits {
             },
             connecting: Duration::from_secs(5),
             fetching: Duration::from_secs(30),
+            idle: None,
         }
     }
 }

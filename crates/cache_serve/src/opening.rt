@@ -104,6 +104,9 @@ fn thread_config(settings: &Settings, limits: ProxyLimits) -> ThreadConfig {
     let an_address = settings.address_connections.unwrap_or(ADDRESS_CONNECTIONS);
     limits.clients.connections.an_address = an_address as usize;
     limits.fetching = Duration::from_secs(u64::from(settings.fetch_seconds));
+    limits.idle = settings
+        .fetch_idle
+        .map(|seconds| Duration::from_secs(u64::from(seconds)));
     ThreadConfig {
         icp: settings.node.icp,
         htcp: settings.node.htcp,
@@ -365,7 +368,7 @@ where
             proxy,
             budget,
             octets: self.config.body_limit,
-            connecting: self.config.limits.connecting,
+            limits: self.config.limits,
             streams: self.config.streams,
             end,
         };

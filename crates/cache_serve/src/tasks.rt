@@ -28,7 +28,7 @@ use std::random::RandomSource;
 use std::sync::atomic::{AtomicBool, AtomicUsize};
 use std::sync::ledger::Ledger;
 use std::sync::{Arc, Mutex, Wait};
-use std::time::{Clock, Duration};
+use std::time::Clock;
 
 /// How a thread ended.
 #[derive(Drop)]
@@ -130,7 +130,7 @@ pub struct FetchTask<L: Ledger> {
     pub proxy: Arc<ProxyState<L>>,
     pub budget: Arc<Budget>,
     pub octets: usize,
-    pub connecting: Duration,
+    pub limits: ProxyLimits,
     /// The most requests that are passed on at a time.
     pub streams: u32,
     pub end: Sender<(), Global>,
@@ -170,7 +170,7 @@ where
         proxy,
         budget,
         octets,
-        connecting,
+        limits,
         streams,
         end,
     } = fetches;
@@ -178,7 +178,8 @@ where
     let limits = FetchLimits {
         octets,
         free: FREE_OCTETS,
-        connecting,
+        connecting: limits.connecting,
+        idle: limits.idle,
         at_once: at_once(streams),
     };
     let mut results = Results {

@@ -2,6 +2,7 @@
 ghost use Rattle.std.specs.Prelude.{IfSome};
 
 use crate::budget::Share;
+use crate::moves::{Moves, Noted, Patience};
 use bytes::Bytes;
 use futures::task::{Context, Poll};
 use futures::{Future, ready};
@@ -15,8 +16,9 @@ use hyper::{HeaderMap, Request, header};
 use paced_stream::{FETCH_TURN, Paced};
 use std::alloc::Global;
 use std::sync::Wait;
+use std::time::{Clock, Duration};
 use tokio::net::{ConnectFuture, TcpStream};
-use tokio::time::Timeout;
+use tokio::time::{Handle, Timeout};
 
 /// A page, and the share of the budget that its body takes.
 #[derive(Drop)]
@@ -84,6 +86,7 @@ impl<T: Talk> Future for Call<T> {
 /// A GET request for one page.
 #[derive(Drop)]
 pub struct Get<R: Wait + Copy> {
+    pub rt: R,
     pub alloc: Global,
     pub http: http1::Builder,
     pub host: String,
@@ -93,6 +96,10 @@ pub struct Get<R: Wait + Copy> {
     pub limit: usize,
     /// How many of them need not be paid for.
     pub free: usize,
+    /// How long its connection may be without an octet, if that is limited.
+    pub idle: Option<Duration>,
+    /// None if out of memory, and where nothing is limited.
+    pub timers: Option<Handle>,
     /// What pays for the body, until the exchange begins.
     pub share: Option<Share<R>>,
 }
@@ -109,25 +116,93 @@ impl<R: Wait + Copy> Get<R> {
     }
 }
 
-impl<R: Wait + Copy> Talk for Get<R> {
+impl<R: Wait + Clock + Copy> Get<R> {
+    // The patience with a connection whose octets are noted here, if it is limited.
+    fn patience(&mut self, moves: &Moves) -> Option<Patience<R>> {
+        let still = self.idle?;
+        let moves = moves.share().ok();
+        Some(Patience::new(self.rt, self.timers.take(), moves, still))
+    }
+
+    // What pays for the body. Returns `None` if out of memory.
+    fn share(&mut self, moves: &Moves) -> Option<Share<R>> {
+        Some(self.share.take()?.told(moves.share().ok()?))
+    }
+}
+
+impl<R: Wait + Clock + Copy> Talk for Get<R> {
     type Page = Paid<Share<R>>;
 
-    type Talking = Beside<Reply<Metered<R>>, Connection<Paced, Empty<Bytes>>>;
+    type Talking = Patient<R, Getting<R>>;
 
     fn talk(&mut self, socket: TcpStream) -> Option<Self::Talking> {
         let _ = socket.set_nodelay(true);
         let request = self.request()?;
-        let Ok((mut sender, conn)) = self.http.handshake(Paced::new(socket, FETCH_TURN)) else {
-            return None;
-        };
+        let moves = Moves::new(self.alloc).ok()?;
         let metered = Metered {
             alloc: self.alloc,
             limit: self.limit,
             free: self.free,
-            share: self.share.take(),
+            share: self.share(&moves),
         };
-        let reply = Reply::new(sender.send_request(request), metered);
-        Some(Beside::new(reply, conn))
+        let patience = self.patience(&moves);
+        let noted = Noted::new(Paced::new(socket, FETCH_TURN), moves);
+        Some(Patient::new(begun(&self.http, noted, request, metered)?, patience))
+    }
+}
+
+/// The exchange of a fetch, its reply beside its connection.
+pub type Getting<R> = Beside<Reply<Metered<R>>, Connection<Noted, Empty<Bytes>>>;
+
+// Begins an exchange over this connection. Returns `None` if out of memory.
+fn begun<R: Wait + Copy>(
+    http: &http1::Builder,
+    noted: Noted,
+    request: Request<Empty<Bytes>>,
+    metered: Metered<R>,
+) -> Option<Getting<R>>
+    ensures { IfSome result ⟦<Getting<R> as Future>⟧.can_poll }
+{
+    let Ok((mut sender, conn)) = http.handshake(noted) else {
+        return None;
+    };
+    let reply = Reply::new(sender.send_request(request), metered);
+    Some(Beside::new(reply, conn))
+}
+
+/// Ends an exchange with a fault where nothing has moved on its connection for too long.
+#[derive(Drop)]
+pub struct Patient<R, F> {
+    exchange: F,
+    // None if that is not limited.
+    patience: Option<Patience<R>>,
+}
+
+impl<R: Clock + Drop, F: Future> Patient<R, F> {
+    /// This exchange, with this patience.
+    pub fn new(exchange: F, patience: Option<Patience<R>>) -> Patient<R, F>
+        requires { F.can_poll exchange }
+        ensures { F.can_poll result.exchange }
+    {
+        Patient { exchange, patience }
+    }
+}
+
+impl<R: Clock + Drop, P: Drop, F: Future<Output = Result<P, FetchFault>>> Future for Patient<R, F> {
+    type Output = Result<P, FetchFault>;
+
+    ghost can_poll = { λ p. F.can_poll p.exchange };
+
+    fn poll(&mut self, cx: &mut Context<'_>) -> Poll<Result<P, FetchFault>> {
+        if let Poll::Ready(ended) = self.exchange.poll(cx) {
+            return Poll::Ready(ended);
+        }
+        if let Some(patience) = &mut self.patience
+            && patience.is_over(cx)
+        {
+            return Poll::Ready(Err(FetchFault::Time));
+        }
+        Poll::Pending
     }
 }
 
@@ -157,13 +232,13 @@ pub struct Metered<R: Wait + Copy> {
 }
 
 impl<R: Wait + Copy> Read for Metered<R> {
-    type Body = Incoming<Paced>;
+    type Body = Incoming<Noted>;
 
     type Content = Content<Share<R>>;
 
-    type Reading = Gathered<Incoming<Paced>, Share<R>>;
+    type Reading = Gathered<Incoming<Noted>, Share<R>>;
 
-    fn read(&mut self, body: Incoming<Paced>) -> Gathered<Incoming<Paced>, Share<R>> {
+    fn read(&mut self, body: Incoming<Noted>) -> Gathered<Incoming<Noted>, Share<R>> {
         Gathered::new(self.alloc, body, self.limit, self.free, self.share.take())
     }
 }
@@ -214,14 +289,14 @@ struct Head {
 /// Receives the head of a response, then its body.
 #[derive(Drop)]
 pub struct Reply<B: Read> {
-    answer: ResponseFuture<Paced>,
+    answer: ResponseFuture<Noted>,
     head: Option<Head>,
     body: Option<B::Reading>,
     read: B,
 }
 
-impl<B: Read<Body = Incoming<Paced>>> Reply<B> {
-    fn new(answer: ResponseFuture<Paced>, read: B) -> Reply<B>
+impl<B: Read<Body = Incoming<Noted>>> Reply<B> {
+    fn new(answer: ResponseFuture<Noted>, read: B) -> Reply<B>
         ensures { IfSome result.body B.Reading.can_poll }
     {
         Reply {
@@ -233,7 +308,7 @@ impl<B: Read<Body = Incoming<Paced>>> Reply<B> {
     }
 }
 
-impl<P: Drop, B: Read<Body = Incoming<Paced>, Content = Content<P>>> Future for Reply<B> {
+impl<P: Drop, B: Read<Body = Incoming<Noted>, Content = Content<P>>> Future for Reply<B> {
     type Output = Result<Paid<P>, FetchFault>;
 
     ghost can_poll = { λ e. IfSome e.body B.Reading.can_poll };

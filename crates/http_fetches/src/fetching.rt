@@ -39,6 +39,8 @@ pub struct FetchLimits {
     pub free: usize,
     /// Time to connect.
     pub connecting: Duration,
+    /// How long a fetch's connection may be without an octet, if that is limited.
+    pub idle: Option<Duration>,
     /// The most concurrent fetches.
     pub at_once: usize,
 }
@@ -124,7 +126,7 @@ impl<R: Wait + Net + Clock + Copy, A: Admit> Begin for Getter<R, A> {
 
 // A job in progress. A type of its own, since its parts have large ones that are elaborated anew wherever they are named.
 #[derive(Drop)]
-struct Doing<R: Wait + Copy, A> {
+struct Doing<R: Wait + Clock + Copy, A> {
     doing: Either<Fetch<R, A, Get<R>>, Pass<R, A, Post>>,
 }
 
@@ -139,9 +141,18 @@ impl<R: Wait + Net + Clock + Copy, A: Admit> Future for Doing<R, A> {
 }
 
 impl<R: Wait + Net + Clock + Copy, A: Admit> Getter<R, A> {
+    // The timers of a fetch's patience, if that is limited. `None` also if there are too many handles.
+    fn timers(&self) -> Option<tokio::time::Handle> {
+        match self.limits.idle {
+            Some(_) => self.handle.time().clone().ok(),
+            None => None,
+        }
+    }
+
     // The exchange of a fetch.
     fn get(&self, host: String, target: String, fields: Vec<(Vec<u8>, Vec<u8>)>) -> Get<R> {
         Get {
+            rt: self.rt,
             alloc: self.alloc,
             http: self.http,
             host,
@@ -149,6 +160,8 @@ impl<R: Wait + Net + Clock + Copy, A: Admit> Getter<R, A> {
             fields,
             limit: self.limits.octets,
             free: self.limits.free,
+            idle: self.limits.idle,
+            timers: self.timers(),
             share: Share::new(self.rt, self.alloc, &self.rules.budget).ok(),
         }
     }

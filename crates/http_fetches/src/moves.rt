@@ -29,8 +29,8 @@ impl Moves {
         Ok(Moves(self.0.clone()?))
     }
 
-    // Notes that something moved.
-    fn note(&self) {
+    /// Notes that something moved.
+    pub fn note(&self) {
         self.0.set(true);
     }
 

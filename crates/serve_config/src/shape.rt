@@ -38,7 +38,7 @@ const TOP: [Known; 16] = [
 ];
 
 /// The keys that a configuration may leave out.
-const OPTIONAL: [Known; 22] = [
+const OPTIONAL: [Known; 23] = [
     ("receipt_octets", Kind::Number),
     ("book_octets", Kind::Number),
     ("fetch_octets", Kind::Number),
@@ -60,6 +60,7 @@ const OPTIONAL: [Known; 22] = [
     ("streams", Kind::Number),
     ("tunnels", Kind::Number),
     ("fetch_seconds", Kind::Number),
+    ("fetch_idle", Kind::Number),
     ("shared_fields", Kind::Object),
 ];
 
