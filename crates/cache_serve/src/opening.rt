@@ -107,6 +107,7 @@ fn thread_config(settings: &Settings, limits: ProxyLimits) -> ThreadConfig {
     limits.idle = settings
         .fetch_idle
         .map(|seconds| Duration::from_secs(u64::from(seconds)));
+    limits.keep = keep_of(settings.keep_alive);
     ThreadConfig {
         icp: settings.node.icp,
         htcp: settings.node.htcp,
@@ -117,6 +118,14 @@ fn thread_config(settings: &Settings, limits: ProxyLimits) -> ThreadConfig {
         streams: settings.streams,
         stop_after: settings.stop_after,
         limits,
+    }
+}
+
+/// How long connections are kept for further fetches.
+fn keep_of(seconds: u32) -> Option<Duration> {
+    match seconds {
+        0 => None,
+        _ => Some(Duration::from_secs(u64::from(seconds))),
     }
 }
 

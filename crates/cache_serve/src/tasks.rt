@@ -180,6 +180,7 @@ where
         free: FREE_OCTETS,
         connecting: limits.connecting,
         idle: limits.idle,
+        keep: limits.keep,
         at_once: at_once(streams),
     };
     let mut results = Results {

@@ -22,6 +22,7 @@ pub mod Ranges
 pub mod Refresh
 pub mod Requests
 pub mod Responses
+pub mod Retrying
 pub mod Reuse
 pub mod Targets
 pub mod Text

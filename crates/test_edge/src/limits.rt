@@ -44,6 +44,7 @@ pub(crate) fn fetch_limits(octets: usize, connecting: Duration) -> FetchLimits
         free: 0,
         connecting,
         idle: None,
+        keep: None,
         at_once: 64,
     }
 }
