@@ -51,6 +51,10 @@ pub struct ProxyLimits {
     pub connecting: Duration,
     /// Time for a whole fetch, from the moment that it is ordered.
     pub fetching: Duration,
+    /// How long a fetch's connection may be without an octet, if that is limited.
+    pub idle: Option<Duration>,
+    /// How long a fetch's connection is kept for further ones. None is if it is left out.
+    pub keep: Option<Duration>,
 }
 
 impl ProxyLimits {
@@ -66,6 +70,8 @@ impl ProxyLimits {
             },
             connecting: Duration::from_secs(5),
             fetching: Duration::from_secs(30),
+            idle: None,
+            keep: None,
         }
     }
 }

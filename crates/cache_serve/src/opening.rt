@@ -104,6 +104,10 @@ fn thread_config(settings: &Settings, limits: ProxyLimits) -> ThreadConfig {
     let an_address = settings.address_connections.unwrap_or(ADDRESS_CONNECTIONS);
     limits.clients.connections.an_address = an_address as usize;
     limits.fetching = Duration::from_secs(u64::from(settings.fetch_seconds));
+    limits.idle = settings
+        .fetch_idle
+        .map(|seconds| Duration::from_secs(u64::from(seconds)));
+    limits.keep = keep_of(settings.keep_alive);
     ThreadConfig {
         icp: settings.node.icp,
         htcp: settings.node.htcp,
@@ -114,6 +118,14 @@ fn thread_config(settings: &Settings, limits: ProxyLimits) -> ThreadConfig {
         streams: settings.streams,
         stop_after: settings.stop_after,
         limits,
+    }
+}
+
+/// How long connections are kept for further fetches.
+fn keep_of(seconds: u32) -> Option<Duration> {
+    match seconds {
+        0 => None,
+        _ => Some(Duration::from_secs(u64::from(seconds))),
     }
 }
 
@@ -365,7 +377,7 @@ where
             proxy,
             budget,
             octets: self.config.body_limit,
-            connecting: self.config.limits.connecting,
+            limits: self.config.limits,
             streams: self.config.streams,
             end,
         };

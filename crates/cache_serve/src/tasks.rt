@@ -29,7 +29,7 @@ use std::random::RandomSource;
 use std::sync::atomic::{AtomicBool, AtomicUsize};
 use std::sync::ledger::Ledger;
 use std::sync::{Arc, Mutex, Wait};
-use std::time::{Clock, Duration};
+use std::time::Clock;
 
 /// How a thread ended.
 #[derive(Drop)]
@@ -131,7 +131,7 @@ pub struct FetchTask<L: Ledger> {
     pub proxy: Arc<ProxyState<L>>,
     pub budget: Arc<Budget>,
     pub octets: usize,
-    pub connecting: Duration,
+    pub limits: ProxyLimits,
     /// The most requests that are passed on at a time.
     pub streams: u32,
     pub end: Sender<(), Global>,
@@ -171,7 +171,7 @@ where
         proxy,
         budget,
         octets,
-        connecting,
+        limits,
         streams,
         end,
     } = fetches;
@@ -179,7 +179,9 @@ where
     let limits = FetchLimits {
         octets,
         free: FREE_OCTETS,
-        connecting,
+        connecting: limits.connecting,
+        idle: limits.idle,
+        keep: limits.keep,
         at_once: at_once(streams),
     };
     let mut results = Results {

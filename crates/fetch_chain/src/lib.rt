@@ -6,9 +6,11 @@
 #![tactic(auto)]
 
 ghost use Rattle.std.specs.Prelude.{◌<◌};
+ghost use Rattle.futures.specs.Task.{Keeps};
 
 use futures::channel::mpsc::UnboundedReceiver;
 use futures::future::ready;
+use futures::task::{Context, Poll};
 use futures::{Future, StreamExt};
 use std::alloc::AllocGlobal;
 use std::io;
@@ -39,29 +41,60 @@ pub trait Submit<T>: Drop {
     fn submit(&mut self, done: T);
 }
 
+/// Looks after what the jobs of a thread leave to one another.
+pub trait Tend: Drop {
+    /// Looks after it, each time that jobs of the thread have run.
+    fn poll_tend(&mut self, cx: &mut Context<'_>)
+        ensures { Keeps cx.old cx.new };
+}
+
+// All jobs of a thread, and what looks after what they leave.
+#[derive(Drop)]
+struct Tended<F, T> {
+    jobs: F,
+    tend: T,
+}
+
+impl<F: Future, T: Tend> Future for Tended<F, T> {
+    type Output = F::Output;
+
+    ghost can_poll = { λ t. F.can_poll t.jobs };
+
+    fn poll(&mut self, cx: &mut Context<'_>) -> Poll<F::Output> {
+        let polled = self.jobs.poll(cx);
+        if polled.is_pending() {
+            self.tend.poll_tend(cx);
+        }
+        polled
+    }
+}
+
 /// Runs the jobs of a channel, at most `most` concurrently, until all its senders are gone and the last job has ended. Passes
-/// each result to `seat` as soon as it is ready. Errors: the event loop failed, or out of memory.
-pub fn run<R, B, S>(
+/// each result to `seat` as soon as it is ready, and has `tend` look after what they leave. Errors: the event loop failed, or out of
+/// memory.
+pub fn run<R, B, S, T>(
     rt: &R,
     runtime: &mut LocalRuntime,
     jobs: UnboundedReceiver<B::Job>,
     begin: B,
     seat: &mut S,
+    tend: T,
     most: usize,
 ) -> io::Result<()>
 where
     R: Wait + Clock + RandomSource + AllocGlobal,
     B: Begin,
     S: Submit<B::Done>,
+    T: Tend,
     requires { 0 < most }
 {
     let mut begin = begin;
     let running = jobs
         .map(move |job| begin.begin(job))
         .buffer_unordered(rt.alloc(), most)?;
-    let all = running.for_each(|done| {
+    let jobs = running.for_each(|done| {
         seat.submit(done);
         ready(())
     });
-    runtime.block_on(rt, all)
+    runtime.block_on(rt, Tended { jobs, tend })
 }

@@ -2,6 +2,7 @@
 ghost use Rattle.futures.specs.Poll.{OnPending};
 ghost use Rattle.futures.specs.Task.{Covers, Keeps};
 
+use crate::moves::Moves;
 use futures::channel::oneshot;
 use futures::task::{Context, Poll};
 use futures::{Future, ready};
@@ -43,6 +44,8 @@ pub struct Share<R: Wait + Copy> {
     alloc: Global,
     budget: Arc<Budget>,
     held: usize,
+    // Told of each payment, since a fetch that waits for one is not one whose server is silent.
+    moves: Option<Moves>,
     // Ready once some octets have been given back.
     turn: Option<oneshot::Receiver<()>>,
 }
@@ -55,8 +58,16 @@ impl<R: Wait + Copy> Share<R> {
             alloc,
             budget: Arc::try_clone(budget)?,
             held: 0,
+            moves: None,
             turn: None,
         })
+    }
+
+    /// This share, whose payments are told.
+    pub fn told(self, moves: Moves) -> Share<R> {
+        let mut share = self;
+        share.moves = Some(moves);
+        share
     }
 
     // Takes so many octets, or waits for some to be given back: `None` if it waits. Errors: that is more than the whole budget, or
@@ -85,6 +96,9 @@ impl<R: Wait + Copy> Share<R> {
 
 impl<R: Wait + Copy> Purse for Share<R> {
     fn poll_take(&mut self, cx: &mut Context<'_>, octets: usize) -> Poll<Result<(), ReadFault>> {
+        if let Some(moves) = &self.moves {
+            moves.note();
+        }
         if let Some(turn) = &mut self.turn {
             let _ = ready!(turn.poll(cx));
             self.turn = None;
@@ -108,6 +122,7 @@ impl<R: Wait + Copy> Drop for Share<R> {
             alloc,
             budget,
             held,
+            moves: _,
             turn: _,
         } = self;
         if held == 0 {

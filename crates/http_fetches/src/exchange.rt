@@ -1,31 +1,51 @@
-//! One request to a server, over a connection of its own.
-ghost use Rattle.std.specs.Prelude.{IfSome};
+//! One request to a server, over a new connection or one that was kept.
+ghost use Rattle.std.specs.Prelude.{◌≡◌, IfSome};
 
-use crate::budget::Share;
+use crate::budget::{Budget, Share};
+use crate::kept::Kept;
+use crate::moves::{Moves, Noted, Patience};
 use bytes::Bytes;
 use futures::task::{Context, Poll};
 use futures::{Future, ready};
 use http_body_util::Empty;
 use http_content::{Content, Gathered, ReadFault, add_fields, has_foreign_coding};
+use http_rules::{lasts, may_retry};
 use http_traffic::{FetchFault, Page};
 use hyper::body::Incoming;
 use hyper::client::conn::http1;
-use hyper::client::conn::http1::{Connection, ResponseFuture};
-use hyper::{HeaderMap, Request, header};
+use hyper::client::conn::http1::{Parts, ResponseFuture, WithoutShutdown};
+use hyper::{HeaderMap, Request, Version, header};
 use paced_stream::{FETCH_TURN, Paced};
 use std::alloc::Global;
-use std::sync::Wait;
+use std::net::SocketAddr;
+use std::sync::{Arc, Wait};
+use std::time::{Clock, Duration};
 use tokio::net::{ConnectFuture, TcpStream};
-use tokio::time::Timeout;
+use tokio::time::{Handle, Timeout};
 
 /// A page, and the share of the budget that its body takes.
 #[derive(Drop)]
 pub struct Paid<P> {
     pub page: Page,
     pub purse: P,
+    // Whether its connection may carry another request.
+    lasts: bool,
+    // Its connection, if it may.
+    socket: Option<Paced>,
 }
 
-/// Starts an exchange over a new connection.
+impl<P: Drop> Paid<P> {
+    // This page, whose connection is kept if it may carry another request.
+    fn with(self, socket: Option<Paced>) -> Paid<P> {
+        let mut paid = self;
+        if paid.lasts {
+            paid.socket = socket;
+        }
+        paid
+    }
+}
+
+/// Starts an exchange.
 pub trait Talk: Drop {
     /// What the exchange brings.
     type Page: Drop;
@@ -33,29 +53,73 @@ pub trait Talk: Drop {
     /// The future of the page.
     type Talking: Future<Output = Result<Self::Page, FetchFault>>;
 
-    /// Starts the exchange. Returns `None` if the request cannot be made.
+    /// Starts the exchange over a new connection. Returns `None` if the request cannot be made.
     fn talk(&mut self, socket: TcpStream) -> Option<Self::Talking>
         ensures { IfSome result Self.Talking.can_poll };
+
+    /// Starts the exchange over a connection to this server that was kept. Returns `None` if there is none, or if the request cannot be
+    /// made.
+    fn resume(&mut self, server: SocketAddr) -> Option<Self::Talking>
+        ensures { IfSome result Self.Talking.can_poll };
+
+    /// Whether the exchange, which has failed, may be started once more over a new connection.
+    fn may_retry(&self, fault: FetchFault) -> bool;
+
+    /// Keeps the connection to this server that brought the page, if it may carry another request.
+    fn keep(&mut self, server: SocketAddr, page: &mut Self::Page);
 }
 
 /// Connects, then runs the exchange.
 #[derive(Drop)]
 pub struct Call<T: Talk> {
+    server: SocketAddr,
     connecting: Option<Timeout<ConnectFuture>>,
     talk: T,
     talking: Option<T::Talking>,
 }
 
 impl<T: Talk> Call<T> {
-    /// A call over this connection attempt; `None` fails, as out of memory.
-    pub fn new(connecting: Option<Timeout<ConnectFuture>>, talk: T) -> Call<T>
+    /// A call to this server over this connection attempt; `None` fails, as out of memory.
+    pub fn new(server: SocketAddr, connecting: Option<Timeout<ConnectFuture>>, talk: T) -> Call<T>
         ensures { IfSome result.talking T.Talking.can_poll }
     {
         Call {
+            server,
             connecting,
             talk,
             talking: None,
         }
+    }
+
+    /// A call to this server that has begun, over a connection that was kept.
+    pub fn resumed(server: SocketAddr, talk: T, talking: T::Talking) -> Call<T>
+        requires { T.Talking.can_poll talking }
+        ensures { IfSome result.talking T.Talking.can_poll }
+    {
+        Call {
+            server,
+            connecting: None,
+            talk,
+            talking: Some(talking),
+        }
+    }
+
+    /// The server of this call, which has failed, and its exchange, to be started once more.
+    pub fn into_talk(self) -> (SocketAddr, T) {
+        let Call { server, talk, .. } = self;
+        (server, talk)
+    }
+
+    /// Whether this call, which has failed so, may be made once more.
+    pub fn may_retry(&self, fault: FetchFault) -> bool {
+        self.talk.may_retry(fault)
+    }
+
+    /// Keeps the connection of this call, which brought this page.
+    pub fn keep(&mut self, page: &mut T::Page)
+        ensures { self.new.talking ≡ self.old.talking }
+    {
+        self.talk.keep(self.server, page);
     }
 }
 
@@ -84,6 +148,7 @@ impl<T: Talk> Future for Call<T> {
 /// A GET request for one page.
 #[derive(Drop)]
 pub struct Get<R: Wait + Copy> {
+    pub rt: R,
     pub alloc: Global,
     pub http: http1::Builder,
     pub host: String,
@@ -93,8 +158,16 @@ pub struct Get<R: Wait + Copy> {
     pub limit: usize,
     /// How many of them need not be paid for.
     pub free: usize,
-    /// What pays for the body, until the exchange begins.
-    pub share: Option<Share<R>>,
+    /// How long its connection may be without an octet, if that is limited.
+    pub idle: Option<Duration>,
+    /// None if out of memory, and where nothing is limited.
+    pub timers: Option<Handle>,
+    /// What pays for the body. None if out of memory.
+    pub budget: Option<Arc<Budget>>,
+    /// Where its connection is kept. None where none is.
+    pub kept: Option<Kept<R>>,
+    /// What is noted of the connection that was kept and that the exchange has begun on.
+    pub used: Option<Moves>,
 }
 
 impl<R: Wait + Copy> Get<R> {
@@ -109,25 +182,209 @@ impl<R: Wait + Copy> Get<R> {
     }
 }
 
-impl<R: Wait + Copy> Talk for Get<R> {
-    type Page = Paid<Share<R>>;
+impl<R: Wait + Clock + Copy> Get<R> {
+    // The patience with a connection whose octets are noted here, if it is limited.
+    fn patience(&self, moves: &Moves) -> Option<Patience<R>> {
+        let still = self.idle?;
+        let moves = moves.share().ok();
+        Some(Patience::new(self.rt, self.timers(), moves, still))
+    }
 
-    type Talking = Beside<Reply<Metered<R>>, Connection<Paced, Empty<Bytes>>>;
+    // The timers of its patience. Returns `None` if out of memory.
+    fn timers(&self) -> Option<Handle> {
+        match &self.timers {
+            Some(timers) => timers.clone().ok(),
+            None => None,
+        }
+    }
 
-    fn talk(&mut self, socket: TcpStream) -> Option<Self::Talking> {
-        let _ = socket.set_nodelay(true);
+    // What pays for the body. Returns `None` if out of memory.
+    fn share(&self, moves: &Moves) -> Option<Share<R>> {
+        match &self.budget {
+            Some(budget) => Some(
+                Share::new(self.rt, self.alloc, budget)
+                    .ok()?
+                    .told(moves.share().ok()?),
+            ),
+            None => None,
+        }
+    }
+
+    // A connection to this server that was kept.
+    fn kept_one(&self, server: SocketAddr) -> Option<Paced> {
+        match &self.kept {
+            Some(kept) => kept.take(server, self.host.as_str()),
+            None => None,
+        }
+    }
+
+    // Starts the exchange over this connection. Returns `None` if the request cannot be made.
+    fn begin(&self, noted: Noted, moves: &Moves) -> Option<Patient<R, Getting<R>>>
+        ensures { IfSome result ⟦<Patient<R, Getting<R>> as Future>⟧.can_poll }
+    {
         let request = self.request()?;
-        let Ok((mut sender, conn)) = self.http.handshake(Paced::new(socket, FETCH_TURN)) else {
-            return None;
-        };
         let metered = Metered {
             alloc: self.alloc,
             limit: self.limit,
             free: self.free,
-            share: self.share.take(),
+            share: self.share(moves),
         };
-        let reply = Reply::new(sender.send_request(request), metered);
-        Some(Beside::new(reply, conn))
+        let patience = self.patience(moves);
+        let getting = begun(&self.http, noted, request, metered, self.kept.is_some())?;
+        Some(Patient::new(getting, patience))
+    }
+}
+
+impl<R: Wait + Clock + Copy> Talk for Get<R> {
+    type Page = Paid<Share<R>>;
+
+    type Talking = Patient<R, Getting<R>>;
+
+    fn talk(&mut self, socket: TcpStream) -> Option<Self::Talking> {
+        let _ = socket.set_nodelay(true);
+        self.used = None;
+        let moves = Moves::new(self.alloc).ok()?;
+        let noted = Noted::new(Paced::new(socket, FETCH_TURN), moves.share().ok()?);
+        self.begin(noted, &moves)
+    }
+
+    fn resume(&mut self, server: SocketAddr) -> Option<Self::Talking> {
+        let socket = self.kept_one(server)?;
+        let moves = Moves::new(self.alloc).ok()?;
+        let noted = Noted::used(socket, moves.share().ok()?);
+        let getting = self.begin(noted, &moves);
+        self.used = Some(moves);
+        getting
+    }
+
+    fn may_retry(&self, fault: FetchFault) -> bool {
+        match &self.used {
+            Some(moves) => fault == FetchFault::Cut && may_retry("GET", true, moves.has_answer()),
+            None => false,
+        }
+    }
+
+    fn keep(&mut self, server: SocketAddr, page: &mut Paid<Share<R>>) {
+        if let Some(kept) = &self.kept
+            && let Some(socket) = page.socket.take()
+        {
+            let host = std::mem::replace(&mut self.host, String::new(self.alloc));
+            kept.keep(server, host, socket);
+        }
+    }
+}
+
+/// The exchange of a fetch, its reply beside its connection.
+pub type Getting<R> = Borne<Reply<Metered<R>>, WithoutShutdown<Noted, Empty<Bytes>>>;
+
+// Begins an exchange over this connection. Returns `None` if out of memory.
+fn begun<R: Wait + Copy>(
+    http: &http1::Builder,
+    noted: Noted,
+    request: Request<Empty<Bytes>>,
+    metered: Metered<R>,
+    may_last: bool,
+) -> Option<Getting<R>>
+    ensures { IfSome result ⟦<Getting<R> as Future>⟧.can_poll }
+{
+    let Ok((mut sender, conn)) = http.handshake(noted) else {
+        return None;
+    };
+    let alloc = metered.alloc;
+    let reply = Reply::new(alloc, sender.send_request(request), metered, may_last);
+    Some(Borne::new(reply, conn.without_shutdown()))
+}
+
+/// A reply beside the connection that brings it, which is given back with the page once nothing of it is left unread.
+#[derive(Drop)]
+pub struct Borne<A, B> {
+    reply: A,
+    conn: Option<B>,
+    // What is left of the connection, once it has ended.
+    left: Option<Parts<Noted>>,
+}
+
+impl<A: Future, B: Future> Borne<A, B> {
+    /// Both, of which neither has ended.
+    pub fn new(reply: A, conn: B) -> Borne<A, B>
+        requires reply { A.can_poll reply }
+        requires conn { B.can_poll conn }
+        ensures { A.can_poll result.reply × IfSome result.conn B.can_poll }
+    {
+        Borne {
+            reply,
+            conn: Some(conn),
+            left: None,
+        }
+    }
+}
+
+// The connection itself, if nothing of it is left unread.
+fn unspent(left: Option<Parts<Noted>>) -> Option<Paced> {
+    let Parts { io, read_buf } = left?;
+    if read_buf.is_empty() {
+        Some(io.into_socket())
+    } else {
+        None
+    }
+}
+
+impl<
+    P: Drop,
+    A: Future<Output = Result<Paid<P>, FetchFault>>,
+    B: Future<Output = hyper::Result<Parts<Noted>>>,
+> Future for Borne<A, B> {
+    type Output = Result<Paid<P>, FetchFault>;
+
+    ghost can_poll = { λ b. A.can_poll b.reply × IfSome b.conn B.can_poll };
+
+    fn poll(&mut self, cx: &mut Context<'_>) -> Poll<Result<Paid<P>, FetchFault>> {
+        if let Some(conn) = &mut self.conn
+            && let Poll::Ready(ended) = conn.poll(cx)
+        {
+            self.conn = None;
+            self.left = ended.ok();
+        }
+        match ready!(self.reply.poll(cx)) {
+            Ok(paid) => Poll::Ready(Ok(paid.with(unspent(self.left.take())))),
+            Err(fault) => Poll::Ready(Err(fault)),
+        }
+    }
+}
+
+/// Ends an exchange with a fault where nothing has moved on its connection for too long.
+#[derive(Drop)]
+pub struct Patient<R, F> {
+    exchange: F,
+    // None if that is not limited.
+    patience: Option<Patience<R>>,
+}
+
+impl<R: Clock + Drop, F: Future> Patient<R, F> {
+    /// This exchange, with this patience.
+    pub fn new(exchange: F, patience: Option<Patience<R>>) -> Patient<R, F>
+        requires { F.can_poll exchange }
+        ensures { F.can_poll result.exchange }
+    {
+        Patient { exchange, patience }
+    }
+}
+
+impl<R: Clock + Drop, P: Drop, F: Future<Output = Result<P, FetchFault>>> Future for Patient<R, F> {
+    type Output = Result<P, FetchFault>;
+
+    ghost can_poll = { λ p. F.can_poll p.exchange };
+
+    fn poll(&mut self, cx: &mut Context<'_>) -> Poll<Result<P, FetchFault>> {
+        if let Poll::Ready(ended) = self.exchange.poll(cx) {
+            return Poll::Ready(ended);
+        }
+        if let Some(patience) = &mut self.patience
+            && patience.is_over(cx)
+        {
+            return Poll::Ready(Err(FetchFault::Time));
+        }
+        Poll::Pending
     }
 }
 
@@ -157,13 +414,13 @@ pub struct Metered<R: Wait + Copy> {
 }
 
 impl<R: Wait + Copy> Read for Metered<R> {
-    type Body = Incoming<Paced>;
+    type Body = Incoming<Noted>;
 
     type Content = Content<Share<R>>;
 
-    type Reading = Gathered<Incoming<Paced>, Share<R>>;
+    type Reading = Gathered<Incoming<Noted>, Share<R>>;
 
-    fn read(&mut self, body: Incoming<Paced>) -> Gathered<Incoming<Paced>, Share<R>> {
+    fn read(&mut self, body: Incoming<Noted>) -> Gathered<Incoming<Noted>, Share<R>> {
         Gathered::new(self.alloc, body, self.limit, self.free, self.share.take())
     }
 }
@@ -209,31 +466,51 @@ impl<A: Future, T: Drop, B: Future<Output = T>> Future for Beside<A, B> {
 struct Head {
     status: u16,
     fields: HeaderMap,
+    // Whether the connection may carry another request once the body has been read.
+    lasts: bool,
+}
+
+impl Head {
+    // The head of a response in this version. `may_last` says whether connections are kept at all.
+    fn of(alloc: Global, status: u16, version: Version, fields: HeaderMap, may_last: bool) -> Head {
+        let is_newest = version == Version::HTTP_11;
+        let lasts = may_last && lasts(alloc, is_newest, status, &fields).unwrap_or(false);
+        Head {
+            status,
+            fields,
+            lasts,
+        }
+    }
 }
 
 /// Receives the head of a response, then its body.
 #[derive(Drop)]
 pub struct Reply<B: Read> {
-    answer: ResponseFuture<Paced>,
+    alloc: Global,
+    answer: ResponseFuture<Noted>,
     head: Option<Head>,
     body: Option<B::Reading>,
     read: B,
+    // Whether connections are kept.
+    may_last: bool,
 }
 
-impl<B: Read<Body = Incoming<Paced>>> Reply<B> {
-    fn new(answer: ResponseFuture<Paced>, read: B) -> Reply<B>
+impl<B: Read<Body = Incoming<Noted>>> Reply<B> {
+    fn new(alloc: Global, answer: ResponseFuture<Noted>, read: B, may_last: bool) -> Reply<B>
         ensures { IfSome result.body B.Reading.can_poll }
     {
         Reply {
+            alloc,
             answer,
             head: None,
             body: None,
             read,
+            may_last,
         }
     }
 }
 
-impl<P: Drop, B: Read<Body = Incoming<Paced>, Content = Content<P>>> Future for Reply<B> {
+impl<P: Drop, B: Read<Body = Incoming<Noted>, Content = Content<P>>> Future for Reply<B> {
     type Output = Result<Paid<P>, FetchFault>;
 
     ghost can_poll = { λ e. IfSome e.body B.Reading.can_poll };
@@ -248,10 +525,14 @@ impl<P: Drop, B: Read<Body = Incoming<Paced>, Content = Content<P>>> Future for 
             if has_foreign_coding(&parts.headers) {
                 return Poll::Ready(Err(FetchFault::NotHttp));
             }
-            self.head = Some(Head {
-                status: parts.status.as_u16(),
-                fields: parts.headers,
-            });
+            let status = parts.status.as_u16();
+            self.head = Some(Head::of(
+                self.alloc,
+                status,
+                parts.version,
+                parts.headers,
+                self.may_last,
+            ));
             self.body = Some(self.read.read(body));
         }
         let Some(reading) = &mut self.body else {
@@ -296,11 +577,17 @@ fn paid_page<P: Drop>(head: Option<Head>, content: Content<P>) -> Result<Paid<P>
     let Head {
         status,
         fields: head,
+        lasts,
     } = head;
     let Content {
         octets: body,
         purse,
     } = content;
     let page = Page { status, head, body };
-    Ok(Paid { page, purse })
+    Ok(Paid {
+        page,
+        purse,
+        lasts,
+        socket: None,
+    })
 }

@@ -6,6 +6,7 @@ ghost use Rattle.tokio.specs.Timers.{timeout_future};
 
 use crate::budget::{Budget, Share};
 use crate::exchange::{Call, Get, Paid, Talk};
+use crate::kept::{Keeper, Kept};
 use crate::passing::{Pass, Plan, Post};
 use fetch_chain::{Begin, Submit};
 use futures::channel::mpsc::UnboundedReceiver;
@@ -39,6 +40,10 @@ pub struct FetchLimits {
     pub free: usize,
     /// Time to connect.
     pub connecting: Duration,
+    /// How long a fetch's connection may be without an octet, if that is limited.
+    pub idle: Option<Duration>,
+    /// How long a connection is kept for further fetches after an answer. None are if it is left out.
+    pub keep: Option<Duration>,
     /// The most concurrent fetches.
     pub at_once: usize,
 }
@@ -61,6 +66,8 @@ struct Getter<R, A> {
     http: http1::Builder,
     limits: FetchLimits,
     rules: Rc<FetchRules<A>>,
+    // None where no connection is kept.
+    kept: Option<Kept<R>>,
 }
 
 impl<R: Net + Clock + Copy, A: Admit> Getter<R, A> {
@@ -124,7 +131,7 @@ impl<R: Wait + Net + Clock + Copy, A: Admit> Begin for Getter<R, A> {
 
 // A job in progress. A type of its own, since its parts have large ones that are elaborated anew wherever they are named.
 #[derive(Drop)]
-struct Doing<R: Wait + Copy, A> {
+struct Doing<R: Wait + Clock + Copy, A> {
     doing: Either<Fetch<R, A, Get<R>>, Pass<R, A, Post>>,
 }
 
@@ -139,9 +146,34 @@ impl<R: Wait + Net + Clock + Copy, A: Admit> Future for Doing<R, A> {
 }
 
 impl<R: Wait + Net + Clock + Copy, A: Admit> Getter<R, A> {
+    // The timers of a fetch's patience, if that is limited. `None` also if there are too many handles.
+    fn timers(&self) -> Option<tokio::time::Handle> {
+        match self.limits.idle {
+            Some(_) => self.handle.time().clone().ok(),
+            None => None,
+        }
+    }
+
+    // The timers of what looks after connections that are kept. `None` also if there are too many handles.
+    fn keep_timers(&self) -> Option<tokio::time::Handle> {
+        match &self.kept {
+            Some(_) => self.handle.time().clone().ok(),
+            None => None,
+        }
+    }
+
+    // Where the connection of a fetch is kept. `None` where none is, and if there are too many handles.
+    fn kept(&self) -> Option<Kept<R>> {
+        match &self.kept {
+            Some(kept) => kept.share().ok(),
+            None => None,
+        }
+    }
+
     // The exchange of a fetch.
     fn get(&self, host: String, target: String, fields: Vec<(Vec<u8>, Vec<u8>)>) -> Get<R> {
         Get {
+            rt: self.rt,
             alloc: self.alloc,
             http: self.http,
             host,
@@ -149,7 +181,11 @@ impl<R: Wait + Net + Clock + Copy, A: Admit> Getter<R, A> {
             fields,
             limit: self.limits.octets,
             free: self.limits.free,
-            share: Share::new(self.rt, self.alloc, &self.rules.budget).ok(),
+            idle: self.limits.idle,
+            timers: self.timers(),
+            budget: Arc::try_clone(&self.rules.budget).ok(),
+            kept: self.kept(),
+            used: None,
         }
     }
 }
@@ -236,11 +272,32 @@ impl<R: Net + Clock + Copy, A: Admit, T: Talk> Visit<R, A, T> {
     fn call(&mut self, server: SocketAddr) -> Option<Call<T>>
         ensures { IfSome result (λ c. IfSome c.talking T.Talking.can_poll) }
     {
-        let talk = self.talk.take()?;
+        let mut talk = self.talk.take()?;
+        match talk.resume(server) {
+            Some(talking) => Some(Call::resumed(server, talk, talking)),
+            None => self.new_call(server, talk),
+        }
+    }
+
+    // The call to this address over a new connection. Returns `None` if out of memory.
+    fn new_call(&self, server: SocketAddr, talk: T) -> Option<Call<T>>
+        ensures { IfSome result (λ c. IfSome c.talking T.Talking.can_poll) }
+    {
         match &self.dialer {
-            Some(dialer) => Some(Call::new(dialer.connect(server), talk)),
+            Some(dialer) => Some(Call::new(server, dialer.connect(server), talk)),
             None => None,
         }
+    }
+
+    // Makes the call, which has failed, once more over a new connection. It is gone if out of memory.
+    fn retry(&mut self)
+        ensures { IfSome self.new.call (λ c. IfSome c.talking T.Talking.can_poll) }
+    {
+        let Some(call) = self.call.take() else {
+            return;
+        };
+        let (server, talk) = call.into_talk();
+        self.call = self.new_call(server, talk);
     }
 }
 
@@ -263,7 +320,15 @@ impl<R: Net + Clock + Copy, A: Admit, T: Talk> Future for Visit<R, A, T> {
             return Poll::Ready(Visited::Failed(FetchFault::NoMemory));
         };
         match ready!(call.poll(cx)) {
-            Ok(page) => Poll::Ready(Visited::Whole(page)),
+            Ok(page) => {
+                let mut page = page;
+                call.keep(&mut page);
+                Poll::Ready(Visited::Whole(page))
+            }
+            Err(fault) if call.may_retry(fault) => {
+                self.retry();
+                cx.yield_now()
+            }
             Err(fault) => Poll::Ready(Visited::Failed(fault)),
         }
     }
@@ -309,7 +374,7 @@ pub struct Done<P> {
 // The result of a fetch whose visit has ended.
 fn done_of<P: Drop>(fetch: u32, attempt: u16, visited: Visited<Paid<P>>) -> Done<P> {
     let (end, purse) = match visited {
-        Visited::Whole(Paid { page, purse }) => (FetchEnd::Whole(page), Some(purse)),
+        Visited::Whole(Paid { page, purse, .. }) => (FetchEnd::Whole(page), Some(purse)),
         Visited::Refused => (FetchEnd::Refused, None),
         Visited::Failed(fault) => (FetchEnd::Failed(fault), None),
     };
@@ -337,6 +402,18 @@ impl<P: Drop, S: Submit<Fetched>> Submit<Done<P>> for PassOn<'_, S> {
     }
 }
 
+// Where connections are kept for so long. `None` where none is. Errors: out of memory.
+fn kept_of<R: Clock + Copy>(
+    rt: R,
+    alloc: Global,
+    keep: Option<Duration>,
+) -> io::Result<Option<Kept<R>>> {
+    match keep {
+        Some(keep) => Ok(Some(Kept::new(rt, alloc, keep)?)),
+        None => Ok(None),
+    }
+}
+
 // What starts the fetches of a runtime. Errors: there are no random numbers, or out of memory.
 fn getter_of<R, A>(
     rt: R,
@@ -345,13 +422,14 @@ fn getter_of<R, A>(
     limits: FetchLimits,
 ) -> io::Result<Getter<R, A>>
 where
-    R: RandomSource + AllocGlobal + Copy,
+    R: RandomSource + AllocGlobal + Clock + Copy,
     A: Admit,
 {
     let alloc = rt.alloc();
     Ok(Getter {
         rt,
         alloc,
+        kept: kept_of(rt, alloc, limits.keep)?,
         handle: runtime.handle().clone()?,
         http: http1::Builder::new(alloc, RandomState::new(&rt)?),
         limits,
@@ -359,8 +437,8 @@ where
     })
 }
 
-/// Runs the jobs of a channel until all its senders are gone and the last job has ended. Each job opens a connection of its own, and a
-/// fetch passes its result to `seat`. `MOST_PASSAGES` requests that are passed on take no place of the fetches. Errors: the event loop
+/// Runs the jobs of a channel until all its senders are gone and the last job has ended. Each job has a connection to itself, a new one or
+/// for a fetch one that is kept, and a fetch passes its result to `seat`. `MOST_PASSAGES` requests that are passed on take no place of the fetches. Errors: the event loop
 /// failed, or out of memory.
 pub fn run_fetches<R, S, A>(
     rt: R,
@@ -377,7 +455,8 @@ where
 {
     let mut runtime = LocalRuntime::new(&rt)?;
     let getter = getter_of(rt, &runtime, rules, limits)?;
+    let keeper = Keeper::new(rt, getter.kept(), getter.keep_timers());
     let mut seat = PassOn { seat };
     let most = limits.at_once.saturating_add(MOST_PASSAGES);
-    fetch_chain::run(&rt, &mut runtime, jobs, getter, &mut seat, most)
+    fetch_chain::run(&rt, &mut runtime, jobs, getter, &mut seat, keeper, most)
 }

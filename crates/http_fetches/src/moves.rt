@@ -3,25 +3,39 @@ ghost use Rattle.std.specs.Prelude.{◌≡◌, ⊤};
 ghost use Rattle.futures.specs.Task.{Keeps};
 ghost use Rattle.tokio.specs.Net.{stream_readable, stream_writable};
 
-use futures::Future;
 use futures::task::{Context, Poll};
+use futures::{Future, ready};
 use paced_stream::Paced;
 use std::alloc::{AllocError, Global};
 use std::cell::Cell;
 use std::io;
+use std::io::ErrorKind;
 use std::rc::Rc;
 use std::time::{Clock, Duration, Instant};
 use tokio::io::{AsyncRead, AsyncWrite};
 use tokio::time::{Handle, Sleep};
 
-/// Notes that something moved. Reference-counted within one thread.
+// What was noted of a connection.
 #[derive(Drop)]
-pub struct Moves(Rc<Cell<bool>>);
+struct Marks {
+    // Whether something moved since that was last asked.
+    has_moved: Cell<bool>,
+    // Whether octets of an answer have come.
+    has_answer: Cell<bool>,
+}
+
+/// Notes what moves on a connection. Reference-counted within one thread.
+#[derive(Drop)]
+pub struct Moves(Rc<Marks>);
 
 impl Moves {
     /// Nothing has moved. Errors: out of memory.
     pub fn new(alloc: Global) -> Result<Moves, AllocError> {
-        Ok(Moves(Rc::new(alloc, Cell::new(false))?))
+        let marks = Marks {
+            has_moved: Cell::new(false),
+            has_answer: Cell::new(false),
+        };
+        Ok(Moves(Rc::new(alloc, marks)?))
     }
 
     /// Another handle to the same. Errors: there are too many.
@@ -29,29 +43,73 @@ impl Moves {
         Ok(Moves(self.0.clone()?))
     }
 
-    // Notes that something moved.
-    fn note(&self) {
-        self.0.set(true);
+    /// Notes that something moved.
+    pub fn note(&self) {
+        self.0.has_moved.set(true);
+    }
+
+    // Notes that octets of an answer came.
+    fn note_answer(&self) {
+        self.0.has_answer.set(true);
+    }
+
+    /// Whether octets of an answer have come.
+    pub fn has_answer(&self) -> bool {
+        self.0.has_answer.get()
     }
 
     // Whether something moved since this was last asked.
     fn take(&self) -> bool {
-        self.0.replace(false)
+        self.0.has_moved.replace(false)
     }
 }
 
-/// A connection whose octets are noted as they move.
+/// A connection whose octets are noted as they move. One that carried a request before gives nothing that came before the next one was
+/// begun to be written: it fails then, as one that its server has reset.
 #[derive(Drop)]
 pub struct Noted {
     socket: Paced,
     moves: Moves,
+    // Whether nothing may come as yet: it carried a request before, and nothing of the next one has been written.
+    is_quiet: bool,
 }
 
 impl Noted {
-    /// This connection, whose octets are noted in `moves`.
+    /// This new connection, whose octets are noted in `moves`.
     pub fn new(socket: Paced, moves: Moves) -> Noted {
-        Noted { socket, moves }
+        Noted {
+            socket,
+            moves,
+            is_quiet: false,
+        }
     }
+
+    /// This connection, which carried a request before.
+    pub fn used(socket: Paced, moves: Moves) -> Noted {
+        Noted {
+            socket,
+            moves,
+            is_quiet: true,
+        }
+    }
+
+    /// The connection itself.
+    pub fn into_socket(self) -> Paced {
+        self.socket
+    }
+
+    // Notes what a read gave.
+    fn note_read(&self, count: usize) {
+        self.moves.note();
+        if count > 0 {
+            self.moves.note_answer();
+        }
+    }
+}
+
+// Something came before the request.
+fn unasked() -> io::Error {
+    io::Error::from(ErrorKind::ConnectionReset)
 }
 
 impl AsyncRead for Noted {
@@ -66,11 +124,17 @@ impl AsyncRead for Noted {
     ghost reads_in_order = { λ _ _ _ _ _ _ _. tt };
 
     fn poll_read(&mut self, cx: &mut Context<'_>, buf: &mut [u8]) -> Poll<io::Result<usize>> {
-        let polled = AsyncRead::poll_read(&mut self.socket, cx, buf);
-        if matches!(polled, Poll::Ready(_)) {
-            self.moves.note();
+        let read = ready!(AsyncRead::poll_read(&mut self.socket, cx, buf));
+        if self.is_quiet {
+            return Poll::Ready(Err(unasked()));
         }
-        polled
+        match read {
+            Ok(count) => {
+                self.note_read(count);
+                Poll::Ready(Ok(count))
+            }
+            Err(error) => Poll::Ready(Err(error)),
+        }
     }
 }
 
@@ -84,11 +148,13 @@ impl AsyncWrite for Noted {
     ghost writes_in_order = { λ _ _ _ _ _ _ _. tt };
 
     fn poll_write(&mut self, cx: &mut Context<'_>, buf: &[u8]) -> Poll<io::Result<usize>> {
-        let polled = AsyncWrite::poll_write(&mut self.socket, cx, buf);
-        if matches!(polled, Poll::Ready(_)) {
-            self.moves.note();
+        if self.is_quiet && !self.socket.is_silent() {
+            return Poll::Ready(Err(unasked()));
         }
-        polled
+        let written = ready!(AsyncWrite::poll_write(&mut self.socket, cx, buf));
+        self.is_quiet = false;
+        self.moves.note();
+        Poll::Ready(written)
     }
 
     fn poll_flush(&mut self, cx: &mut Context<'_>) -> Poll<io::Result<()>> {

@@ -26,7 +26,7 @@ use std::alloc::{AllocError, Global};
 use std::cell::RefCell;
 use std::io;
 use std::io::ErrorKind;
-use std::net::Net;
+use std::net::{Net, SocketAddr};
 use std::rc::Rc;
 use std::sync::Wait;
 use std::time::Clock;
@@ -310,6 +310,18 @@ impl Talk for Post {
         };
         Some(Beside::new(answering, conn))
     }
+
+    // What is passed on has a connection of its own.
+    fn resume(&mut self, _server: SocketAddr) -> Option<Self::Talking> {
+        None
+    }
+
+    // Its server may have acted on it.
+    fn may_retry(&self, _fault: FetchFault) -> bool {
+        false
+    }
+
+    fn keep(&mut self, _server: SocketAddr, _page: &mut ()) {}
 }
 
 // The head of a request that is passed on.

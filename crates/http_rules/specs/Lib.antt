@@ -23,6 +23,7 @@ pub mod Ranges
 pub mod Refresh
 pub mod Requests
 pub mod Responses
+pub mod Retrying
 pub mod Reuse
 pub mod Stale
 pub mod Targets

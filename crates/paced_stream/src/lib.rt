@@ -8,6 +8,7 @@ ghost use Rattle.tokio.specs.Net.{stream_readable, stream_writable};
 
 use futures::task::{Context, Poll};
 use std::io;
+use std::io::ErrorKind;
 use tokio::io::{AsyncRead, AsyncWrite};
 use tokio::net::TcpStream;
 
@@ -42,6 +43,15 @@ impl Paced {
     /// Sets whether short segments are sent at once.
     pub fn set_nodelay(&self, nodelay: bool) -> io::Result<()> {
         self.socket.set_nodelay(nodelay)
+    }
+
+    /// Whether nothing is there to be read, by a read of its own: no octets, no end and no error. An octet that is there is lost.
+    pub fn is_silent(&self) -> bool {
+        let mut octet = [0; 1];
+        match self.socket.try_read(&mut octet) {
+            Ok(_) => false,
+            Err(error) => error.kind() == ErrorKind::WouldBlock,
+        }
     }
 }
 

@@ -74,6 +74,8 @@ pub(crate) struct PassingKeys {
     pub(crate) streams: u32,
     pub(crate) tunnels: u32,
     pub(crate) fetch_seconds: u32,
+    pub(crate) fetch_idle: Option<u32>,
+    pub(crate) keep_alive: u32,
 }
 
 /// Parses what a configuration says about all of it.
@@ -84,6 +86,8 @@ pub(crate) fn passing_keys(alloc: Global, value: &Value) -> Result<PassingKeys, 
     ensures streams { IfOk result (λ s. (1 ≤ s.streams) × (s.streams ≤ 4096)) }
     ensures tunnels { IfOk result (λ s. (1 ≤ s.tunnels) × (s.tunnels ≤ 4096)) }
     ensures fetch_seconds { IfOk result (λ s. (1 ≤ s.fetch_seconds) × (s.fetch_seconds ≤ 86400)) }
+    ensures fetch_idle { IfOk result (λ s. IfSome s.fetch_idle (λ n. (1 ≤ n) × (n ≤ 86400))) }
+    ensures keep_alive { IfOk result (λ s. s.keep_alive ≤ 3600) }
 {
     Ok(PassingKeys {
         methods: methods(alloc, value)?,
@@ -92,6 +96,8 @@ pub(crate) fn passing_keys(alloc: Global, value: &Value) -> Result<PassingKeys, 
         streams: number_or(alloc, value, "streams", 4096, 256)?,
         tunnels: number_or(alloc, value, "tunnels", 4096, 1024)?,
         fetch_seconds: number_or(alloc, value, "fetch_seconds", 86_400, 30)?,
+        fetch_idle: fetch_idle(alloc, value)?,
+        keep_alive: keep_alive(alloc, value)?,
     })
 }
 
@@ -216,6 +222,28 @@ fn large_of(alloc: Global, value: &Value) -> Result<Large, Fault>
             Err(Fault::text(alloc, place, given, "is neither refuse nor stream"))
         }
     }
+}
+
+// Parses how many seconds a fetch may be without an octet, if that is limited.
+fn fetch_idle(alloc: Global, value: &Value) -> Result<Option<u32>, Fault>
+    ensures { IfOk result (λ given. IfSome given (λ n. (1 ≤ n) × (n ≤ 86400))) }
+{
+    if value.get("fetch_idle").is_none() {
+        return Ok(None);
+    }
+    let place = Place::whole().key("fetch_idle");
+    Ok(Some(number(alloc, value, place, 1, 86_400)? as u32))
+}
+
+// Parses how many seconds a connection is kept for further fetches; 0, none is, if there is no such key.
+fn keep_alive(alloc: Global, value: &Value) -> Result<u32, Fault>
+    ensures { IfOk result (λ n. n ≤ 3600) }
+{
+    if value.get("keep_alive").is_none() {
+        return Ok(0);
+    }
+    let place = Place::whole().key("keep_alive");
+    Ok(number(alloc, value, place, 0, 3600)? as u32)
 }
 
 // Parses the number of a key, from 1 to `most`; `usual` if there is no such key.

@@ -111,6 +111,10 @@ pub struct Settings {
     pub tunnels: u32,
     /// Time for a fetch in seconds: 1 to 86,400.
     pub fetch_seconds: u32,
+    /// Seconds without an octet after which a fetch ends, 1 to 86,400, if the configuration says it.
+    pub fetch_idle: Option<u32>,
+    /// Seconds that a connection is kept for further fetches, at most 3,600; with 0 none is.
+    pub keep_alive: u32,
     /// The fields that the fetches for all clients send, at most 16.
     pub shared_fields: Vec<SharedField>,
     /// The files of the filters that are in force from the start.
@@ -149,6 +153,8 @@ impl Settings {
         ensures streams { IfOk result (λ s. (1 ≤ s.streams) × (s.streams ≤ 4096)) }
         ensures tunnels { IfOk result (λ s. (1 ≤ s.tunnels) × (s.tunnels ≤ 4096)) }
         ensures fetch_seconds { IfOk result (λ s. (1 ≤ s.fetch_seconds) × (s.fetch_seconds ≤ 86400)) }
+        ensures fetch_idle { IfOk result (λ s. IfSome s.fetch_idle (λ n. (1 ≤ n) × (n ≤ 86400))) }
+        ensures keep_alive { IfOk result (λ s. s.keep_alive ≤ 3600) }
         ensures shared_fields { IfOk result (λ s. AreSharedFields s.shared_fields.items) }
         ensures entries { IfOk result (λ s. (1 ≤ s.node.entries) × (s.node.entries ≤ 1000000)) }
         ensures octets { IfOk result (λ s. (1 ≤ s.node.octets) × (s.node.octets ≤ 1073741824)) }
@@ -197,6 +203,8 @@ impl fmt::Debug for Settings {
             .field("streams", &self.streams)
             .field("tunnels", &self.tunnels)
             .field("fetch_seconds", &self.fetch_seconds)
+            .field("fetch_idle", &self.fetch_idle)
+            .field("keep_alive", &self.keep_alive)
             .field("shared_fields", &self.shared_fields)
             .field("filters", &self.filters)
             .field("stop_after", &self.stop_after)
@@ -229,6 +237,8 @@ fn parse_values(alloc: Global, value: &Value) -> Result<Settings, Fault>
     ensures streams { IfOk result (λ s. (1 ≤ s.streams) × (s.streams ≤ 4096)) }
     ensures tunnels { IfOk result (λ s. (1 ≤ s.tunnels) × (s.tunnels ≤ 4096)) }
     ensures fetch_seconds { IfOk result (λ s. (1 ≤ s.fetch_seconds) × (s.fetch_seconds ≤ 86400)) }
+    ensures fetch_idle { IfOk result (λ s. IfSome s.fetch_idle (λ n. (1 ≤ n) × (n ≤ 86400))) }
+    ensures keep_alive { IfOk result (λ s. s.keep_alive ≤ 3600) }
     ensures shared_fields { IfOk result (λ s. AreSharedFields s.shared_fields.items) }
     ensures entries { IfOk result (λ s. (1 ≤ s.node.entries) × (s.node.entries ≤ 1000000)) }
     ensures octets { IfOk result (λ s. (1 ≤ s.node.octets) × (s.node.octets ≤ 1073741824)) }
@@ -274,6 +284,8 @@ fn parse_values(alloc: Global, value: &Value) -> Result<Settings, Fault>
         streams: passing.streams,
         tunnels: passing.tunnels,
         fetch_seconds: passing.fetch_seconds,
+        fetch_idle: passing.fetch_idle,
+        keep_alive: passing.keep_alive,
     })
 }
 

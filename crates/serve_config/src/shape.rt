@@ -38,7 +38,7 @@ const TOP: [Known; 16] = [
 ];
 
 /// The keys that a configuration may leave out.
-const OPTIONAL: [Known; 23] = [
+const OPTIONAL: [Known; 25] = [
     ("receipt_octets", Kind::Number),
     ("book_octets", Kind::Number),
     ("fetch_octets", Kind::Number),
@@ -61,6 +61,8 @@ const OPTIONAL: [Known; 23] = [
     ("streams", Kind::Number),
     ("tunnels", Kind::Number),
     ("fetch_seconds", Kind::Number),
+    ("fetch_idle", Kind::Number),
+    ("keep_alive", Kind::Number),
     ("shared_fields", Kind::Object),
 ];
 

@@ -43,6 +43,8 @@ pub(crate) fn fetch_limits(octets: usize, connecting: Duration) -> FetchLimits
         octets,
         free: 0,
         connecting,
+        idle: None,
+        keep: None,
         at_once: 64,
     }
 }

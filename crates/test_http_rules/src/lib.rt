@@ -22,6 +22,7 @@ mod passing_keys;
 #[cfg(test)]
 mod plain;
 #[cfg(test)]
+mod retrying;
 mod rules;
 #[cfg(test)]
 mod settings;

@@ -5,7 +5,7 @@ use std::alloc::Global;
 use std::test::Fail;
 
 // A key of the configuration, and the expected result.
-const KEYS: [(&str, &str); 31] = [
+const KEYS: [(&str, &str); 41] = [
     (r#""methods": []"#, "read"),
     (
         r#""methods": ["HEAD", "POST", "PUT", "DELETE", "OPTIONS", "PATCH"]"#,
@@ -67,6 +67,34 @@ const KEYS: [(&str, &str); 31] = [
     (
         r#""fetch_seconds": 1.5"#,
         "config fault 2\nfetch_seconds: not a whole number",
+    ),
+    (r#""fetch_idle": 1"#, "read"),
+    (r#""fetch_idle": 86400"#, "read"),
+    (
+        r#""fetch_idle": 0"#,
+        "config fault 3\nfetch_idle: 0 is below 1",
+    ),
+    (
+        r#""fetch_idle": 86401"#,
+        "config fault 3\nfetch_idle: 86401 is above 86400",
+    ),
+    (
+        r#""fetch_idle": "1""#,
+        "config fault 2\nfetch_idle: not a whole number",
+    ),
+    (r#""keep_alive": 0"#, "read"),
+    (r#""keep_alive": 3600"#, "read"),
+    (
+        r#""keep_alive": 3601"#,
+        "config fault 3\nkeep_alive: 3601 is above 3600",
+    ),
+    (
+        r#""keep_alive": -1"#,
+        "config fault 2\nkeep_alive: not a whole number",
+    ),
+    (
+        r#""keep_alive": true"#,
+        "config fault 2\nkeep_alive: not a whole number",
     ),
     (r#""shared_fields": {}"#, "read"),
     (
@@ -155,7 +183,8 @@ fn what_is_left_out_is_usual(rt: HostRuntime) -> Result<(), Fail> {
     assert!(rt; settings.methods.is_empty() && settings.connect_ports.is_empty());
     assert!(rt; settings.large == Large::Refuse);
     assert!(rt; settings.streams == 256 && settings.tunnels == 1024);
-    assert!(rt; settings.fetch_seconds == 30);
+    assert!(rt; settings.fetch_seconds == 30 && settings.fetch_idle == None);
+    assert!(rt; settings.keep_alive == 0);
     assert!(rt; settings.shared_fields.is_empty());
     Ok(())
 }
@@ -163,7 +192,7 @@ fn what_is_left_out_is_usual(rt: HostRuntime) -> Result<(), Fail> {
 // The good configuration with all these keys.
 fn with_all(alloc: Global) -> Result<Settings, Fail> {
     let keys =
-        r#""methods": ["POST", "HEAD"], "connect_ports": [443, 8443], "large": "stream", "streams": 2, "tunnels": 3, "fetch_seconds": 4, "shared_fields": {"user-agent": "Wabretos 1", "accept": "*/*"}, "volume""#;
+        r#""methods": ["POST", "HEAD"], "connect_ports": [443, 8443], "large": "stream", "streams": 2, "tunnels": 3, "fetch_seconds": 4, "fetch_idle": 5, "keep_alive": 6, "shared_fields": {"user-agent": "Wabretos 1", "accept": "*/*"}, "volume""#;
     let text = GOOD.replace(alloc, r#""volume""#, keys)?;
     Ok(Settings::read(alloc, text.as_bytes())?)
 }
@@ -175,7 +204,8 @@ fn what_is_said(rt: HostRuntime) -> Result<(), Fail> {
     assert!(rt; settings.connect_ports.as_slice() == [443, 8443].as_slice());
     assert!(rt; settings.large == Large::Stream);
     assert!(rt; settings.streams == 2 && settings.tunnels == 3);
-    assert!(rt; settings.fetch_seconds == 4);
+    assert!(rt; settings.fetch_seconds == 4 && settings.fetch_idle == Some(5));
+    assert!(rt; settings.keep_alive == 6);
     assert_eq!(rt; settings.shared_fields.len(), 2);
     let first = &settings.shared_fields[0];
     assert!(rt; first.name.as_str() == "accept" && first.value.as_str() == "*/*");

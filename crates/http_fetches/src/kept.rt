@@ -1,0 +1,246 @@
+//! Connections that are kept after an answer for further requests, in one thread.
+ghost use Rattle.futures.specs.Task.{Keeps};
+
+use fetch_chain::Tend;
+use futures::Future;
+use futures::task::{Context, Poll};
+use paced_stream::Paced;
+use std::alloc::{AllocError, Global};
+use std::cell::RefCell;
+use std::net::SocketAddr;
+use std::rc::Rc;
+use std::time::{Clock, Duration, Instant};
+use tokio::time::{Handle, Sleep};
+
+/// The most idle connections of a thread to one server under one name: eight over all four threads.
+const MOST_EACH: usize = 2;
+
+/// The most idle connections of a thread: 256 over all four threads.
+const MOST: usize = 64;
+
+/// After how many seconds they are looked at again.
+const LOOK: u64 = 1;
+
+// A connection that carries no request.
+#[derive(Drop)]
+struct Idle {
+    server: SocketAddr,
+    host: String,
+    socket: Paced,
+    // When it is closed.
+    until: Instant,
+}
+
+impl Idle {
+    // Whether it leads to this server under this name.
+    fn is_for(&self, server: SocketAddr, host: &str) -> bool {
+        self.server == server && self.host.as_str() == host
+    }
+
+    // Whether it may still carry a request: its time is not over, and nothing has come on it since its last answer.
+    fn is_good(&self, now: Instant) -> bool {
+        now < self.until && self.socket.is_silent()
+    }
+}
+
+// The idle connections of a thread, those that were kept first before others.
+#[derive(Drop)]
+struct Bench {
+    idle: Vec<Idle>,
+}
+
+impl Bench {
+    // Takes the connection to this server under this name that was kept last and may still carry a request. Those that may not are
+    // closed on the way.
+    fn take(&mut self, server: SocketAddr, host: &str, now: Instant) -> Option<Paced> {
+        for place in (0..self.idle.len()).rev() {
+            if place < self.idle.len() && self.idle[place].is_for(server, host) {
+                let found = self.idle.remove(place);
+                if found.is_good(now) {
+                    return Some(found.socket);
+                }
+            }
+        }
+        None
+    }
+
+    // How many connections to this server under this name there are.
+    fn count(&self, server: SocketAddr, host: &str) -> usize {
+        self.idle
+            .iter()
+            .filter(|it| it.is_for(server, host))
+            .count()
+    }
+
+    // Adds a connection. It is closed if there are as many to this server under this name as there may be; where there are as many in
+    // all, the one that was kept first is closed for it. Errors: out of memory.
+    fn add(&mut self, idle: Idle) -> Result<(), AllocError> {
+        if self.count(idle.server, idle.host.as_str()) >= MOST_EACH {
+            return Ok(());
+        }
+        if self.idle.len() >= MOST {
+            self.idle.remove(0);
+        }
+        self.idle.push(idle)?;
+        Ok(())
+    }
+}
+
+/// The idle connections of a thread. Reference-counted within it.
+#[derive(Drop)]
+pub struct Kept<R> {
+    rt: R,
+    // How long one may be idle.
+    keep: Duration,
+    bench: Rc<RefCell<Bench>>,
+}
+
+impl<R: Clock + Copy> Kept<R> {
+    /// None as yet, each to be closed after so long. Errors: out of memory.
+    pub fn new(rt: R, alloc: Global, keep: Duration) -> Result<Kept<R>, AllocError> {
+        let bench = Bench {
+            idle: Vec::new(alloc),
+        };
+        Ok(Kept {
+            rt,
+            keep,
+            bench: Rc::new(alloc, RefCell::new(bench))?,
+        })
+    }
+
+    /// Another handle to the same. Errors: there are too many.
+    pub fn share(&self) -> Result<Kept<R>, AllocError> {
+        Ok(Kept {
+            rt: self.rt,
+            keep: self.keep,
+            bench: self.bench.clone()?,
+        })
+    }
+
+    /// Takes a connection to this server under this name on which nothing has come since its last answer. `None` if there is none, or if
+    /// the clock cannot be read.
+    pub fn take(&self, server: SocketAddr, host: &str) -> Option<Paced> {
+        let mut bench = self.bench.try_borrow_mut().ok()?;
+        if bench.idle.is_empty() {
+            return None;
+        }
+        let now = Instant::now(&self.rt).ok()?;
+        bench.take(server, host, now)
+    }
+
+    /// Keeps a connection to this server under this name whose last answer has been read whole. It is closed where there are too many,
+    /// and for lack of memory.
+    pub fn keep(&self, server: SocketAddr, host: String, socket: Paced) {
+        let Some(until) = self.until() else {
+            return;
+        };
+        let idle = Idle {
+            server,
+            host,
+            socket,
+            until,
+        };
+        if let Ok(mut bench) = self.bench.try_borrow_mut() {
+            let _ = bench.add(idle);
+        }
+    }
+
+    // When a connection is closed that is kept now. `None` if the clock cannot be read.
+    fn until(&self) -> Option<Instant> {
+        Instant::now(&self.rt).ok()?.checked_add(self.keep)
+    }
+
+    // Whether there is none.
+    fn is_empty(&self) -> bool {
+        match self.bench.try_borrow_mut() {
+            Ok(bench) => bench.idle.is_empty(),
+            Err(_) => true,
+        }
+    }
+
+    // Closes those that may carry no request any more, and all of them if the clock cannot be read.
+    fn look(&self) {
+        let Ok(mut bench) = self.bench.try_borrow_mut() else {
+            return;
+        };
+        match Instant::now(&self.rt) {
+            Ok(now) => bench.idle.retain(|it| it.is_good(now)),
+            Err(_) => bench.idle.clear(),
+        }
+    }
+}
+
+/// Closes the idle connections of a thread once their time is over, or their server has ended them.
+#[derive(Drop)]
+pub struct Keeper<R> {
+    rt: R,
+    // None where no connection is kept.
+    kept: Option<Kept<R>>,
+    // None if out of memory.
+    timers: Option<Handle>,
+    // Runs while there are some.
+    sleep: Option<Sleep>,
+}
+
+impl<R: Clock + Copy> Keeper<R> {
+    /// Looks after these.
+    pub fn new(rt: R, kept: Option<Kept<R>>, timers: Option<Handle>) -> Keeper<R> {
+        Keeper {
+            rt,
+            kept,
+            timers,
+            sleep: None,
+        }
+    }
+
+    // The timer until the next look. `None` if out of memory, or if the clock cannot be read.
+    fn timer(&self) -> Option<Sleep> {
+        match &self.timers {
+            Some(timers) => timers.sleep(&self.rt, Duration::from_secs(LOOK)).ok(),
+            None => None,
+        }
+    }
+
+    // Whether it is time to look at them.
+    fn is_due(&mut self, cx: &mut Context<'_>) -> bool
+        ensures { Keeps cx.old cx.new }
+    {
+        if self.sleep.is_none() {
+            self.sleep = self.timer();
+        }
+        match &mut self.sleep {
+            Some(sleep) => sleep.poll(cx).is_ready(),
+            None => true,
+        }
+    }
+
+    // Whether there are some.
+    fn has_some(&self) -> bool {
+        match &self.kept {
+            Some(kept) => !kept.is_empty(),
+            None => false,
+        }
+    }
+
+    // Looks at them.
+    fn look(&self) {
+        if let Some(kept) = &self.kept {
+            kept.look();
+        }
+    }
+}
+
+impl<R: Clock + Copy + Drop> Tend for Keeper<R> {
+    fn poll_tend(&mut self, cx: &mut Context<'_>)
+        ensures { Keeps cx.old cx.new }
+    {
+        if !self.has_some() || !self.is_due(cx) {
+            return;
+        }
+        self.look();
+        self.sleep = None;
+        if self.has_some() {
+            let _ = self.is_due(cx);
+        }
+    }
+}
