@@ -47,8 +47,25 @@ pub struct RefreshRule {
     pub overrides: bool,
 }
 
-/// Parses by which rules a stored answer is fresh.
-pub(crate) fn freshness_of(alloc: Global, value: &Value) -> Result<Freshness, Fault>
+/// What a configuration says about it.
+#[derive(Drop)]
+pub(crate) struct FreshnessKeys {
+    pub(crate) freshness: Freshness,
+    pub(crate) refresh: Vec<RefreshRule>,
+}
+
+/// Parses what a configuration says about it.
+pub(crate) fn freshness_keys(alloc: Global, value: &Value) -> Result<FreshnessKeys, Fault>
+    ensures freshness { IfOk result (λ s. freshness_said (view value.now) ≡ Some s.freshness) }
+    ensures refresh { IfOk result (λ s. AreRules s.freshness s.refresh.items) }
+{
+    let freshness = freshness_of(alloc, value)?;
+    let refresh = refresh_rules(alloc, value, freshness)?;
+    Ok(FreshnessKeys { freshness, refresh })
+}
+
+// Parses by which rules a stored answer is fresh.
+fn freshness_of(alloc: Global, value: &Value) -> Result<Freshness, Fault>
     ensures { IfOk result (λ rules. freshness_said (view value.now) ≡ Some rules) }
 {
     match word(alloc, value, "freshness", "published")? {
@@ -61,9 +78,9 @@ pub(crate) fn freshness_of(alloc: Global, value: &Value) -> Result<Freshness, Fa
     }
 }
 
-/// Parses the operator's rules, in their order. Errors: a malformed rule, over 64 of them, or rules where freshness is judged as
-/// published.
-pub(crate) fn refresh_rules(
+// Parses the operator's rules, in their order. Errors: a malformed rule, over 64 of them, or rules where freshness is judged as
+// published.
+fn refresh_rules(
     alloc: Global,
     value: &Value,
     freshness: Freshness,
