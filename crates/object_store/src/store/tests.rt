@@ -16,12 +16,11 @@ fn key(alloc: Global, text: &str) -> Result<CacheKey, Fail> {
 
 // An entry with a body of `body` octets and no head.
 fn entry(alloc: Global, body: usize, life: u32, at: u64) -> Result<Entry, Fail> {
+    let at = Moment::new(at).ok_or("no moment")?;
     let body = vec![in alloc; 7u8; body]?;
     let object = Object::new(200, Vec::new(alloc), body, 0, life);
-    Ok(Entry {
-        object: SharedObject::new(alloc, object)?,
-        at: Moment::new(at).ok_or("no moment")?,
-    })
+    let object = SharedObject::new(alloc, object)?;
+    Ok(Entry { object, at })
 }
 
 // Proves what a caller of `get` knows after the loan has ended.
@@ -155,30 +154,63 @@ fn found(yes: bool) -> Answer {
     Ok(if yes { Some(0) } else { None })
 }
 
-fn on_store(store: &mut Store, call: Call, key: CacheKey, entry: Entry) -> Answer {
-    match call {
-        Call::Put => match store.put(key, entry) {
-            Ok(()) => Ok(None),
-            Err(refused) => Err(refused.0),
-        },
-        Call::Get => body_of(store.get(&key, entry.at)),
-        Call::Peek => body_of(store.peek(&key, entry.at)),
-        Call::Holds => found(store.holds(&key)),
-        Call::Remove => body_of(store.remove(&key).as_ref()),
+fn put_in_store(store: &mut Store, key: CacheKey, entry: Entry) -> Answer {
+    match store.put(key, entry) {
+        Ok(()) => Ok(None),
+        Err(refused) => Err(refused.0),
     }
 }
 
-fn on_plain(store: &mut PlainStore, call: Call, key: CacheKey, entry: Entry) -> Answer {
+// What a call other than `Put` gives.
+fn ask_store(store: &mut Store, call: Call, key: &CacheKey, now: Moment) -> Answer {
     match call {
-        Call::Put => match store.put(key, entry) {
-            Ok(()) => Ok(None),
-            Err(refused) => Err(refused.0),
-        },
-        Call::Get => body_of(store.get(&key, entry.at)),
-        Call::Peek => body_of(store.peek(&key, entry.at)),
-        Call::Holds => found(store.holds(&key)),
-        Call::Remove => body_of(store.remove(&key).as_ref()),
+        Call::Put => Ok(None),
+        Call::Get => body_of(store.get(key, now)),
+        Call::Peek => body_of(store.peek(key, now)),
+        Call::Holds => found(store.holds(key)),
+        Call::Remove => body_of(store.remove(key).as_ref()),
     }
+}
+
+fn on_store(alloc: Global, store: &mut Store, key: CacheKey, row: Row) -> Result<Answer, Fail> {
+    let (call, _, body, life, at, _, _) = row;
+    let entry = entry(alloc, body, life, at)?;
+    if matches!(call, Call::Put) {
+        return Ok(put_in_store(store, key, entry));
+    }
+    Ok(ask_store(store, call, &key, entry.at))
+}
+
+fn put_in_plain(store: &mut PlainStore, key: CacheKey, entry: Entry) -> Answer {
+    match store.put(key, entry) {
+        Ok(()) => Ok(None),
+        Err(refused) => Err(refused.0),
+    }
+}
+
+// What a call other than `Put` gives.
+fn ask_plain(store: &mut PlainStore, call: Call, key: &CacheKey, now: Moment) -> Answer {
+    match call {
+        Call::Put => Ok(None),
+        Call::Get => body_of(store.get(key, now)),
+        Call::Peek => body_of(store.peek(key, now)),
+        Call::Holds => found(store.holds(key)),
+        Call::Remove => body_of(store.remove(key).as_ref()),
+    }
+}
+
+fn on_plain(
+    alloc: Global,
+    store: &mut PlainStore,
+    key: CacheKey,
+    row: Row,
+) -> Result<Answer, Fail> {
+    let (call, _, body, life, at, _, _) = row;
+    let entry = entry(alloc, body, life, at)?;
+    if matches!(call, Call::Put) {
+        return Ok(put_in_plain(store, key, entry));
+    }
+    Ok(ask_plain(store, call, &key, entry.at))
 }
 
 // A store and the reference implementation. Both must return the same and hold the same pairs.
@@ -198,13 +230,10 @@ impl Twins {
 
     // Makes the call on both, and returns their common result. Fails if they differ.
     fn call(&mut self, alloc: Global, row: Row) -> Result<Answer, Fail> {
-        let (call, name, body, life, at, _, _) = row;
-        let first = key(alloc, name)?;
+        let first = key(alloc, row.1)?;
         let second = first.share()?;
-        let entry_of_first = entry(alloc, body, life, at)?;
-        let entry_of_second = entry(alloc, body, life, at)?;
-        let answer = on_store(&mut self.store, call, first, entry_of_first);
-        if answer != on_plain(&mut self.plain, call, second, entry_of_second) {
+        let answer = on_store(alloc, &mut self.store, first, row)?;
+        if answer != on_plain(alloc, &mut self.plain, second, row)? {
             return Err("the twins answer differently".into());
         }
         Ok(answer)
@@ -213,28 +242,35 @@ impl Twins {
     // Whether both return the expected result and then hold the expected keys.
     fn follow(&mut self, alloc: Global, row: Row) -> Result<bool, Fail> {
         let answer = self.call(alloc, row)?;
-        let keys = self.keys(alloc)?;
-        Ok(answer == row.5 && keys.as_slice() == row.6.as_bytes())
+        Ok(answer == row.5 && self.has_keys(alloc, row.6)?)
     }
 
-    // The eighth octets of all keys, the most recently used first. Fails if the stores hold different keys.
-    fn keys(&self, alloc: Global) -> Result<Vec<u8>, Fail> {
-        let mut names = Vec::new(alloc);
+    // Whether both hold the keys with these eighth octets, the most recently used first.
+    fn has_keys(&self, alloc: Global, wanted: &str) -> Result<bool, Fail> {
+        let names = names_of(alloc, &self.store)?;
+        Ok(self.is_alike() && names.as_slice() == wanted.as_bytes())
+    }
+
+    // Whether both hold the same keys in the same order.
+    fn is_alike(&self) -> bool {
         let mut plain = self.plain.pairs().iter();
         for (key, _) in self.store.pairs.iter() {
-            let Some((plain_key, _)) = plain.next() else {
-                return Err("the plain twin holds less".into());
-            };
-            if key != plain_key {
-                return Err("the twins hold different keys".into());
+            match plain.next() {
+                Some((plain_key, _)) if key == plain_key => {}
+                _ => return false,
             }
-            names.push(key.as_slice().get(7).copied().unwrap_or(0))?;
         }
-        if plain.next().is_some() {
-            return Err("the plain twin holds more".into());
-        }
-        Ok(names)
+        plain.next().is_none()
     }
+}
+
+// The eighth octets of all keys, the most recently used first.
+fn names_of(alloc: Global, store: &Store) -> Result<Vec<u8>, Fail> {
+    let mut names = Vec::new(alloc);
+    for (key, _) in store.pairs.iter() {
+        names.push(key.as_slice().get(7).copied().unwrap_or(0))?;
+    }
+    Ok(names)
 }
 
 const A: &str = "http://a/";
@@ -292,20 +328,31 @@ fn first_wrong(alloc: Global, twins: &mut Twins, rows: &[Row]) -> Result<Option<
 
 #[test]
 fn calls_within_octets(rt: HostRuntime) -> Result<(), Fail> {
-    let alloc = rt.alloc();
-    let mut twins = Twins::new(alloc, 10, 100)?;
-    assert!(rt; first_wrong(alloc, &mut twins, &BY_OCTETS)? == None);
+    let mut twins = Twins::new(rt.alloc(), 10, 100)?;
+    let wrong = first_wrong(rt.alloc(), &mut twins, &BY_OCTETS);
+    drop(twins);
+    assert!(rt; wrong? == None);
     Ok(())
+}
+
+// Whether all rows hold, and then an entry that is held is found. Proves what a caller knows of a store.
+fn follows_entries(alloc: Global, twins: &mut Twins) -> Result<bool, Fail> {
+    let now = Moment::new(1020).ok_or("no moment")?;
+    if first_wrong(alloc, twins, &BY_ENTRIES)?.is_some() {
+        return Ok(false);
+    }
+    let key = key(alloc, D)?;
+    let is_touched = touches(&mut twins.store, &key, now);
+    twins.store.facts();
+    Ok(is_touched)
 }
 
 #[test]
 fn calls_within_entries(rt: HostRuntime) -> Result<(), Fail> {
-    let alloc = rt.alloc();
-    let mut twins = Twins::new(alloc, 3, 1000)?;
-    assert!(rt; first_wrong(alloc, &mut twins, &BY_ENTRIES)? == None);
-    let now = Moment::new(1020).ok_or("no moment")?;
-    assert!(rt; touches(&mut twins.store, &key(alloc, D)?, now));
-    twins.store.facts();
+    let mut twins = Twins::new(rt.alloc(), 3, 1000)?;
+    let followed = follows_entries(rt.alloc(), &mut twins);
+    drop(twins);
+    assert!(rt; followed?);
     Ok(())
 }
 
@@ -322,31 +369,55 @@ fn removed(store: &mut Store, name: &str) -> Option<usize> {
     Some(entry.object.get().body().len())
 }
 
+// Whether the octets of a stale key, and no others, are held.
+fn is_held(store: &Store) -> bool {
+    for (name, held) in [(A, true), (B, false), ("http://a", false), ("", false)] {
+        if store.holds_octets(name.as_bytes()) != held {
+            return false;
+        }
+    }
+    true
+}
+
+// Whether an entry that is put is stale later, and held.
+fn holds_stale(alloc: Global, store: &mut Store) -> Result<bool, Fail> {
+    let stale = Moment::new(61010).ok_or("no moment")?;
+    Ok(
+        is_put(alloc, store, A, 21)?
+            && store.peek_octets(A.as_bytes(), stale).is_none()
+            && is_held(store),
+    )
+}
+
 // A stale entry stays in the store until it is removed by the octets of its key.
 #[test]
 fn stale_entries_are_held(rt: HostRuntime) -> Result<(), Fail> {
-    let alloc = rt.alloc();
-    let mut store = Store::new(alloc, 10, 100)?;
-    assert!(rt; is_put(alloc, &mut store, A, 21)?);
-    let stale = Moment::new(61010).ok_or("no moment")?;
-    assert!(rt; store.peek_octets(A.as_bytes(), stale).is_none());
-    for (name, held) in [(A, true), (B, false), ("http://a", false), ("", false)] {
-        assert!(rt; store.holds_octets(name.as_bytes()) == held, "{name}");
-    }
+    let mut store = Store::new(rt.alloc(), 10, 100)?;
+    let held = holds_stale(rt.alloc(), &mut store);
+    drop(store);
+    assert!(rt; held?);
     Ok(())
+}
+
+// Whether an entry is removed once, by its own octets.
+fn is_removed(store: &mut Store) -> bool {
+    removed(store, B).is_none()
+        && removed(store, A) == Some(21)
+        && !store.holds_octets(A.as_bytes())
+        && removed(store, A).is_none()
+}
+
+// Whether an entry that is put is removed, and its octets are free again.
+fn frees(alloc: Global, store: &mut Store) -> Result<bool, Fail> {
+    Ok(is_put(alloc, store, A, 21)? && is_removed(store) && is_put(alloc, store, B, 91)?)
 }
 
 #[test]
 fn stale_entries_are_removed(rt: HostRuntime) -> Result<(), Fail> {
-    let alloc = rt.alloc();
-    let mut store = Store::new(alloc, 10, 100)?;
-    assert!(rt; is_put(alloc, &mut store, A, 21)?);
-    assert!(rt; removed(&mut store, B).is_none());
-    assert!(rt; removed(&mut store, A) == Some(21));
-    assert!(rt; !store.holds_octets(A.as_bytes()));
-    assert!(rt; removed(&mut store, A).is_none());
-    // its octets are free again
-    assert!(rt; is_put(alloc, &mut store, B, 91)?);
+    let mut store = Store::new(rt.alloc(), 10, 100)?;
+    let freed = frees(rt.alloc(), &mut store);
+    drop(store);
+    assert!(rt; freed?);
     Ok(())
 }
 
@@ -408,19 +479,45 @@ fn is_list(alloc: Global, store: &Store, list: &[Plain]) -> Result<bool, Fail> {
     Ok(pairs.next().is_none())
 }
 
+// Inserts 4,000 pairs with 3,000 keys into both.
+fn put_thousands(
+    alloc: Global,
+    store: &mut Store,
+    list: &mut Vec<Plain>,
+    octets: u64,
+) -> Result<(), Fail> {
+    for step in 0..4000u32 {
+        let number = if step % 4 == 0 { step / 4 } else { step % 3000 };
+        let pair = (number, 14 + u64::from(step % 37));
+        put_both(alloc, store, list, pair, octets)?;
+    }
+    Ok(())
+}
+
+// Whether a store with thousands of insertions is as a list with the same, and at least this long.
+fn is_as_listed(alloc: Global, store: &mut Store, octets: u64, least: usize) -> Result<bool, Fail> {
+    let mut list = Vec::new(alloc);
+    put_thousands(alloc, store, &mut list, octets)?;
+    Ok(list.len() >= least && is_list(alloc, store, &list)?)
+}
+
 // 4,000 insertions with 3,000 keys and a limit of 2,000 entries, compared to a list. Both limits evict.
 #[test]
 fn thousands(rt: HostRuntime) -> Result<(), Fail> {
-    let alloc = rt.alloc();
     for (octets, least) in [(1_000_000, 2000), (40_000, 1000)] {
-        let mut store = Store::new(alloc, 2000, octets)?;
-        let mut list = Vec::new(alloc);
-        for step in 0..4000u32 {
-            let number = if step % 4 == 0 { step / 4 } else { step % 3000 };
-            let pair = (number, 14 + u64::from(step % 37));
-            put_both(alloc, &mut store, &mut list, pair, u64::from(octets))?;
-        }
-        assert!(rt; list.len() >= least && is_list(alloc, &store, &list)?);
+        let mut store = Store::new(rt.alloc(), 2000, octets)?;
+        let listed = is_as_listed(rt.alloc(), &mut store, u64::from(octets), least);
+        drop(store);
+        assert!(rt; listed?);
+    }
+    Ok(())
+}
+
+// Removes all keys of the rows.
+fn remove_all(alloc: Global, store: &mut Store) -> Result<(), Fail> {
+    for name in [A, B, C, D] {
+        let key = key(alloc, name)?;
+        drop(store.remove(&key));
     }
     Ok(())
 }
@@ -429,20 +526,28 @@ fn thousands(rt: HostRuntime) -> Result<(), Fail> {
 fn outlives(alloc: Global, twins: &mut Twins, row: Row) -> Result<bool, Fail> {
     let is_followed = twins.follow(alloc, row)?;
     let copy = twins.store.copy(alloc)?;
-    for name in [A, B, C, D] {
-        let _ = twins.store.remove(&key(alloc, name)?);
-    }
+    let emptied = remove_all(alloc, &mut twins.store);
     twins.store = copy;
-    Ok(is_followed && twins.keys(alloc)?.as_slice() == row.6.as_bytes())
+    emptied?;
+    Ok(is_followed && twins.has_keys(alloc, row.6)?)
+}
+
+// Index of the first row after which a copy does not outlive the store's own pairs.
+fn first_lost(alloc: Global, twins: &mut Twins, rows: &[Row]) -> Result<Option<usize>, Fail> {
+    for (place, row) in rows.iter().enumerate() {
+        if !outlives(alloc, twins, *row)? {
+            return Ok(Some(place));
+        }
+    }
+    Ok(None)
 }
 
 // A copy holds the same pairs in the same order, and is independent of the original.
 #[test]
 fn copied(rt: HostRuntime) -> Result<(), Fail> {
-    let alloc = rt.alloc();
-    let mut twins = Twins::new(alloc, 3, 1000)?;
-    for row in &BY_ENTRIES {
-        assert!(rt; outlives(alloc, &mut twins, *row)?, "{}", row.6);
-    }
+    let mut twins = Twins::new(rt.alloc(), 3, 1000)?;
+    let lost = first_lost(rt.alloc(), &mut twins, &BY_ENTRIES);
+    drop(twins);
+    assert!(rt; lost? == None);
     Ok(())
 }

@@ -82,23 +82,47 @@ fn open_at(alloc: Global, pending: &mut Pending, client: u64, round: Round) -> O
     pending.open(alloc, key, client, false, round).ok()
 }
 
-#[test]
-fn joining(rt: HostRuntime) -> Result<(), AllocError> {
-    let key = key(rt.alloc())?;
-    let mut pending = first(rt.alloc())?;
-    assert!(rt; matches!(pending.join(&key, 1), Some(Err(JoinFault::Double))));
+// A step of a test: what didn't hold of it.
+type Step = Result<(), &'static str>;
+
+fn holds(is_so: bool, what: &'static str) -> Step {
+    if is_so { Ok(()) } else { Err(what) }
+}
+
+fn joins(pending: &mut Pending, key: &CacheKey, client: u64) -> bool {
+    matches!(pending.join(key, client), Some(Ok(())))
+}
+
+fn is_double(pending: &mut Pending, key: &CacheKey, client: u64) -> bool {
+    matches!(pending.join(key, client), Some(Err(JoinFault::Double)))
+}
+
+fn is_full(pending: &mut Pending, key: &CacheKey, client: u64) -> bool {
+    matches!(pending.join(key, client), Some(Err(JoinFault::Full)))
+}
+
+// Whether clients 2 to 1,024 join.
+fn others_join(pending: &mut Pending, key: &CacheKey) -> bool {
     for client in 2..1025 {
-        assert!(rt;
-            matches!(pending.join(&key, client), Some(Ok(()))),
-            "{client}"
-        );
+        if !joins(pending, key, client) {
+            return false;
+        }
     }
+    true
+}
+
+// Whether no further client joins, nor one that waits.
+fn nobody_joins(pending: &mut Pending, key: &CacheKey) -> bool {
     for client in [1, 1024, 1025] {
-        assert!(rt;
-            matches!(pending.join(&key, client), Some(Err(JoinFault::Full))),
-            "{client}"
-        );
+        if !is_full(pending, key, client) {
+            return false;
+        }
     }
+    true
+}
+
+// Whether clients 1 to 1,024 wait in this order.
+fn wait_in_order(pending: &Pending) -> bool {
     let waiters = [
         (0, Some(&1)),
         (1, Some(&2)),
@@ -106,36 +130,108 @@ fn joining(rt: HostRuntime) -> Result<(), AllocError> {
         (1024, None),
     ];
     for (i, client) in waiters {
-        assert!(rt; pending.waiters(1).get(i) == client, "{i}");
+        if pending.waiters(1).get(i) != client {
+            return false;
+        }
     }
+    true
+}
+
+// Whether a client that left waits no more, and the next one has its place.
+fn leaves(pending: &mut Pending) -> bool {
     pending.leave(2);
-    assert!(rt; !pending.waits(2) && pending.waiters(1).get(1) == Some(&3));
+    !pending.waits(2) && pending.waiters(1).get(1) == Some(&3)
+}
+
+// Whether a fetch that was closed has no clients, and its number is not given again.
+fn closes(pending: &mut Pending, key: &CacheKey) -> bool {
     pending.close(1);
-    assert!(rt; !pending.waits(1) && pending.join(&key, 7).is_none());
-    assert!(rt; pending.next_number() == 2);
+    !pending.waits(1) && pending.join(key, 7).is_none() && pending.next_number() == 2
+}
+
+fn join_and_leave(pending: &mut Pending, key: &CacheKey) -> Step {
+    holds(is_double(pending, key, 1), "client 1 is there twice")?;
+    holds(others_join(pending, key), "others join")?;
+    holds(nobody_joins(pending, key), "nobody joins")?;
+    holds(wait_in_order(pending), "all wait in order")?;
+    holds(leaves(pending), "client 2 leaves")?;
+    holds(closes(pending, key), "the fetch is closed")
+}
+
+#[test]
+fn joining(rt: HostRuntime) -> Result<(), AllocError> {
+    let key = key(rt.alloc())?;
+    let mut pending = first(rt.alloc())?;
+    let told = join_and_leave(&mut pending, &key);
+    drop(pending);
+    drop(key);
+    assert!(rt; told == Ok(()), "{told:?}");
     Ok(())
+}
+
+// Whether this fetch is due at a moment, or none.
+fn is_due(pending: &Pending, millis: u64, due: Option<u32>) -> bool {
+    match Moment::new(millis) {
+        Some(now) => pending.due(now) == due,
+        None => false,
+    }
+}
+
+// Whether a fetch of the key that is at its second attempt has this number.
+fn is_second(pending: &Pending, number: u32) -> bool {
+    match pending.fetch(number) {
+        Some(fetch) => {
+            fetch.shared && fetch.attempt == 1 && fetch.key.as_slice() == b"http://a/".as_slice()
+        }
+        None => false,
+    }
+}
+
+fn expire_and_go_on(pending: &mut Pending) -> Step {
+    holds(is_due(pending, 2_999, None), "none is due yet")?;
+    holds(is_due(pending, 3_000, Some(1)), "it is due")?;
+    holds(pending.expire(1) && !pending.expire(2), "it expires")?;
+    holds(is_due(pending, 3_000, None), "none is due any more")?;
+    holds(
+        pending.next_attempt(1) && !pending.next_attempt(2),
+        "it goes on",
+    )?;
+    holds(is_second(pending, 1), "it is at its second attempt")?;
+    holds(pending.fetch(2).is_none(), "there is no other")
 }
 
 #[test]
 fn expiring(rt: HostRuntime) -> Result<(), AllocError> {
     let mut pending = first(rt.alloc())?;
-    for (millis, due) in [(2_999, None), (3_000, Some(1))] {
-        if let Some(now) = Moment::new(millis) {
-            assert!(rt; pending.due(now) == due, "{millis}");
-        }
-    }
-    assert!(rt; pending.expire(1) && !pending.expire(2));
-    if let Some(now) = Moment::new(3_000) {
-        assert!(rt; pending.due(now).is_none());
-    }
-    assert!(rt; pending.next_attempt(1) && !pending.next_attempt(2));
-    if let Some(fetch) = pending.fetch(1) {
-        assert!(rt;
-            fetch.shared && fetch.attempt == 1 && fetch.key.as_slice() == b"http://a/".as_slice()
-        );
-    }
-    assert!(rt; pending.fetch(1).is_some() && pending.fetch(2).is_none());
+    let told = expire_and_go_on(&mut pending);
+    drop(pending);
+    assert!(rt; told == Ok(()), "{told:?}");
     Ok(())
+}
+
+// Whether a copy has a fetch that the original has no more, and takes a client that the original does not have.
+fn is_apart(pending: &Pending, copy: &mut Pending, key: &CacheKey) -> Step {
+    holds(pending.fetch(1).is_none(), "the original is closed")?;
+    holds(
+        copy.waiters(1).get(1) == Some(&2),
+        "the copy has its waiters",
+    )?;
+    holds(
+        joins(copy, key, 3) && !pending.waits(3),
+        "the copy is joined",
+    )?;
+    holds(
+        copy.next_number() == 2 && copy.expire(1),
+        "the copy's fetch expires",
+    )
+}
+
+fn close_copied(alloc: Global, pending: &mut Pending, key: &CacheKey) -> Result<Step, AllocError> {
+    let mut copy = pending.copy(alloc)?;
+    pending.close(1);
+    let told = is_apart(pending, &mut copy, key);
+    drop(copy);
+    Ok(told)
 }
 
 // A copy has the fetch with its waiters, and changes independently of the original.
@@ -143,47 +239,94 @@ fn expiring(rt: HostRuntime) -> Result<(), AllocError> {
 fn copied(rt: HostRuntime) -> Result<(), AllocError> {
     let key = key(rt.alloc())?;
     let mut pending = first(rt.alloc())?;
-    assert!(rt; matches!(pending.join(&key, 2), Some(Ok(()))));
-    let mut copy = pending.copy(rt.alloc())?;
-    pending.close(1);
-    assert!(rt; pending.fetch(1).is_none() && copy.waiters(1).get(1) == Some(&2));
-    assert!(rt; matches!(copy.join(&key, 3), Some(Ok(()))) && !pending.waits(3));
-    assert!(rt; copy.next_number() == 2 && copy.expire(1));
+    let is_joined = joins(&mut pending, &key, 2);
+    let told = close_copied(rt.alloc(), &mut pending, &key);
+    drop(pending);
+    drop(key);
+    assert!(rt; is_joined && told == Ok(Ok(())), "{told:?}");
     Ok(())
+}
+
+// Whether a client's private fetch gets this number.
+fn opens(alloc: Global, pending: &mut Pending, table: &Table, start: Moment, client: u32) -> bool {
+    let round = Round::start(table, start);
+    let client_number = u64::from(client);
+    !pending.waits(client_number) && open_at(alloc, pending, client_number, round) == Some(client)
+}
+
+// Whether each of these clients' fetches gets the number of its client.
+fn open_all(
+    alloc: Global,
+    pending: &mut Pending,
+    table: &Table,
+    start: Moment,
+    (first, end): (u32, u32),
+) -> bool {
+    for client in first..end {
+        if !opens(alloc, pending, table, start, client) {
+            return false;
+        }
+    }
+    true
+}
+
+// Whether there is room for no more.
+fn none_opens(alloc: Global, pending: &mut Pending, table: &Table, start: Moment) -> bool {
+    let round = Round::start(table, start);
+    pending.is_full() && open_at(alloc, pending, 999, round).is_none()
+}
+
+fn close_inner(pending: &mut Pending) {
+    for number in 2..256 {
+        pending.close(number);
+    }
+}
+
+// Whether these are due one after the other, and then none.
+fn are_due(pending: &mut Pending, now: Moment) -> bool {
+    for number in [1, 256, 257, 258] {
+        if pending.due(now) != Some(number) || !pending.expire(number) {
+            return false;
+        }
+    }
+    pending.due(now).is_none()
+}
+
+fn open_in_order(
+    alloc: Global,
+    pending: &mut Pending,
+    table: &Table,
+    start: Moment,
+    now: Moment,
+) -> Step {
+    holds(
+        open_all(alloc, pending, table, start, (1, 257)),
+        "256 are opened",
+    )?;
+    holds(none_opens(alloc, pending, table, start), "there is no room")?;
+    close_inner(pending);
+    holds(
+        open_all(alloc, pending, table, start, (257, 259)),
+        "two are opened",
+    )?;
+    holds(
+        are_due(pending, now),
+        "four are due in the order of opening",
+    )
 }
 
 // Opens fetches 1 to 256, closes 2 to 255 and opens two more, numbered 257 and 258. The remaining four are due in the order
 // of opening.
 #[test]
 fn numbers_and_the_order_of_opening(rt: HostRuntime) -> Result<(), AllocError> {
+    let (Some(start), Some(now)) = (Moment::new(1000), Moment::new(3000)) else {
+        return Err(AllocError);
+    };
     let table = table(rt.alloc())?;
     let mut pending = Pending::new(rt.alloc())?;
-    let Some(start) = Moment::new(1000) else {
-        return Err(AllocError);
-    };
-    for client in 1..257u32 {
-        let round = Round::start(&table, start);
-        assert!(rt; !pending.waits(u64::from(client)));
-        let opened = open_at(rt.alloc(), &mut pending, u64::from(client), round);
-        assert!(rt; opened == Some(client), "{client}");
-    }
-    let round = Round::start(&table, start);
-    assert!(rt; pending.is_full() && open_at(rt.alloc(), &mut pending, 999, round).is_none());
-    for number in 2..256 {
-        pending.close(number);
-    }
-    for client in [257, 258] {
-        let round = Round::start(&table, start);
-        let opened = open_at(rt.alloc(), &mut pending, client, round);
-        assert!(rt; opened == Some(client as u32), "{client}");
-    }
-    let Some(now) = Moment::new(3000) else {
-        return Err(AllocError);
-    };
-    for number in [1, 256, 257, 258] {
-        assert!(rt; pending.due(now) == Some(number), "{number}");
-        assert!(rt; pending.expire(number));
-    }
-    assert!(rt; pending.due(now).is_none());
+    let told = open_in_order(rt.alloc(), &mut pending, &table, start, now);
+    drop(pending);
+    drop(table);
+    assert!(rt; told == Ok(()), "{told:?}");
     Ok(())
 }
