@@ -231,6 +231,13 @@ fn state_of<L: Ledger>(
     end: Sender<(), Global>,
 ) -> Result<ProxyState<L>, AllocError> {
     let failed = no_failures(alloc)?;
+    let Rules {
+        origins,
+        profile,
+        shelf,
+        passes,
+        shared_fields,
+    } = kept.rules;
     Ok(ProxyState {
         desk,
         mailbox: Mutex::new(Mailbox::new(alloc)),
@@ -239,13 +246,13 @@ fn state_of<L: Ledger>(
         timeline: run.timeline,
         name: kept.name,
         loop_mark: run.loop_mark,
-        origins: Mutex::new(kept.rules.origins),
+        origins: Mutex::new(origins),
         peers: kept.peers,
         fetching: given.fetching,
-        profile: kept.rules.profile,
-        shelf: kept.rules.shelf,
-        passes: kept.rules.passes,
-        shared_fields: kept.rules.shared_fields,
+        profile,
+        shelf,
+        passes,
+        shared_fields,
         admin_port: AtomicU16::new(kept.admin_port),
         tap: Tap::new(),
         figures: run.figures,

@@ -28,7 +28,7 @@ use crate::own::{check_apart, check_ports};
 use crate::passing::{Large, PassedMethod};
 use crate::shape::check;
 use crate::shared_fields::SharedField;
-use crate::web::web_keys;
+use crate::web::{WebKeys, web_keys};
 use node_core::{Config, Network};
 use serde_json::Value;
 use std::alloc::Global;
@@ -235,7 +235,13 @@ fn parse_values(alloc: Global, value: &Value) -> Result<Settings, Fault>
     let front = front_keys(alloc, value)?;
     let logs = log_keys(alloc, value)?;
     let node = node_keys(alloc, value)?;
-    let web = web_keys(alloc, value)?;
+    let WebKeys {
+        origins,
+        freshness,
+        passing,
+        mirrors,
+        shared_fields,
+    } = web_keys(alloc, value)?;
     Ok(Settings {
         address: front.address,
         http_port: front.http_port,
@@ -248,22 +254,22 @@ fn parse_values(alloc: Global, value: &Value) -> Result<Settings, Fault>
         fetch_octets: limits.fetch_octets,
         shelf_octets: limits.shelf_octets,
         address_connections: limits.address_connections,
-        deny_origins: web.origins.deny_origins,
-        origin_ports: web.origins.origin_ports,
+        deny_origins: origins.deny_origins,
+        origin_ports: origins.origin_ports,
         admin_token: front.admin_token,
         access_log: logs.access_log,
         access_log_format: logs.access_log_format,
         log_level: logs.log_level,
-        freshness: web.freshness.freshness,
-        refresh: web.freshness.refresh,
-        mirrors: web.mirrors,
-        methods: web.passing.methods,
-        connect_ports: web.passing.connect_ports,
-        large: web.passing.large,
-        streams: web.passing.streams,
-        tunnels: web.passing.tunnels,
-        fetch_seconds: web.passing.fetch_seconds,
-        shared_fields: web.shared_fields,
+        freshness: freshness.freshness,
+        refresh: freshness.refresh,
+        mirrors,
+        methods: passing.methods,
+        connect_ports: passing.connect_ports,
+        large: passing.large,
+        streams: passing.streams,
+        tunnels: passing.tunnels,
+        fetch_seconds: passing.fetch_seconds,
+        shared_fields,
         filters: node.filters,
         stop_after: limits.stop_after,
         node: node.config,
