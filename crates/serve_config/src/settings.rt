@@ -242,8 +242,9 @@ fn parse_values(alloc: Global, value: &Value) -> Result<Settings, Fault>
         mirrors,
         shared_fields,
     } = web_keys(alloc, value)?;
+    let address = front.address;
     Ok(Settings {
-        address: front.address,
+        address,
         http_port: front.http_port,
         admin_port: front.admin_port,
         name: front.name,
