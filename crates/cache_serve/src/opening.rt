@@ -47,16 +47,58 @@ pub(crate) struct Opening<R, L: Ledger> {
 /// What the threads are started with, beside the shared state. `F` is a file.
 #[derive(Drop)]
 pub(crate) struct Orders<F> {
+    inner: InnerOrders<F>,
+    servers: ServerOrders,
+}
+
+/// What is needed before the first thread that has a socket. `F` is a file.
+#[derive(Drop)]
+struct InnerOrders<F> {
     /// The filters that are in force from the first datagram on.
     filters: Vec<Filter>,
     /// What writes the access log, if there is one.
     log: Option<LogTask<F>>,
     /// What writes the notices, if they are asked for.
     notices: Option<LogTask<F>>,
+}
+
+/// What the servers are started with.
+#[derive(Drop)]
+struct ServerOrders {
     rules: FrontRules,
     keeping: Keeping,
     /// Receives a message when the grace of clients is to end early.
     hurried: oneshot::Receiver<()>,
+}
+
+/// The addresses of the query sockets.
+#[derive(Clone, Copy)]
+struct QueryEnds {
+    icp: End,
+    htcp: End,
+}
+
+/// What the thread of a server has of the one that starts it.
+#[derive(Drop)]
+struct ServerEnd {
+    bound: Sender<SocketAddr, Global>,
+    stopped: oneshot::Receiver<()>,
+    end: Sender<(), Global>,
+}
+
+/// What the thread that starts a server has of that server's.
+#[derive(Drop)]
+struct ServerLine {
+    heard: Receiver<SocketAddr, Global>,
+    stop: oneshot::Sender<()>,
+}
+
+/// What the thread that serves clients has of the shared state.
+#[derive(Drop)]
+struct ClientShare<L: Ledger> {
+    proxy: Arc<ProxyState<L>>,
+    seat: ThreadSeat<L>,
+    name: String,
 }
 
 /// What the administration keeps of the settings.
@@ -87,6 +129,44 @@ fn purger_of(alloc: Global, config: &Config) -> Result<Purger, AllocError> {
         is_allowed: allows_own(config),
         key,
     })
+}
+
+/// What the servers are started with, which is taken out of the settings, and what ends the grace of clients early.
+fn server_orders(
+    alloc: Global,
+    settings: &mut Settings,
+) -> Result<(ServerOrders, oneshot::Sender<()>), AllocError> {
+    let (hurry, hurried) = oneshot::channel(alloc)?;
+    let orders = ServerOrders {
+        rules: front_rules(alloc, settings)?,
+        keeping: keeping_of(alloc, settings)?,
+        hurried,
+    };
+    Ok((orders, hurry))
+}
+
+/// What of the equipment the shared state is given, and what is left for the first threads.
+fn equipped<F: Drop>(
+    equipment: Equipment<F>,
+    limits: ProxyLimits,
+    hurry: oneshot::Sender<()>,
+) -> (Given, InnerOrders<F>) {
+    let (log, log_task) = split(equipment.log);
+    let (notices, notices_task) = split(equipment.notices);
+    let given = Given {
+        connecting: limits.connecting,
+        fetching: limits.fetching,
+        log,
+        notices,
+        version: equipment.version,
+        hurry,
+    };
+    let inner = InnerOrders {
+        filters: equipment.filters,
+        log: log_task,
+        notices: notices_task,
+    };
+    (given, inner)
 }
 
 /// The two parts of a log, if there is one: where lines go, and what writes them.
@@ -194,25 +274,8 @@ where
     {
         let alloc = rt.alloc();
         let config = thread_config(&settings, limits);
-        let (log, log_task) = split(equipment.log);
-        let (notices, notices_task) = split(equipment.notices);
-        let (hurry, hurried) = oneshot::channel(alloc).map_err(no_memory)?;
-        let orders = Orders {
-            filters: equipment.filters,
-            log: log_task,
-            notices: notices_task,
-            rules: front_rules(alloc, &mut settings).map_err(no_memory)?,
-            keeping: keeping_of(alloc, &mut settings).map_err(no_memory)?,
-            hurried,
-        };
-        let given = Given {
-            connecting: config.limits.connecting,
-            fetching: config.limits.fetching,
-            log,
-            notices,
-            version: equipment.version,
-            hurry,
-        };
+        let (servers, hurry) = server_orders(alloc, &mut settings).map_err(no_memory)?;
+        let (given, inner) = equipped(equipment, config.limits, hurry);
         let site = Site::new(&rt, alloc, blank, settings, given)?;
         let opening = Opening {
             rt,
@@ -220,7 +283,7 @@ where
             config,
             site,
         };
-        Ok((opening, orders))
+        Ok((opening, Orders { inner, servers }))
     }
 
     /// The proxy, if its threads were started. Else they are ended.
@@ -301,25 +364,37 @@ where
 
     /// Starts the threads, the query sockets' before the clients', since these send queries.
     pub(crate) fn open(&mut self, orders: Orders<R::File>) -> Result<(), ServeFault> {
-        let Orders {
+        let Orders { inner, servers } = orders;
+        let opened = self.open_inner(inner);
+        self.open_servers(opened, servers)
+    }
+
+    /// Starts the threads that have no socket of this proxy, and installs the filters.
+    fn open_inner(&mut self, inner: InnerOrders<R::File>) -> Result<(), ServeFault> {
+        let InnerOrders {
             filters,
             log,
             notices,
-            rules,
-            keeping,
-            hurried,
-        } = orders;
+        } = inner;
         self.site.writings.log = self.open_log(log)?;
         self.site.writings.notices = self.open_log(notices)?;
         self.install(filters)?;
-        self.open_fetchers()?;
-        let (outgoing, incoming) = unbounded(self.alloc).map_err(no_memory)?;
-        let queries = self.open_queries(incoming)?;
-        let bell = queries.bell.share().map_err(no_memory)?;
-        self.site.bell = Some(queries.bell);
-        let outbox = Outbox { to: outgoing, bell };
-        let clients = self.open_clients(rules, outbox, hurried)?;
-        self.add_own(clients)?;
+        self.open_fetchers()
+    }
+
+    /// Starts the threads that have sockets of this proxy, once the others are started.
+    fn open_servers(
+        &mut self,
+        opened: Result<(), ServeFault>,
+        servers: ServerOrders,
+    ) -> Result<(), ServeFault> {
+        opened?;
+        let ServerOrders {
+            rules,
+            keeping,
+            hurried,
+        } = servers;
+        let (queries, clients) = self.open_front(rules, hurried)?;
         let administration = self.open_administration(keeping)?;
         self.add_own(administration)?;
         self.site.addresses = Some(Addresses {
@@ -329,6 +404,27 @@ where
             administration,
         });
         Ok(())
+    }
+
+    /// Starts the thread of the query sockets and the one that serves clients. Returns where these sockets are bound.
+    fn open_front(
+        &mut self,
+        rules: FrontRules,
+        hurried: oneshot::Receiver<()>,
+    ) -> Result<(QueryEnds, SocketAddr), ServeFault> {
+        let (outbox, queries) = self.open_outbox()?;
+        let clients = self.open_clients(rules, outbox, hurried)?;
+        self.add_own(clients)?;
+        Ok((queries, clients))
+    }
+
+    /// Starts the thread of the query sockets. Returns what takes datagrams for them, and where they are bound.
+    fn open_outbox(&mut self) -> Result<(Outbox, QueryEnds), ServeFault> {
+        let (outgoing, incoming) = unbounded(self.alloc).map_err(no_memory)?;
+        let BoundQueries { bell, icp, htcp } = self.open_queries(incoming)?;
+        self.site.bell = Some(bell.share().map_err(no_memory)?);
+        let outbox = Outbox { to: outgoing, bell };
+        Ok((outbox, QueryEnds { icp, htcp }))
     }
 
     /// The octets that bodies under way may have, for all fetch threads.
@@ -350,18 +446,32 @@ where
     }
 
     fn open_fetchers(&mut self) -> Result<(), ServeFault> {
+        let jobs = self.open_lanes()?;
+        let names = self.open_look_ups()?;
+        *self.site.proxy.lanes.lock(&self.rt) = Some(Lanes { names, jobs });
+        Ok(())
+    }
+
+    /// Starts the fetch threads. Returns what takes their jobs.
+    fn open_lanes(&mut self) -> Result<Vec<mpsc::UnboundedSender<Job>>, ServeFault> {
         let budget = self.budget().map_err(no_memory)?;
         let mut lanes = Vec::with_capacity(self.alloc, FETCHERS).map_err(no_memory)?;
         for _ in 0..FETCHERS {
-            let (to, jobs) = mpsc::unbounded(self.alloc).map_err(no_memory)?;
-            let _ = lanes.push(to);
-            let budget = Arc::try_clone(&budget).map_err(no_memory)?;
-            self.open_fetcher(jobs, budget)?;
+            let lane = self.open_lane(&budget)?;
+            let _ = lanes.push(lane);
         }
-        let names = self.open_look_ups()?;
-        let lanes = Lanes { names, jobs: lanes };
-        *self.site.proxy.lanes.lock(&self.rt) = Some(lanes);
-        Ok(())
+        Ok(lanes)
+    }
+
+    /// Starts a fetch thread. Returns what takes its jobs.
+    fn open_lane(
+        &mut self,
+        budget: &Arc<Budget>,
+    ) -> Result<mpsc::UnboundedSender<Job>, ServeFault> {
+        let budget = Arc::try_clone(budget).map_err(no_memory)?;
+        let (to, jobs) = mpsc::unbounded(self.alloc).map_err(no_memory)?;
+        self.open_fetcher(jobs, budget)?;
+        Ok(to)
     }
 
     fn open_fetcher(
@@ -404,9 +514,22 @@ where
         outgoing: Receiver<Outgoing, Global>,
     ) -> Result<BoundQueries, ServeFault> {
         let (bound, heard) = unbounded(self.alloc).map_err(no_memory)?;
+        let queries = self.query_task(outgoing, bound)?;
+        self.keep(Work::Queries(queries))?;
+        match heard.recv(&self.rt) {
+            Ok(bound) => bound,
+            Err(_) => Err(ServeFault::NoMemory),
+        }
+    }
+
+    fn query_task(
+        &mut self,
+        outgoing: Receiver<Outgoing, Global>,
+        bound: Sender<Result<BoundQueries, ServeFault>, Global>,
+    ) -> Result<QueryTask<L>, ServeFault> {
         let is_ended = Arc::try_clone(&self.site.is_ended).map_err(no_memory)?;
         let end = self.end()?;
-        let queries = QueryTask {
+        Ok(QueryTask {
             seat: self.seat()?,
             icp: self.config.icp,
             htcp: self.config.htcp,
@@ -414,12 +537,32 @@ where
             bound,
             is_ended,
             end,
-        };
-        self.keep(Work::Queries(queries))?;
-        match heard.recv(&self.rt) {
-            Ok(bound) => bound,
-            Err(_) => Err(ServeFault::NoMemory),
-        }
+        })
+    }
+
+    /// How a server's thread and this one hear of each other.
+    fn server_line(&self) -> Result<(ServerEnd, ServerLine), ServeFault> {
+        let end = self.end()?;
+        let (stop, stopped) = oneshot::channel(self.alloc).map_err(no_memory)?;
+        let (bound, heard) = unbounded(self.alloc).map_err(no_memory)?;
+        let ours = ServerLine { heard, stop };
+        Ok((
+            ServerEnd {
+                bound,
+                stopped,
+                end,
+            },
+            ours,
+        ))
+    }
+
+    /// What the thread that serves clients has of the shared state.
+    fn client_share(&mut self) -> Result<ClientShare<L>, ServeFault> {
+        let name = self.site.proxy.name.as_str();
+        let name = String::from_str(self.alloc, name).map_err(no_memory)?;
+        let proxy = self.proxy()?;
+        let seat = self.seat()?;
+        Ok(ClientShare { proxy, seat, name })
     }
 
     fn open_clients(
@@ -428,53 +571,54 @@ where
         outbox: Outbox,
         hurried: oneshot::Receiver<()>,
     ) -> Result<SocketAddr, ServeFault> {
-        let (stop, stopped) = oneshot::channel(self.alloc).map_err(no_memory)?;
-        let (bound, heard) = unbounded(self.alloc).map_err(no_memory)?;
-        let name = String::from_str(self.alloc, self.site.proxy.name.as_str()).map_err(no_memory)?;
-        let proxy = self.proxy()?;
-        let end = self.end()?;
+        let (there, here) = self.server_line()?;
+        let share = self.client_share()?;
         let clients = ClientTask {
-            proxy,
-            seat: self.seat()?,
+            proxy: share.proxy,
+            seat: share.seat,
             outbox,
             config: self.config,
             rules,
-            name,
-            bound,
-            stopped,
+            name: share.name,
+            bound: there.bound,
+            stopped: there.stopped,
             hurried,
-            end,
+            end: there.end,
         };
         self.site.clients = Some(self.begin(Work::Clients(clients))?);
+        let ServerLine { heard, stop } = here;
         self.site.stop_clients = Some(stop);
         heard
             .recv(&self.rt)
             .map_err(|_| ServeFault::Bind(Port::Clients, ErrorKind::Other))
     }
 
-    fn open_administration(&mut self, keeping: Keeping) -> Result<SocketAddr, ServeFault> {
-        let Keeping {
-            token,
-            files,
-            purger,
-        } = keeping;
-        let (stop, stopped) = oneshot::channel(self.alloc).map_err(no_memory)?;
+    /// The task of the thread that serves administration.
+    fn administration_task(
+        &mut self,
+        keeping: Keeping,
+        there: ServerEnd,
+    ) -> Result<AdministrationTask<L>, ServeFault> {
         // Nothing ends the grace of administrators early: its sender is dropped here.
         let (_, hurried) = oneshot::channel(self.alloc).map_err(no_memory)?;
-        let (bound, heard) = unbounded(self.alloc).map_err(no_memory)?;
-        let end = self.end()?;
-        let administration = AdministrationTask {
+        Ok(AdministrationTask {
             seat: self.seat()?,
             config: self.config,
-            token,
-            files,
-            purger,
-            bound,
-            stopped,
+            token: keeping.token,
+            files: keeping.files,
+            purger: keeping.purger,
+            bound: there.bound,
+            stopped: there.stopped,
             hurried,
-            end,
-        };
+            end: there.end,
+        })
+    }
+
+    fn open_administration(&mut self, keeping: Keeping) -> Result<SocketAddr, ServeFault> {
+        let (there, here) = self.server_line()?;
+        let administration = self.administration_task(keeping, there)?;
         self.keep(Work::Administration(administration))?;
+        let ServerLine { heard, stop } = here;
         self.site.stop_administration = Some(stop);
         let Ok(address) = heard.recv(&self.rt) else {
             return Err(ServeFault::Bind(Port::Administration, ErrorKind::Other));

@@ -46,8 +46,9 @@ pub(crate) struct Given {
 struct Run {
     loop_mark: Vec<u8>,
     started: Option<Instant>,
-    /// Asks the proxy to end.
-    end: Sender<(), Global>,
+    timeline: Timeline,
+    figures: Figures,
+    connections: Arc<AtomicUsize>,
 }
 
 /// What the shared state of a proxy keeps of its settings.
@@ -96,31 +97,56 @@ pub(crate) fn proxy_of<R: RandomSource + Clock, L: Ledger>(
     requires parts { blank.parts ≡ L.parts }
     requires seats { blank.parts ≡ SEATS }
 {
-    let run = Run {
-        loop_mark: random_mark(rt, alloc, settings.name.as_bytes())?,
-        started: Instant::now(rt).ok(),
-        end,
-    };
-    let peers = peers_of(alloc, &settings.node).map_err(no_memory)?;
-    let ends = NeighbourEnds::new(alloc, settings.node.neighbours.as_slice()).map_err(no_memory)?;
-    let rules = rules_in(alloc, &mut settings, given.connecting).map_err(no_memory)?;
     let sizes = sizes_of(&settings);
-    let Settings {
-        name,
-        admin_port,
-        node: config,
-        ..
-    } = settings;
+    let run = run_of(rt, alloc, &settings)?;
+    let kept = kept_in(alloc, &mut settings, given.connecting).map_err(no_memory)?;
+    let Settings { node: config, .. } = settings;
     let (desk, seats) = open_desk(alloc, blank, config, sizes)?;
-    let kept = Kept {
-        name,
-        admin_port,
-        peers,
-        ends,
-        rules,
-    };
-    let proxy = state_of(alloc, desk, kept, given, run).map_err(no_memory)?;
+    let proxy = state_of(alloc, desk, kept, run, given, end).map_err(no_memory)?;
     Ok((proxy, seats))
+}
+
+/// What the shared state has of this run alone. Errors: the system has no random numbers, or out of memory.
+fn run_of<R: RandomSource + Clock>(
+    rt: &R,
+    alloc: Global,
+    settings: &Settings,
+) -> Result<Run, ServeFault> {
+    let loop_mark = random_mark(rt, alloc, settings.name.as_bytes())?;
+    let started = Instant::now(rt).ok();
+    let neighbours = settings.node.neighbours.len();
+    begun(alloc, loop_mark, started, neighbours).map_err(no_memory)
+}
+
+/// A run that began at this moment, with so many neighbours.
+fn begun(
+    alloc: Global,
+    loop_mark: Vec<u8>,
+    started: Option<Instant>,
+    neighbours: usize,
+) -> Result<Run, AllocError> {
+    Ok(Run {
+        loop_mark,
+        started,
+        timeline: Timeline::new(alloc)?,
+        figures: Figures::new(alloc, neighbours)?,
+        connections: Arc::new(alloc, AtomicUsize::new(0))?,
+    })
+}
+
+/// What the shared state keeps of the settings, which is taken out of them.
+fn kept_in(
+    alloc: Global,
+    settings: &mut Settings,
+    connecting: Duration,
+) -> Result<Kept, AllocError> {
+    Ok(Kept {
+        rules: rules_in(alloc, settings, connecting)?,
+        peers: peers_of(alloc, &settings.node)?,
+        ends: NeighbourEnds::new(alloc, settings.node.neighbours.as_slice())?,
+        admin_port: settings.admin_port,
+        name: mem::replace(&mut settings.name, String::new(alloc)),
+    })
 }
 
 /// What may be fetched, stored and passed on, which is taken out of the settings.
@@ -207,18 +233,16 @@ fn rules_of(
     Ok(rules)
 }
 
-/// The shared state around this desk.
+/// The shared state around this desk. `end` asks the proxy to end.
 fn state_of<L: Ledger>(
     alloc: Global,
     desk: Desk<L>,
     kept: Kept,
-    given: Given,
     run: Run,
+    given: Given,
+    end: Sender<(), Global>,
 ) -> Result<ProxyState<L>, AllocError> {
     let failed = no_failures(alloc)?;
-    let timeline = Timeline::new(alloc)?;
-    let figures = Figures::new(alloc, kept.peers.len())?;
-    let connections = Arc::new(alloc, AtomicUsize::new(0))?;
     let Rules {
         origins,
         profile,
@@ -233,7 +257,7 @@ fn state_of<L: Ledger>(
         mailbox: Mutex::new(Mailbox::new(alloc)),
         lanes: Mutex::new(None),
         failed,
-        timeline,
+        timeline: run.timeline,
         name: kept.name,
         loop_mark: run.loop_mark,
         origins: Mutex::new(origins),
@@ -248,9 +272,9 @@ fn state_of<L: Ledger>(
         shared_fields,
         admin_port: AtomicU16::new(kept.admin_port),
         tap: Tap::new(),
-        figures,
+        figures: run.figures,
         ends: kept.ends,
-        connections,
+        connections: run.connections,
         log: given.log,
         notices: given.notices,
         version: given.version,
@@ -258,7 +282,7 @@ fn state_of<L: Ledger>(
         is_stopping: AtomicBool::new(false),
         hurry: Mutex::new(Some(given.hurry)),
         is_astray: AtomicBool::new(false),
-        end: run.end,
+        end,
     })
 }
 

@@ -291,20 +291,20 @@ where
     } = clients;
     let alloc = rt.alloc();
     let node = NodeHandle::new(rt, alloc, seat, Some(outbox));
-    let Ok((shared, kept)) = shared_of(alloc, node) else {
+    let Ok(shares) = client_shares(alloc, node, &proxy, &end) else {
         return lost(&rt, &end);
     };
-    let Ok(stop) = end.clone() else {
-        return lost(&rt, &end);
-    };
-    let Ok(connections) = Arc::try_clone(&proxy.connections) else {
-        return lost(&rt, &end);
-    };
+    let ClientShares {
+        node,
+        kept,
+        stop,
+        connections,
+    } = shares;
     let front = NodeFront {
         rt,
         alloc,
         proxy,
-        node: shared,
+        node,
         rules,
         keys: KnownKeys::new(alloc),
         last: 0,
@@ -324,6 +324,36 @@ where
         connections,
     });
     end_of(&rt, kept, ran, Port::Clients, &end)
+}
+
+/// What the thread that serves clients shares with its server and with others.
+#[derive(Drop)]
+struct ClientShares<R: Drop, L: Ledger> {
+    node: Arc<Mutex<NodeHandle<R, L>>>,
+    kept: Arc<Mutex<NodeHandle<R, L>>>,
+    stop: Sender<(), Global>,
+    connections: Arc<AtomicUsize>,
+}
+
+/// What the thread that serves clients shares. Errors: out of memory; the handle to the node is dropped.
+fn client_shares<R, L: Ledger>(
+    alloc: Global,
+    node: NodeHandle<R, L>,
+    proxy: &ProxyState<L>,
+    end: &Sender<(), Global>,
+) -> Result<ClientShares<R, L>, AllocError>
+where
+    R: Wait + Clock + Drop,
+{
+    let stop = end.clone()?;
+    let connections = Arc::try_clone(&proxy.connections)?;
+    let (node, kept) = shared_of(alloc, node)?;
+    Ok(ClientShares {
+        node,
+        kept,
+        stop,
+        connections,
+    })
 }
 
 /// Serves clients on their port.

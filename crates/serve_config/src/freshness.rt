@@ -47,8 +47,31 @@ pub struct RefreshRule {
     pub overrides: bool,
 }
 
-/// Parses by which rules a stored answer is fresh.
-pub(crate) fn freshness_of(alloc: Global, value: &Value) -> Result<Freshness, Fault>
+/// What a configuration says about it.
+#[derive(Drop)]
+pub(crate) struct FreshnessKeys {
+    pub(crate) freshness: Freshness,
+    pub(crate) refresh: Vec<RefreshRule>,
+    pub(crate) serve_stale: u32,
+}
+
+/// Parses what a configuration says about it.
+pub(crate) fn freshness_keys(alloc: Global, value: &Value) -> Result<FreshnessKeys, Fault>
+    ensures freshness { IfOk result (λ s. freshness_said (view value.now) ≡ Some s.freshness) }
+    ensures refresh { IfOk result (λ s. AreRules s.freshness s.refresh.items) }
+    ensures serve_stale { IfOk result (λ s. AreStaleSeconds s.freshness s.serve_stale) }
+{
+    let freshness = freshness_of(alloc, value)?;
+    let serve_stale = serve_stale(alloc, value, freshness)?;
+    Ok(FreshnessKeys {
+        freshness,
+        refresh: refresh_rules(alloc, value, freshness)?,
+        serve_stale,
+    })
+}
+
+// Parses by which rules a stored answer is fresh.
+fn freshness_of(alloc: Global, value: &Value) -> Result<Freshness, Fault>
     ensures { IfOk result (λ rules. freshness_said (view value.now) ≡ Some rules) }
 {
     match word(alloc, value, "freshness", "published")? {
@@ -61,9 +84,9 @@ pub(crate) fn freshness_of(alloc: Global, value: &Value) -> Result<Freshness, Fa
     }
 }
 
-/// Parses the operator's rules, in their order. Errors: a malformed rule, over 64 of them, or rules where freshness is judged as
-/// published.
-pub(crate) fn refresh_rules(
+// Parses the operator's rules, in their order. Errors: a malformed rule, over 64 of them, or rules where freshness is judged as
+// published.
+fn refresh_rules(
     alloc: Global,
     value: &Value,
     freshness: Freshness,
@@ -87,9 +110,9 @@ pub(crate) fn refresh_rules(
     }
 }
 
-/// Parses for how many seconds after it went stale an answer may be used whose origin is down; 0 without the key. Errors: not 0 to
-/// 31,536,000, or above 0 where freshness is judged as published.
-pub(crate) fn serve_stale(alloc: Global, value: &Value, freshness: Freshness) -> Result<u32, Fault>
+// Parses for how many seconds after it went stale an answer may be used whose origin is down; 0 without the key. Errors: not 0 to
+// 31,536,000, or above 0 where freshness is judged as published.
+fn serve_stale(alloc: Global, value: &Value, freshness: Freshness) -> Result<u32, Fault>
     ensures { IfOk result (λ seconds. AreStaleSeconds freshness seconds) }
 {
     if value.get("serve_stale").is_none() {

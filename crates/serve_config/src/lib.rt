@@ -9,8 +9,13 @@
 mod fault;
 mod filters;
 mod freshness;
+mod front;
 mod group;
+mod limits;
+mod logs;
 mod mirrors;
+mod node;
+mod origins;
 mod own;
 mod passing;
 mod place;
@@ -19,6 +24,7 @@ mod shape;
 mod shared_fields;
 mod token;
 mod value;
+mod web;
 
 pub use fault::Fault;
 pub use filters::FilterFile;

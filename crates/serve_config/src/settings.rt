@@ -17,21 +17,21 @@ ghost use Rattle.serve_config.specs.Tokens.{IsToken};
 ghost use Rattle.serve_config.specs.Words.{form_said, freshness_said, level_said};
 
 use crate::fault::Fault;
-use crate::filters::{FilterFile, file, filters};
-use crate::freshness::{Freshness, RefreshRule, freshness_of, refresh_rules, serve_stale};
-use crate::group::{keys, neighbours};
-use crate::mirrors::{MirrorPath, mirrors};
+use crate::filters::FilterFile;
+use crate::freshness::{Freshness, RefreshRule};
+use crate::front::front_keys;
+use crate::limits::limit_keys;
+use crate::logs::log_keys;
+use crate::mirrors::MirrorPath;
+use crate::node::node_keys;
 use crate::own::{check_apart, check_ports};
-use crate::passing::{Large, PassedMethod, passing_keys};
-use crate::place::Place;
-use crate::shape::{check, items};
-use crate::shared_fields::{SharedField, shared_fields};
-use crate::token::is_token68;
-use crate::value::{address, network, number, number_of, port, text, truth, visible, word};
-use neighbours::End;
+use crate::passing::{Large, PassedMethod};
+use crate::shape::check;
+use crate::shared_fields::SharedField;
+use crate::web::{WebKeys, web_keys};
 use node_core::{Config, Network};
 use serde_json::Value;
-use std::alloc::{AllocError, Global};
+use std::alloc::Global;
 use std::fmt;
 
 /// The form of the lines about answers to clients.
@@ -247,37 +247,40 @@ fn parse_values(alloc: Global, value: &Value) -> Result<Settings, Fault>
     ensures secrets { IfOk result (λ s. All IsSecret s.node.keys.items) }
     ensures filters { IfOk result (λ s. AreFiles (length s.node.neighbours.items) (view value.now) s.filters.items) }
 {
-    let top = Place::whole();
-    let node = node(alloc, value)?;
-    let filters = filters(alloc, value, node.neighbours.len())?;
-    let freshness = freshness_of(alloc, value)?;
-    let passing = passing_keys(alloc, value)?;
-    Ok(Settings {
-        address: address(alloc, value, top.key("address"))?,
-        node,
-        filters,
-        http_port: port(alloc, value, top.key("http_port"))?,
-        admin_port: port(alloc, value, top.key("admin_port"))?,
-        name: String::from_str(alloc, visible(alloc, value, top.key("name"))?)?,
-        body_limit: number(alloc, value, top.key("body_limit"), 1, 1_073_741_824)? as u32,
-        volume: number(alloc, value, top.key("volume"), 1, 1_048_576)? as u32,
-        receipt_octets: optional(alloc, value, "receipt_octets", 0, 1_073_741_824)?,
-        book_octets: optional(alloc, value, "book_octets", 1, 1_073_741_824)?,
-        fetch_octets: optional(alloc, value, "fetch_octets", 1, 1_073_741_824)?,
-        shelf_octets: optional(alloc, value, "shelf_octets", 0, 1_073_741_824)?,
-        address_connections: optional(alloc, value, "address_connections", 1, 4096)?,
-        deny_origins: deny_origins(alloc, value)?,
-        origin_ports: origin_ports(alloc, value)?,
-        admin_token: admin_token(alloc, value)?,
-        access_log: file(alloc, value.get("access_log"), top.key("access_log"))?,
-        access_log_format: log_format(alloc, value)?,
-        stop_after: number(alloc, value, top.key("stop_after"), 0, u64::MAX)?,
-        log_level: log_level(alloc, value)?,
+    let limits = limit_keys(alloc, value)?;
+    let front = front_keys(alloc, value)?;
+    let logs = log_keys(alloc, value)?;
+    let node = node_keys(alloc, value)?;
+    let WebKeys {
+        origins,
         freshness,
-        refresh: refresh_rules(alloc, value, freshness)?,
-        serve_stale: serve_stale(alloc, value, freshness)?,
-        mirrors: mirrors(alloc, value)?,
-        shared_fields: shared_fields(alloc, value)?,
+        passing,
+        mirrors,
+        shared_fields,
+    } = web_keys(alloc, value)?;
+    let address = front.address;
+    Ok(Settings {
+        address,
+        http_port: front.http_port,
+        admin_port: front.admin_port,
+        name: front.name,
+        body_limit: limits.body_limit,
+        volume: limits.volume,
+        receipt_octets: limits.receipt_octets,
+        book_octets: limits.book_octets,
+        fetch_octets: limits.fetch_octets,
+        shelf_octets: limits.shelf_octets,
+        address_connections: limits.address_connections,
+        deny_origins: origins.deny_origins,
+        origin_ports: origins.origin_ports,
+        admin_token: front.admin_token,
+        access_log: logs.access_log,
+        access_log_format: logs.access_log_format,
+        log_level: logs.log_level,
+        freshness: freshness.freshness,
+        refresh: freshness.refresh,
+        serve_stale: freshness.serve_stale,
+        mirrors,
         methods: passing.methods,
         connect_ports: passing.connect_ports,
         large: passing.large,
@@ -286,111 +289,11 @@ fn parse_values(alloc: Global, value: &Value) -> Result<Settings, Fault>
         fetch_seconds: passing.fetch_seconds,
         fetch_idle: passing.fetch_idle,
         keep_alive: passing.keep_alive,
+        shared_fields,
+        filters: node.filters,
+        stop_after: limits.stop_after,
+        node: node.config,
     })
-}
-
-// Parses the number of a key that may be left out, from `least` to `most`.
-fn optional(
-    alloc: Global,
-    value: &Value,
-    key: &str,
-    least: u32,
-    most: u32,
-) -> Result<Option<u32>, Fault>
-    ensures { IfOk result (λ given. IfSome given (λ n. (least ≤ n) × (n ≤ most))) }
-{
-    if value.get(key).is_none() {
-        return Ok(None);
-    }
-    let place = Place::whole().key(key);
-    Ok(Some(number(alloc, value, place, u64::from(least), u64::from(most))? as u32))
-}
-
-// Parses the networks that are never fetched from as origins, if they are given.
-fn deny_origins(alloc: Global, value: &Value) -> Result<Option<Vec<Network>>, Fault>
-    ensures { IfOk result (λ given. IfSome given (λ networks. AreNetworks networks.items)) }
-{
-    if value.get("deny_origins").is_none() {
-        return Ok(None);
-    }
-    Ok(Some(networks(alloc, value, "deny_origins")?))
-}
-
-// Parses the only ports that origins are fetched from, if they are given.
-fn origin_ports(alloc: Global, value: &Value) -> Result<Option<Vec<u16>>, Fault>
-    ensures { IfOk result (λ given. IfSome given (λ ports. ArePorts ports.items)) }
-{
-    if value.get("origin_ports").is_none() {
-        return Ok(None);
-    }
-    let ports = ports(alloc, value)?;
-    if ports.is_empty() {
-        return Err(Fault::value(alloc, Place::whole().key("origin_ports"), "empty"));
-    }
-    Ok(Some(ports))
-}
-
-// Parses the ports of `origin_ports`.
-fn ports(alloc: Global, value: &Value) -> Result<Vec<u16>, Fault>
-    ensures { IfOk result (λ ports. All (λ port. 1 ≤ port) ports.items) }
-{
-    let items = items(value, "origin_ports");
-    let mut ports = Vec::new(alloc);
-    for i in 0..items.len() {
-        let place = Place::item("origin_ports", i);
-        let port = number_of(alloc, &items[i], place, 1, 65_535)? as u16;
-        ports.push(port).map_err(AllocError::from)?;
-    }
-    Ok(ports)
-}
-
-// Parses the administrator's token, if it is given. A fault does not show it.
-fn admin_token(alloc: Global, value: &Value) -> Result<Option<String>, Fault>
-    ensures { IfOk result (λ given. IfSome given (λ token. IsToken (string_bytes token))) }
-{
-    if value.get("admin_token").is_none() {
-        return Ok(None);
-    }
-    let place = Place::whole().key("admin_token");
-    let text = text(alloc, value, place)?;
-    if text.is_empty() {
-        return Err(Fault::value(alloc, place, "empty"));
-    }
-    if text.len() > 255 {
-        return Err(Fault::value(alloc, place, "over 255 octets"));
-    }
-    if !is_token68(text.as_bytes()) {
-        return Err(Fault::value(alloc, place, "not a token68 (RFC 9110, section 11.2)"));
-    }
-    Ok(Some(String::from_str(alloc, text)?))
-}
-
-// Parses the form of the lines about answers.
-fn log_format(alloc: Global, value: &Value) -> Result<LogFormat, Fault>
-    ensures { IfOk result (λ form. form_said (view value.now) ≡ Some form) }
-{
-    match word(alloc, value, "access_log_format", "common")? {
-        "common" => Ok(LogFormat::Common),
-        "json" => Ok(LogFormat::Json),
-        given => {
-            let place = Place::whole().key("access_log_format");
-            Err(Fault::text(alloc, place, given, "is neither common nor json"))
-        }
-    }
-}
-
-// Parses how much the program tells about its own work.
-fn log_level(alloc: Global, value: &Value) -> Result<LogLevel, Fault>
-    ensures { IfOk result (λ level. level_said (view value.now) ≡ Some level) }
-{
-    match word(alloc, value, "log_level", "quiet")? {
-        "quiet" => Ok(LogLevel::Quiet),
-        "info" => Ok(LogLevel::Info),
-        given => {
-            let place = Place::whole().key("log_level");
-            Err(Fault::text(alloc, place, given, "is neither quiet nor info"))
-        }
-    }
 }
 
 // Parses JSON.
@@ -405,48 +308,4 @@ fn json(alloc: Global, text: &[u8]) -> Result<Value, Fault>
             column: error.column(),
         }),
     }
-}
-
-// Parses the configuration of the node.
-fn node(alloc: Global, value: &Value) -> Result<Config, Fault>
-    ensures entries { IfOk result (λ c. (1 ≤ c.entries) × (c.entries ≤ 1000000)) }
-    ensures octets { IfOk result (λ c. (1 ≤ c.octets) × (c.octets ≤ 1073741824)) }
-    ensures reachable { IfOk result (λ c. All IsReachable c.neighbours.items) }
-    ensures secrets { IfOk result (λ c. All IsSecret c.keys.items) }
-{
-    let top = Place::whole();
-    let addr = address(alloc, value, top.key("address"))?;
-    let icp = port(alloc, value, top.key("icp_port"))?;
-    let htcp = port(alloc, value, top.key("htcp_port"))?;
-    let allowed = networks(alloc, value, "allowed")?;
-    let miss_nofetch = truth(alloc, value, top.key("miss_nofetch"))?;
-    let origin = truth(alloc, value, top.key("origin"))?;
-    let entries = number(alloc, value, top.key("entries"), 1, 1_000_000)? as u32;
-    let octets = number(alloc, value, top.key("octets"), 1, 1_073_741_824)? as u32;
-    let keys = keys(alloc, value)?;
-    let neighbours = neighbours(alloc, value, keys.as_slice())?;
-    Ok(Config {
-        icp: End { addr, port: icp },
-        htcp: End { addr, port: htcp },
-        allowed,
-        miss_nofetch,
-        origin,
-        entries,
-        octets,
-        neighbours,
-        keys,
-    })
-}
-
-// Parses the networks of the list at this key.
-fn networks(alloc: Global, value: &Value, key: &str) -> Result<Vec<Network>, Fault>
-    ensures { IfOk result (λ networks. AreNetworks networks.items) }
-{
-    let items = items(value, key);
-    let mut networks = Vec::new(alloc);
-    for i in 0..items.len() {
-        let network = network(alloc, &items[i], Place::item(key, i))?;
-        networks.push(network).map_err(AllocError::from)?;
-    }
-    Ok(networks)
 }

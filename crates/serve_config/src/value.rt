@@ -4,11 +4,13 @@ ghost use Rattle.std.specs.List.{list_all};
 ghost use Rattle.serde_json.specs.Find.{get};
 ghost use Rattle.serde_json.specs.View.{view};
 ghost use Rattle.serve_config.specs.Addresses.{is_host};
+ghost use Rattle.serve_config.specs.Origins.{AreNetworks};
 ghost use Rattle.serve_config.specs.Refresh.{IsVisible, is_visible};
 ghost use Rattle.serve_config.specs.Words.{word_or};
 
 use crate::fault::Fault;
 use crate::place::Place;
+use crate::shape::items;
 use node_core::Network;
 use serde_json::Value;
 use std::alloc::{AllocError, Global};
@@ -154,6 +156,19 @@ pub(crate) fn network(alloc: Global, value: &Value, place: Place<'_>) -> Result<
         Some(network) => Ok(network),
         None => Err(Fault::text(alloc, place, text, "is no network")),
     }
+}
+
+/// Parses the networks of the list at this key.
+pub(crate) fn networks(alloc: Global, value: &Value, key: &str) -> Result<Vec<Network>, Fault>
+    ensures { IfOk result (λ networks. AreNetworks networks.items) }
+{
+    let items = items(value, key);
+    let mut networks = Vec::new(alloc);
+    for i in 0..items.len() {
+        let network = network(alloc, &items[i], Place::item(key, i))?;
+        networks.push(network).map_err(AllocError::from)?;
+    }
+    Ok(networks)
 }
 
 // Parses the text of a network; `None` if it is malformed.

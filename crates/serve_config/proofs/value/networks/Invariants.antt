@@ -1,5 +1,5 @@
 use Rattle.serve_config.specs.Origins.{AreNetworks}
-use Rattle.serve_config.proofs.settings.networks.Given as goal
+use Rattle.serve_config.proofs.value.networks.Given as goal
 
 abbrev pub invariant-loop-i : goal.invariant-loop-i
 invariant-loop-i l = AreNetworks l.networks.items

@@ -1,0 +1,60 @@
+//! How the proxy is reached by clients and administrators.
+ghost use Rattle.std.specs.Prelude.{◌≡◌, IfOk, IfSome, true};
+ghost use Rattle.std.specs.String.{string_bytes};
+ghost use Rattle.serve_config.specs.Addresses.{is_host};
+ghost use Rattle.serve_config.specs.Refresh.{IsVisible};
+ghost use Rattle.serve_config.specs.Tokens.{IsToken};
+
+use crate::fault::Fault;
+use crate::place::Place;
+use crate::token::is_token68;
+use crate::value::{address, port, text, visible};
+use serde_json::Value;
+use std::alloc::Global;
+
+/// What a configuration says about this.
+#[derive(Drop)]
+pub(crate) struct FrontKeys {
+    pub(crate) address: [u8; 4],
+    pub(crate) http_port: u16,
+    pub(crate) admin_port: u16,
+    pub(crate) name: String,
+    pub(crate) admin_token: Option<String>,
+}
+
+/// Parses what a configuration says about this.
+pub(crate) fn front_keys(alloc: Global, value: &Value) -> Result<FrontKeys, Fault>
+    ensures host { IfOk result (λ s. is_host s.address ≡ true) }
+    ensures name { IfOk result (λ s. IsVisible (string_bytes s.name)) }
+    ensures admin_token { IfOk result (λ s. IfSome s.admin_token (λ token. IsToken (string_bytes token))) }
+{
+    let top = Place::whole();
+    Ok(FrontKeys {
+        address: address(alloc, value, top.key("address"))?,
+        http_port: port(alloc, value, top.key("http_port"))?,
+        admin_port: port(alloc, value, top.key("admin_port"))?,
+        name: String::from_str(alloc, visible(alloc, value, top.key("name"))?)?,
+        admin_token: admin_token(alloc, value)?,
+    })
+}
+
+// Parses the administrator's token, if it is given. A fault does not show it.
+fn admin_token(alloc: Global, value: &Value) -> Result<Option<String>, Fault>
+    ensures { IfOk result (λ given. IfSome given (λ token. IsToken (string_bytes token))) }
+{
+    if value.get("admin_token").is_none() {
+        return Ok(None);
+    }
+    let place = Place::whole().key("admin_token");
+    let text = text(alloc, value, place)?;
+    if text.is_empty() {
+        return Err(Fault::value(alloc, place, "empty"));
+    }
+    if text.len() > 255 {
+        return Err(Fault::value(alloc, place, "over 255 octets"));
+    }
+    if !is_token68(text.as_bytes()) {
+        return Err(Fault::value(alloc, place, "not a token68 (RFC 9110, section 11.2)"));
+    }
+    Ok(Some(String::from_str(alloc, text)?))
+}
