@@ -17,4 +17,4 @@ pub use keeping::{Exchange, Life, Profile};
 pub use known_keys::KnownKeys;
 pub use mailbox::{Field, Flight, Landed, Mailbox, Waiting};
 pub use objects::{object_of, refusal, stale_object, via};
-pub use validating::confirmed;
+pub use validating::{confirmed, hides_rules};

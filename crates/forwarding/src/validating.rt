@@ -1,6 +1,6 @@
 //! Responses that confirm what was fetched before.
 use http_header::{HeaderMap, HeaderName, HeaderValue};
-use http_rules::{is_about, tells_end, updated};
+use http_rules::{end_to_end, is_about, tells_end, updated};
 use http_traffic::Page;
 use object_store::Object;
 use std::alloc::Global;
@@ -33,6 +33,25 @@ pub fn confirmed(alloc: Global, head: &HeaderMap, object: &Object) -> Option<Pag
         head,
         body,
     })
+}
+
+/// Whether a response with this head names its Cache-Control in Connection, so that what it brings up to date does not have it. The rules
+/// that it states hold all the same (RFC 9111, section 5.2). `true` also where that cannot be told.
+pub fn hides_rules(alloc: Global, head: &HeaderMap) -> bool {
+    if !head.contains_key("connection") || !head.contains_key("cache-control") {
+        return false;
+    }
+    match end_to_end(alloc, head) {
+        Ok(fields) => !has_rules(fields.as_slice()),
+        Err(_) => true,
+    }
+}
+
+/// Whether one of these fields is Cache-Control.
+fn has_rules(fields: &[(Vec<u8>, Vec<u8>)]) -> bool {
+    fields
+        .iter()
+        .any(|(name, _)| name.as_slice() == b"cache-control".as_slice())
 }
 
 /// The octets of all names and values of these fields.

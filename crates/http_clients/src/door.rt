@@ -141,14 +141,14 @@ impl<H: Answers> Door<H> {
         }
     }
 
-    // Opens a tunnel.
+    // Opens a tunnel. Where it is refused, the connection ends: what stands behind the request was meant for the tunnel, and is no request.
     fn open<I: Drop>(&self, parts: http::request::Parts) -> Serving<H, AtMost<I, Pieces>, I>
         ensures { (result.content ≡ None) × (result.answering ≡ None) }
     {
         let mut serving = self.serving(parts);
         match self.tunnel() {
             Ok(tunnel) => serving.tunnel = Some(tunnel),
-            Err(status) => serving.refusal = status,
+            Err(status) => serving.turn_down(status),
         }
         serving
     }
@@ -273,7 +273,7 @@ impl<H: Answers, T: Read, I: Drop> Serving<H, T, I> {
         response.body_mut().account_to(telling);
     }
 
-    // Notes that the request is refused with this status, and its connection closed, because of its content.
+    // Notes that the request is refused with this status, and its connection closed, because of its content or of what was to follow.
     fn turn_down(&mut self, status: u16)
         ensures { (self.new.content ≡ self.old.content) × (self.new.answering ≡ self.old.answering) }
     {
@@ -281,7 +281,7 @@ impl<H: Answers, T: Read, I: Drop> Serving<H, T, I> {
         self.refusal = status;
     }
 
-    // Waits for the tunnel that the request opens. Returns whether it is open.
+    // Waits for the tunnel that the request opens. Returns whether it is open. Where it is not, the connection ends with the response.
     fn poll_tunnel(&mut self, cx: &mut Context<'_>) -> Poll<bool>
         ensures same { (self.new.content ≡ self.old.content) × (self.new.answering ≡ self.old.answering) }
         ensures registered { OnPending result (Covers cx.new (λ _. ⊥)) }
@@ -292,8 +292,8 @@ impl<H: Answers, T: Read, I: Drop> Serving<H, T, I> {
         };
         match ready!(tunnel.poll(cx)) {
             Ok(Ok(())) => return Poll::Ready(true),
-            Ok(Err(status)) => self.refusal = status,
-            Err(_) => self.refusal = 503,
+            Ok(Err(status)) => self.turn_down(status),
+            Err(_) => self.turn_down(503),
         }
         Poll::Ready(false)
     }

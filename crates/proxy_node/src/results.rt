@@ -6,7 +6,8 @@ use crate::proxy_state::Stale;
 use crossbeam_channel::Sender;
 use fetch_chain::Submit;
 use forwarding::{
-    Exchange, Flight, Landed, Life, Profile, confirmed, object_of, refusal, stale_object,
+    Exchange, Flight, Landed, Life, Profile, confirmed, hides_rules, object_of, refusal,
+    stale_object,
 };
 use http_rules::{StaleUse, complete_length, has_stale_use, has_validator, is_error, supersedes};
 use http_traffic::{FetchEnd, FetchFault, Fetched, Page, Supplier};
@@ -252,9 +253,10 @@ impl<R: Wait + Clock + Drop, L: Ledger> Results<R, L> {
             asked,
             is_outdated,
         } = landed;
+        let is_unkept = is_outdated || (asked.is_some() && hides_rules(self.alloc, &page.head));
         let page = self.whole_of(key.as_ref(), flight, asked, page)?;
         let mut life = self.life_of(key.as_ref(), flight, &page);
-        if is_outdated {
+        if is_unkept {
             life.left = 0;
         }
         let name = self.node.proxy().name.as_bytes();
