@@ -32,7 +32,7 @@ CONFIG ?= examples/serve.json
 PREFIX ?= /usr/local
 DESTDIR ?=
 
-.PHONY: serve group feed build install deb package systemd page test format cases documents loopback attacks open hostile slow interop clients load large fuzz limits edits bench sweep storm
+.PHONY: serve group feed build install deb package page test format cases documents loopback attacks open hostile slow interop clients load large fuzz limits edits bench sweep storm
 
 feed:
 	@tools/feed $(SCRIPT)
@@ -55,6 +55,7 @@ deb:
 package:
 	@tests/package $(PROGRAM)
 
+.PHONY: systemd
 systemd:
 	@tests/systemd $(PROGRAM)
 
