@@ -55,6 +55,7 @@ deb:
 package:
 	@tests/package $(PROGRAM)
 
+.PHONY: systemd
 systemd:
 	@tests/systemd $(PROGRAM)
 
