@@ -1,5 +1,5 @@
 -- Laws about the hosts and ports that targets name. 58 is a colon.
-use Rattle.std.proofs.Common.{◌≡◌, ◌≢◌, ℕ, ◌<◌, List, ◌∷◌, ◌++◌, length, get_or, codes, Bool, true, false, ◌&&◌, refl, sym, ◌∙◌, arith, Option, Some, None, MatchOption, Bor}
+use Rattle.std.proofs.Common.{◌≡◌, ◌≢◌, ℕ, ◌<◌, List, length, get_or, true, false, refl, sym, ◌∙◌, arith, Option, Some, None, MatchOption, Bor}
 use Rattle.std.specs.List.{list_all}
 use Rattle.std.proofs.lemmas.Bool.{and_parts, both_ways}
 use Rattle.std.proofs.lemmas.List.Folds.{list_all_at}

@@ -1,5 +1,5 @@
 -- Looking up a name in the fields of a stored object, from some place on.
-use Rattle.std.proofs.Common.{ℕ, List, [], ◌∷◌, ◌++◌, Vec, Option, Some, None, drop}
+use Rattle.std.proofs.Common.{ℕ, List, [], ◌∷◌, Vec, Option, Some, None, drop}
 use Rattle.std.specs.declared.alloc.Global.{Global}
 use Rattle.http_rules.specs.Fields.{values_of}
 use Rattle.http_rules.specs.Validators.{stored_fields}

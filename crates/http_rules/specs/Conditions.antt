@@ -1,6 +1,6 @@
 -- The answer that a stored object with status 200 gives to a request with conditions or a range (RFC 9110, sections 13 and 14; RFC
 -- 9111, section 4.3.2). What is not understood never makes the answer shorter: the whole object is sent.
-use Rattle.std.specs.Prelude.{ℕ, ◌-◌, List, [], ◌∷◌, codes, bytes_eq, nat_le, not, ◌==◌, ◌&&◌, ◌||◌, Bool, true, false, Option, Some, None, option_and_then, if◌then◌else◌}
+use Rattle.std.specs.Prelude.{ℕ, ◌-◌, List, [], ◌∷◌, codes, bytes_eq, nat_le, not, ◌==◌, ◌&&◌, ◌||◌, Bool, false, Option, Some, None, option_and_then, if◌then◌else◌}
 use Rattle.std.specs.List.{list_any}
 use Rattle.httpdate.specs.Date.{parse_secs}
 use Rattle.http_rules.specs.declared.conditions.StoredAnswer.{StoredAnswer}

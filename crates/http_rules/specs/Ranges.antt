@@ -1,6 +1,6 @@
 -- Ranges of octets (RFC 9110, sections 14.1.2, 14.2 and 14.4). Octets are counted from 0.
 -- 45 is a hyphen, 47 a slash, 61 an equals sign.
-use Rattle.std.specs.Prelude.{ℕ, ◌+◌, ◌-◌, ◌^◌, List, ◌++◌, codes, decimal, length, take, drop, bytes_eq, min, nat_eq, nat_lt, ◌==◌, ◌&&◌, not, Bool, Option, Some, None, option_and_then, if◌then◌else◌}
+use Rattle.std.specs.Prelude.{ℕ, ◌+◌, ◌-◌, ◌^◌, List, ◌++◌, codes, decimal, length, take, drop, bytes_eq, min, nat_eq, nat_lt, ◌==◌, ◌&&◌, Option, Some, None, option_and_then, if◌then◌else◌}
 use Rattle.std.specs.List.{position_or_len, starts_with}
 use Rattle.http_header.specs.Token.{lowercase}
 use Rattle.wire_octets.specs.Decimal.{is_numeral, value_after}

@@ -1,5 +1,5 @@
 -- What a request says about the use of stored responses (RFC 9111, section 5.2.1; Pragma by RFC 7234, section 5.4).
-use Rattle.std.specs.Prelude.{ℕ, List, codes, bytes_eq, nat_le, nat_lt, not, ◌&&◌, ◌||◌, Bool, true, false, Option, Some, None, is_some, option_map, unwrap_or, Result, Ok, if◌then◌else◌}
+use Rattle.std.specs.Prelude.{ℕ, List, codes, nat_le, nat_lt, not, ◌&&◌, ◌||◌, Bool, true, false, Option, Some, None, is_some, option_map, unwrap_or}
 use Rattle.std.specs.List.{list_any}
 use Rattle.http_rules.specs.Fields.{Field, values_of, has_field}
 use Rattle.http_rules.specs.Directives.{argument, argument_seconds, directives_in, first_argument, is_unclosed}

@@ -1,6 +1,6 @@
 -- Validation of a stored object by its origin server (RFC 9111, section 4.3): what a conditional request for it carries, which
 -- requests of clients may be made conditional, and which responses with status 304 are about the object.
-use Rattle.std.specs.Prelude.{ℕ, List, [], ◌∷◌, ◌++◌, codes, not, ◌==◌, ◌&&◌, ◌||◌, Bool, true, false, Option, Some, None, is_some, option_and_then, if◌then◌else◌}
+use Rattle.std.specs.Prelude.{ℕ, List, [], ◌∷◌, ◌++◌, codes, not, ◌==◌, ◌&&◌, ◌||◌, Bool, false, Option, Some, None, is_some, option_and_then, if◌then◌else◌}
 use Rattle.httpdate.specs.Date.{parse_secs}
 use Rattle.http_rules.specs.Conditions.{is_for_origin}
 use Rattle.http_rules.specs.Directives.{asks, has_unclosed}

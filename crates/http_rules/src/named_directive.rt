@@ -72,11 +72,16 @@ pub(crate) fn has_stored_unclosed(object: &[(Vec<u8>, Vec<u8>)]) -> bool
     ensures { result ≡ has_unclosed (stored_fields object.now) }
 {
     for i in 0..object.len() {
-        if object[i].0.as_slice() == b"cache-control".as_slice()
-            && is_unclosed(object[i].1.as_slice())
-        {
+        if is_unclosed_at(&object[i]) {
             return true;
         }
     }
     false
+}
+
+// Whether a stored field is a Cache-Control field whose value has an unclosed double quote.
+fn is_unclosed_at(field: &(Vec<u8>, Vec<u8>)) -> bool
+    ensures { result ≡ has_unclosed ((field.now.0.items, field.now.1.items) ∷ []) }
+{
+    field.0.as_slice() == b"cache-control".as_slice() && is_unclosed(field.1.as_slice())
 }

@@ -1,6 +1,5 @@
-use Rattle.std.proofs.Common.{◌≡◌, not, ap, sym, ◌∙◌}
+use Rattle.std.proofs.Common.{not, ap, sym, ◌∙◌}
 use Rattle.http_rules.specs.Fields.{fields_of}
-use Rattle.http_rules.specs.Plain.{is_plain_request}
 use Rattle.http_rules.proofs.PlainHeads.{plain-any, plain_published, plain_fresh, plain_whole, plain_first}
 use Rattle.http_rules.proofs.plain.is_plain_request.Goals as goal
 
