@@ -35,7 +35,10 @@ fn put(
 }
 
 fn moment(millis: u64) -> Result<Moment, Fail> {
-    Moment::new(millis).ok_or("no moment".into())
+    match Moment::new(millis) {
+        Some(moment) => Ok(moment),
+        None => Err("no moment".into()),
+    }
 }
 
 // The status of the object of a key, which is also when it was put there.
