@@ -28,13 +28,14 @@ argument_cons name f fs = by (bytes_eq f.0 (codes "cache-control"))
   where
     others : List Field
     others = filter (λ (g : Field). bytes_eq g.0 (codes "cache-control")) fs
+
     by : (b : Bool)
         → first_argument name (directives_from (cond b (f ∷ others) others))
         ≡ option_or (first_argument name (directives_from (cond b (f ∷ []) []))) (first_argument name (directives_from others))
     by true =
         first_argument-append name (directives_in f.1) (directives_from others)
         ∙ ap (λ (a : Option (List ℕ)). option_or a (first_argument name (directives_from others)))
-            (sym (first_argument-append name (directives_in f.1) [] ∙ option_or_nothing (first_argument name (directives_in f.1))))
+        (sym (first_argument-append name (directives_in f.1) [] ∙ option_or_nothing (first_argument name (directives_in f.1))))
     by false = refl
 
 -- it is in the next field of an object, or else behind it
@@ -52,8 +53,10 @@ unclosed_cons f fs = by (bytes_eq f.0 (codes "cache-control"))
   where
     others : List Field
     others = filter (λ (g : Field). bytes_eq g.0 (codes "cache-control")) fs
+
     open_in : List Field → Bool
     open_in fields = list_any is_unclosed (map (λ (g : Field). g.1) fields)
+
     by : (b : Bool) → open_in (cond b (f ∷ others) others) ≡ (open_in (cond b (f ∷ []) []) || open_in others)
     by true = ap (λ (b : Bool). b || open_in others) (sym (or_nothing (is_unclosed f.1)))
     by false = refl
