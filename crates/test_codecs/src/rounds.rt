@@ -71,79 +71,52 @@ fn sources(
     ]
 }
 
-// The orders of three replies.
-const ORDERS: [[usize; 3]; 6] = [
-    [0, 1, 2],
-    [1, 0, 2],
-    [0, 2, 1],
-    [1, 2, 0],
-    [2, 0, 1],
-    [2, 1, 0],
-];
-
-// The replies of three peers, and the sources that are chosen for each order with the origin and without.
-type Case = ([Kind; 3], [[usize; 4]; 6], [[usize; 4]; 6]);
-
-// A HIT from the third peer decides the round, and later replies don't count.
-const CASES: [Case; 3] = [
-    (
-        [Kind::Miss, Kind::Miss, Kind::Hit],
-        [
-            [2, 1, 7, 9],
-            [2, 1, 7, 9],
-            [2, 0, 7, 9],
-            [2, 1, 7, 9],
-            [2, 7, 9, 9],
-            [2, 7, 9, 9],
-        ],
-        [
-            [2, 1, 0, 9],
-            [2, 1, 0, 9],
-            [2, 0, 1, 9],
-            [2, 1, 0, 9],
-            [2, 0, 1, 9],
-            [2, 0, 1, 9],
-        ],
-    ),
-    (
-        [Kind::Miss, Kind::Miss, Kind::Miss],
-        [[1, 7, 9, 9]; 6],
-        [[1, 0, 9, 9]; 6],
-    ),
-    (
-        [Kind::Miss, Kind::Refused, Kind::Miss],
-        [[0, 7, 9, 9]; 6],
-        [[0, 9, 9, 9]; 6],
-    ),
-];
-
-// The place of the first order whose sources are not these.
-fn first_wrong(
-    table: &Table,
-    now: Moment,
-    kinds: [Kind; 3],
-    wanted: &[[usize; 4]; 6],
-    origin: bool,
-) -> Option<usize> {
-    for i in 0..6 {
-        if sources(table, now, ORDERS[i], kinds, origin) != wanted[i] {
-            return Some(i);
-        }
-    }
-    None
-}
-
 #[test]
 fn sources_in_every_order(rt: HostRuntime) -> Result<(), AllocError> {
+    use Kind::{Hit, Miss, Refused};
+    let orders = [
+        [0, 1, 2],
+        [1, 0, 2],
+        [0, 2, 1],
+        [1, 2, 0],
+        [2, 0, 1],
+        [2, 1, 0],
+    ];
+    // A HIT from the third peer decides the round, and later replies don't count.
+    let cases: [([Kind; 3], [[usize; 4]; 6], [[usize; 4]; 6]); 3] = [
+        (
+            [Miss, Miss, Hit],
+            [
+                [2, 1, 7, 9],
+                [2, 1, 7, 9],
+                [2, 0, 7, 9],
+                [2, 1, 7, 9],
+                [2, 7, 9, 9],
+                [2, 7, 9, 9],
+            ],
+            [
+                [2, 1, 0, 9],
+                [2, 1, 0, 9],
+                [2, 0, 1, 9],
+                [2, 1, 0, 9],
+                [2, 0, 1, 9],
+                [2, 0, 1, 9],
+            ],
+        ),
+        ([Miss, Miss, Miss], [[1, 7, 9, 9]; 6], [[1, 0, 9, 9]; 6]),
+        ([Miss, Refused, Miss], [[0, 7, 9, 9]; 6], [[0, 9, 9, 9]; 6]),
+    ];
+    let table = table(rt.alloc())?;
     let Some(now) = Moment::new(1000) else {
         return Ok(());
     };
-    let table = table(rt.alloc())?;
-    for (kinds, with_origin, without) in &CASES {
-        let wrong = first_wrong(&table, now, *kinds, with_origin, true);
-        assert!(rt; wrong == None, "{kinds:?} {wrong:?}");
-        let wrong = first_wrong(&table, now, *kinds, without, false);
-        assert!(rt; wrong == None, "{kinds:?} {wrong:?}");
+    for (kinds, with_origin, without) in cases {
+        for i in 0..6 {
+            let got = sources(&table, now, orders[i], kinds, true);
+            assert!(rt; got == with_origin[i], "{kinds:?} {i}");
+            let got = sources(&table, now, orders[i], kinds, false);
+            assert!(rt; got == without[i], "{kinds:?} {i}");
+        }
     }
     Ok(())
 }

@@ -54,39 +54,23 @@ fn keys(alloc: Global, names: &[u8]) -> Result<Vec<Key>, AllocError> {
     Ok(list)
 }
 
-// A number of neighbours; the endpoint, weight and key of one more; the names of the keys; and the fault.
-type Case = (u8, u8, u32, Option<u8>, &'static [u8], Option<ConfigFault>);
-
-const CASES: [Case; 9] = [
-    (2, 9, 100, Some(b'k'), b"k", None),
-    (63, 63, 1, None, b"", None),
-    (64, 64, 1, None, b"", Some(ConfigFault::Count)),
-    (64, 0, 0, None, b"", Some(ConfigFault::Count)),
-    (2, 0, 0, None, b"", Some(ConfigFault::DoubleAddress)),
-    (2, 9, 0, None, b"", Some(ConfigFault::Weight)),
-    (2, 9, 101, Some(b'k'), b"", Some(ConfigFault::Weight)),
-    (2, 9, 1, Some(b'k'), b"j", Some(ConfigFault::KeyName)),
-    (2, 9, 1, Some(b'k'), b"kk", Some(ConfigFault::KeyName)),
-];
-
-// Whether a table of the neighbours and keys of a case has its fault.
-fn has_fault(alloc: Global, case: &Case) -> Result<bool, AllocError> {
-    let (count, last, weight, key, names, fault) = *case;
-    let keys = keys(alloc, names)?;
-    let list = neighbours(alloc, count, last, weight, key)?;
-    Ok(Table::new(alloc, list, keys).err() == fault)
-}
-
 #[test]
 fn first_faults(rt: HostRuntime) -> Result<(), AllocError> {
-    for case in &CASES {
-        assert!(rt;
-            has_fault(rt.alloc(), case)?,
-            "{} {} {}",
-            case.0,
-            case.1,
-            case.2
-        );
+    let cases: [(u8, u8, u32, Option<u8>, &[u8], Option<ConfigFault>); 9] = [
+        (2, 9, 100, Some(b'k'), b"k", None),
+        (63, 63, 1, None, b"", None),
+        (64, 64, 1, None, b"", Some(ConfigFault::Count)),
+        (64, 0, 0, None, b"", Some(ConfigFault::Count)),
+        (2, 0, 0, None, b"", Some(ConfigFault::DoubleAddress)),
+        (2, 9, 0, None, b"", Some(ConfigFault::Weight)),
+        (2, 9, 101, Some(b'k'), b"", Some(ConfigFault::Weight)),
+        (2, 9, 1, Some(b'k'), b"j", Some(ConfigFault::KeyName)),
+        (2, 9, 1, Some(b'k'), b"kk", Some(ConfigFault::KeyName)),
+    ];
+    for (count, last, weight, key, names, fault) in cases {
+        let list = neighbours(rt.alloc(), count, last, weight, key)?;
+        let made = Table::new(rt.alloc(), list, keys(rt.alloc(), names)?);
+        assert!(rt; made.err() == fault, "{count} {last} {weight}");
     }
     Ok(())
 }
@@ -100,50 +84,34 @@ fn neighbours_at(alloc: Global, ends: &[u8]) -> Result<Vec<Neighbour>, AllocErro
     Ok(list)
 }
 
-// Places of octets, and whether one of them is there twice.
-const PLACES: [(&[u8], bool); 6] = [
-    (&[1, 2, 3], false),
-    (&[1, 1, 2], true),
-    (&[1, 2, 1], true),
-    (&[2, 1, 1], true),
-    (&[1, 2, 2], true),
-    (&[2, 2], true),
-];
-
-// The fault of a table of neighbours at these places.
-fn fault_of_ends(alloc: Global, octets: &[u8]) -> Result<Option<ConfigFault>, AllocError> {
-    let list = neighbours_at(alloc, octets)?;
-    Ok(Table::new(alloc, list, Vec::new(alloc)).err())
-}
-
-// The fault of a table of keys with these names.
-fn fault_of_names(alloc: Global, octets: &[u8]) -> Result<Option<ConfigFault>, AllocError> {
-    let keys = keys(alloc, octets)?;
-    Ok(Table::new(alloc, Vec::new(alloc), keys).err())
-}
-
-// This fault, if there is one.
-fn fault_where(is_there: bool, fault: ConfigFault) -> Option<ConfigFault> {
-    if is_there { Some(fault) } else { None }
-}
-
 #[test]
 fn doubles_at_every_place(rt: HostRuntime) -> Result<(), AllocError> {
-    for (octets, doubled) in &PLACES {
-        let fault = fault_where(*doubled, ConfigFault::DoubleAddress);
-        assert!(rt; fault_of_ends(rt.alloc(), *octets)? == fault, "{octets:?}");
-        let fault = fault_where(*doubled, ConfigFault::KeyName);
-        assert!(rt; fault_of_names(rt.alloc(), *octets)? == fault, "{octets:?}");
+    let places: [(&[u8], bool); 6] = [
+        (&[1, 2, 3], false),
+        (&[1, 1, 2], true),
+        (&[1, 2, 1], true),
+        (&[2, 1, 1], true),
+        (&[1, 2, 2], true),
+        (&[2, 2], true),
+    ];
+    for (octets, doubled) in places {
+        let list = neighbours_at(rt.alloc(), octets)?;
+        let made = Table::new(rt.alloc(), list, Vec::new(rt.alloc()));
+        let fault = if doubled {
+            Some(ConfigFault::DoubleAddress)
+        } else {
+            None
+        };
+        assert!(rt; made.err() == fault, "{octets:?}");
+        let made = Table::new(rt.alloc(), Vec::new(rt.alloc()), keys(rt.alloc(), octets)?);
+        let fault = if doubled {
+            Some(ConfigFault::KeyName)
+        } else {
+            None
+        };
+        assert!(rt; made.err() == fault, "{octets:?}");
     }
     Ok(())
-}
-
-// The fault of a table with a key whose name has so many octets.
-fn fault_of_length(alloc: Global, octets: usize) -> Result<Option<ConfigFault>, AllocError> {
-    let name = Octets::new(vec![in alloc; b'k'; octets]?);
-    let secret = Octets::new(Vec::new(alloc));
-    let list = vec![in alloc; Key { name, secret }]?;
-    Ok(Table::new(alloc, Vec::new(alloc), list).err())
 }
 
 #[test]
@@ -155,7 +123,13 @@ fn lengths_of_names(rt: HostRuntime) -> Result<(), AllocError> {
         (256, Some(ConfigFault::KeyName)),
     ];
     for (octets, fault) in cases {
-        assert!(rt; fault_of_length(rt.alloc(), octets)? == fault, "{octets}");
+        let mut list = Vec::new(rt.alloc());
+        list.push(Key {
+            name: Octets::new(vec![in rt.alloc(); b'k'; octets]?),
+            secret: Octets::new(Vec::new(rt.alloc())),
+        })?;
+        let made = Table::new(rt.alloc(), Vec::new(rt.alloc()), list);
+        assert!(rt; made.err() == fault, "{octets}");
     }
     Ok(())
 }
@@ -207,68 +181,40 @@ fn copied(rt: HostRuntime) -> Result<(), AllocError> {
     Ok(())
 }
 
-// Whether the neighbour of a table has these times after these samples, in ms.
-fn has_times(table: &mut Table) -> bool {
-    for (ms, time) in [(40, 320), (70, 350), (65_535, 65_842), (1_000_000, 123_147)] {
-        if table.len() != 1 {
-            return false;
-        }
-        table.sample(0, ms);
-        if table.time(0) != Some(time) {
-            return false;
-        }
-    }
-    true
-}
-
-// Whether the neighbour of a table is up until it has missed 20 times.
-fn is_up_until_20(table: &mut Table) -> bool {
-    for miss in 0..21 {
-        if table.len() != 1 || table.is_up(0) != (miss < 20) {
-            return false;
-        }
-        table.missed(0);
-    }
-    true
-}
-
-// Whether the neighbour of a table is up again after a reply, and does not come before itself.
-fn is_up_again(table: &mut Table) -> bool {
-    if table.len() != 1 {
-        return false;
-    }
-    table.replied(0);
-    table.is_up(0) && !table.before(Ranked { n: 0, s: 8 }, Ranked { n: 0, s: 8 })
-}
-
-// A table of these neighbours, with a key for each of these names.
-fn table_of(alloc: Global, list: Vec<Neighbour>, names: &[u8]) -> Result<Table, AllocError> {
-    let keys = keys(alloc, names)?;
-    Table::new(alloc, list, keys).map_err(|_| AllocError)
-}
-
 #[test]
 fn times_and_misses(rt: HostRuntime) -> Result<(), AllocError> {
     let list = neighbours(rt.alloc(), 0, 2, 2, None)?;
-    let mut table = table_of(rt.alloc(), list, b"k")?;
-    let is_right = has_times(&mut table) && is_up_until_20(&mut table) && is_up_again(&mut table);
-    drop(table);
-    assert!(rt; is_right);
+    let Ok(mut table) = Table::new(rt.alloc(), list, keys(rt.alloc(), b"k")?) else {
+        return Err(AllocError);
+    };
+    for (ms, time) in [(40, 320), (70, 350), (65_535, 65_842), (1_000_000, 123_147)] {
+        assert!(rt; table.len() == 1);
+        table.sample(0, ms);
+        assert!(rt; table.time(0) == Some(time), "{ms}");
+    }
+    for miss in 0..21 {
+        assert!(rt; table.len() == 1);
+        assert!(rt; table.is_up(0) == (miss < 20), "{miss}");
+        table.missed(0);
+    }
+    assert!(rt; table.len() == 1);
+    table.replied(0);
+    assert!(rt; table.is_up(0));
+    assert!(rt; !table.before(Ranked { n: 0, s: 8 }, Ranked { n: 0, s: 8 }));
     Ok(())
 }
 
 // A neighbour that is queried by ICP at 10.0.0.2:3130, and one by HTCP at 10.0.0.3:4827.
-fn icp_and_htcp(alloc: Global) -> Result<Vec<Neighbour>, AllocError> {
-    let mut second = neighbour(alloc, 3, 1, None)?;
+#[test]
+fn found_by_protocol_and_end(rt: HostRuntime) -> Result<(), AllocError> {
+    let mut list = neighbours(rt.alloc(), 0, 2, 1, None)?;
+    let mut second = neighbour(rt.alloc(), 3, 1, None)?;
     second.protocol = Socket::Htcp;
     second.end.port = 4827;
-    let mut list = neighbours(alloc, 0, 2, 1, None)?;
     list.push(second)?;
-    Ok(list)
-}
-
-// The first of these senders that is found at another place, by the last octet of its address and its port.
-fn first_misplaced(table: &Table) -> Option<(u8, u16)> {
+    let Ok(table) = Table::new(rt.alloc(), list, keys(rt.alloc(), b"")?) else {
+        return Err(AllocError);
+    };
     for (socket, last, port, place) in [
         (Socket::Icp, 2, 3130, Some(0)),
         (Socket::Htcp, 3, 4827, Some(1)),
@@ -281,19 +227,7 @@ fn first_misplaced(table: &Table) -> Option<(u8, u16)> {
             addr: [10, 0, 0, last],
             port,
         };
-        if table.find(socket, from) != place {
-            return Some((last, port));
-        }
+        assert!(rt; table.find(socket, from) == place, "{last} {port}");
     }
-    None
-}
-
-#[test]
-fn found_by_protocol_and_end(rt: HostRuntime) -> Result<(), AllocError> {
-    let list = icp_and_htcp(rt.alloc())?;
-    let table = table_of(rt.alloc(), list, b"")?;
-    let misplaced = first_misplaced(&table);
-    drop(table);
-    assert!(rt; misplaced == None, "{misplaced:?}");
     Ok(())
 }
