@@ -66,10 +66,13 @@ impl Bench {
 
     // How many connections to this server under this name there are.
     fn count(&self, server: SocketAddr, host: &str) -> usize {
-        self.idle
-            .iter()
-            .filter(|it| it.is_for(server, host))
-            .count()
+        let mut count = 0usize;
+        for idle in self.idle.iter() {
+            if idle.is_for(server, host) {
+                count = count.saturating_add(1);
+            }
+        }
+        count
     }
 
     // Adds a connection. It is closed if there are as many to this server under this name as there may be; where there are as many in

@@ -3,8 +3,8 @@ ghost use Rattle.std.specs.Prelude.{◌≡◌, ⊤};
 ghost use Rattle.futures.specs.Task.{Keeps};
 ghost use Rattle.tokio.specs.Net.{stream_readable, stream_writable};
 
+use futures::Future;
 use futures::task::{Context, Poll};
-use futures::{Future, ready};
 use paced_stream::Paced;
 use std::alloc::{AllocError, Global};
 use std::cell::Cell;
@@ -99,9 +99,12 @@ impl Noted {
     }
 
     // Notes what a read gave.
-    fn note_read(&self, count: usize) {
+    fn note_read(&self, polled: &Poll<io::Result<usize>>) {
+        let Poll::Ready(read) = polled else {
+            return;
+        };
         self.moves.note();
-        if count > 0 {
+        if matches!(read, Ok(count) if *count > 0) {
             self.moves.note_answer();
         }
     }
@@ -124,17 +127,12 @@ impl AsyncRead for Noted {
     ghost reads_in_order = { λ _ _ _ _ _ _ _. tt };
 
     fn poll_read(&mut self, cx: &mut Context<'_>, buf: &mut [u8]) -> Poll<io::Result<usize>> {
-        let read = ready!(AsyncRead::poll_read(&mut self.socket, cx, buf));
-        if self.is_quiet {
+        let polled = AsyncRead::poll_read(&mut self.socket, cx, buf);
+        if self.is_quiet && polled.is_ready() {
             return Poll::Ready(Err(unasked()));
         }
-        match read {
-            Ok(count) => {
-                self.note_read(count);
-                Poll::Ready(Ok(count))
-            }
-            Err(error) => Poll::Ready(Err(error)),
-        }
+        self.note_read(&polled);
+        polled
     }
 }
 
@@ -151,10 +149,12 @@ impl AsyncWrite for Noted {
         if self.is_quiet && !self.socket.is_silent() {
             return Poll::Ready(Err(unasked()));
         }
-        let written = ready!(AsyncWrite::poll_write(&mut self.socket, cx, buf));
-        self.is_quiet = false;
-        self.moves.note();
-        Poll::Ready(written)
+        let polled = AsyncWrite::poll_write(&mut self.socket, cx, buf);
+        if polled.is_ready() {
+            self.is_quiet = false;
+            self.moves.note();
+        }
+        polled
     }
 
     fn poll_flush(&mut self, cx: &mut Context<'_>) -> Poll<io::Result<()>> {
