@@ -90,7 +90,7 @@ const KEYS: [(&str, &str); 41] = [
     ),
     (
         r#""keep_alive": -1"#,
-        "config fault 2\nkeep_alive: not a whole number",
+        "config fault 3\nkeep_alive: -1 is below 0",
     ),
     (
         r#""keep_alive": true"#,
