@@ -35,6 +35,18 @@ pub struct Paid<P> {
 }
 
 impl<P: Drop> Paid<P> {
+    /// The page, and the share of the budget. A connection that was not kept is closed.
+    pub fn into_parts(self) -> (Page, P) {
+        let Paid {
+            page,
+            purse,
+            lasts: _lasts,
+            socket,
+        } = self;
+        drop(socket);
+        (page, purse)
+    }
+
     // This page, whose connection is kept if it may carry another request.
     fn with(self, socket: Option<Paced>) -> Paid<P> {
         let mut paid = self;

@@ -374,7 +374,10 @@ pub struct Done<P> {
 // The result of a fetch whose visit has ended.
 fn done_of<P: Drop>(fetch: u32, attempt: u16, visited: Visited<Paid<P>>) -> Done<P> {
     let (end, purse) = match visited {
-        Visited::Whole(Paid { page, purse, .. }) => (FetchEnd::Whole(page), Some(purse)),
+        Visited::Whole(paid) => {
+            let (page, purse) = paid.into_parts();
+            (FetchEnd::Whole(page), Some(purse))
+        }
         Visited::Refused => (FetchEnd::Refused, None),
         Visited::Failed(fault) => (FetchEnd::Failed(fault), None),
     };
