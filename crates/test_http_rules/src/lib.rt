@@ -23,6 +23,7 @@ mod passing_keys;
 mod plain;
 #[cfg(test)]
 mod retrying;
+#[cfg(test)]
 mod rules;
 #[cfg(test)]
 mod settings;
