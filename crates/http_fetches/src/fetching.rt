@@ -1,5 +1,5 @@
 //! Fetches from origin servers and neighbours, many concurrently on one thread.
-ghost use Rattle.std.specs.Prelude.{◌≡◌, ◌<◌, IfSome};
+ghost use Rattle.std.specs.Prelude.{◌≡◌, ◌<◌, IfSome, box_value};
 ghost use Rattle.futures.specs.Poll.{OnPending};
 ghost use Rattle.futures.specs.Task.{Covers, Keeps};
 ghost use Rattle.tokio.specs.Timers.{timeout_future};
@@ -23,7 +23,7 @@ use std::net::{Net, SocketAddr};
 use std::random::RandomSource;
 use std::rc::Rc;
 use std::sync::{Arc, Wait};
-use std::time::{Clock, Duration};
+use std::time::{Clock, Duration, Instant};
 use tokio::net::{ConnectFuture, TcpStream};
 use tokio::runtime::{Handle, LocalRuntime};
 use tokio::time::Timeout;
@@ -83,6 +83,29 @@ impl<R: Net + Clock + Copy, A: Admit> Getter<R, A> {
     }
 }
 
+impl<R: Wait + Net + Clock + Copy, A: Admit> Getter<R, A> {
+    // A visit with the time that it has. Returns `None` if out of memory.
+    fn timed(
+        &self,
+        deadline: Instant,
+        visit: Visit<R, A, Get<R>>,
+    ) -> Option<Box<Timeout<Visit<R, A, Get<R>>>>>
+        ensures { IfSome result (λ b. timeout_future (box_value b) ≡ visit) }
+    {
+        match self.handle.time().timeout_at(deadline, visit) {
+            Ok(timed) => boxed(self.alloc, timed),
+            Err(_) => None,
+        }
+    }
+}
+
+/// A value in a box, so that what has it is small where it is moved and cleared. Returns `None` if out of memory.
+pub(crate) fn boxed<T: Drop>(alloc: Global, value: T) -> Option<Box<T>>
+    ensures { IfSome result (λ b. box_value b ≡ value) }
+{
+    Box::new(alloc, value).ok()
+}
+
 impl<R: Wait + Net + Clock + Copy, A: Admit> Begin for Getter<R, A> {
     type Job = Job;
 
@@ -106,12 +129,11 @@ impl<R: Wait + Net + Clock + Copy, A: Admit> Begin for Getter<R, A> {
                 } = order;
                 let get = self.get(host, target, fields);
                 let visit = Visit::new(server, self.dialer(is_origin), get);
-                let timed = self.handle.time().timeout_at(deadline, visit);
                 let fetch = Fetch {
                     fetch,
                     attempt,
                     wanted,
-                    visit: timed.ok(),
+                    visit: self.timed(deadline, visit),
                 };
                 Doing {
                     doing: Either::Left(fetch),
@@ -122,7 +144,7 @@ impl<R: Wait + Net + Clock + Copy, A: Admit> Begin for Getter<R, A> {
                 let timers = self.handle.time().clone().ok();
                 let plan = Plan::new(self.rt, self.alloc, self.http, timers, passage);
                 Doing {
-                    doing: Either::Right(Pass::new(server, dialer, plan)),
+                    doing: Either::Right(Pass::new(self.alloc, server, dialer, plan)),
                 }
             }
         }
@@ -340,13 +362,13 @@ struct Fetch<R, A, T: Talk> {
     fetch: u32,
     attempt: u16,
     wanted: oneshot::Receiver<()>,
-    visit: Option<Timeout<Visit<R, A, T>>>,
+    visit: Option<Box<Timeout<Visit<R, A, T>>>>,
 }
 
 impl<R: Net + Clock + Copy, A: Admit, P: Drop, T: Talk<Page = Paid<P>>> Future for Fetch<R, A, T> {
     type Output = Done<P>;
 
-    ghost can_poll = { λ f. IfSome f.visit (λ t. IfSome (timeout_future t).call (λ c. IfSome c.talking T.Talking.can_poll)) };
+    ghost can_poll = { λ f. IfSome f.visit (λ t. IfSome (timeout_future (box_value t)).call (λ c. IfSome c.talking T.Talking.can_poll)) };
 
     fn poll(&mut self, cx: &mut Context<'_>) -> Poll<Done<P>> {
         let visited = if let Poll::Ready(_) = self.wanted.poll(cx) {

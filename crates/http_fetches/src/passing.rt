@@ -1,11 +1,11 @@
 //! One request that is passed on as it is, over a connection of its own, its content and that of the answer as they come.
-ghost use Rattle.std.specs.Prelude.{◌≡◌, IfSome, IsSomeAnd};
+ghost use Rattle.std.specs.Prelude.{◌≡◌, IfSome, IsSomeAnd, box_value};
 ghost use Rattle.futures.specs.Channel.{readable_source};
 ghost use Rattle.futures.specs.Task.{Keeps};
 
 use crate::budget::Share;
 use crate::exchange::{Beside, Talk, head_fault};
-use crate::fetching::{Dialer, Done, Visit, Visited};
+use crate::fetching::{Dialer, Done, Visit, Visited, boxed};
 use crate::moves::{Moves, Noted, Patience};
 use bytes::Bytes;
 use futures::channel::{mpsc, oneshot};
@@ -414,7 +414,7 @@ impl<R: Clock + Copy> Plan<R, Post> {
 /// A request that is being passed on.
 #[derive(Drop)]
 pub struct Pass<R, A, T: Talk> {
-    visit: Option<Visit<R, A, T>>,
+    visit: Option<Box<Visit<R, A, T>>>,
     outlet: Option<SharedOutlet>,
     patience: Patience<R>,
     // What it takes of those that may be under way, until it ends.
@@ -423,8 +423,13 @@ pub struct Pass<R, A, T: Talk> {
 
 impl<R: Net + Clock + Copy, A: Admit, T: Talk> Pass<R, A, T> {
     /// Begins to pass on a request to this server. Without a dialer it fails, as out of memory.
-    pub fn new(server: Server, dialer: Option<Dialer<R, A>>, plan: Plan<R, T>) -> Pass<R, A, T>
-        ensures { IfSome result.visit (λ v. IfSome v.call (λ c. IfSome c.talking T.Talking.can_poll)) }
+    pub fn new(
+        alloc: Global,
+        server: Server,
+        dialer: Option<Dialer<R, A>>,
+        plan: Plan<R, T>,
+    ) -> Pass<R, A, T>
+        ensures { IfSome result.visit (λ v. IfSome (box_value v).call (λ c. IfSome c.talking T.Talking.can_poll)) }
     {
         let Plan {
             talk,
@@ -433,7 +438,7 @@ impl<R: Net + Clock + Copy, A: Admit, T: Talk> Pass<R, A, T> {
             ticket,
         } = plan;
         let visit = match talk {
-            Some(talk) => Some(Visit::new(server, dialer, talk)),
+            Some(talk) => boxed(alloc, Visit::new(server, dialer, talk)),
             None => None,
         };
         Pass {
@@ -500,7 +505,7 @@ impl<R: Clock + Drop, A: Drop, T: Talk> Pass<R, A, T> {
 impl<R: Wait + Net + Clock + Copy, A: Admit, T: Talk<Page = ()>> Future for Pass<R, A, T> {
     type Output = Done<Share<R>>;
 
-    ghost can_poll = { λ p. IfSome p.visit (λ v. IfSome v.call (λ c. IfSome c.talking T.Talking.can_poll)) };
+    ghost can_poll = { λ p. IfSome p.visit (λ v. IfSome (box_value v).call (λ c. IfSome c.talking T.Talking.can_poll)) };
 
     fn poll(&mut self, cx: &mut Context<'_>) -> Poll<Done<Share<R>>> {
         let Some(visit) = &mut self.visit else {
