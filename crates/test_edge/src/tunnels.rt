@@ -333,7 +333,7 @@ fn what_leads_nowhere_is_refused(rt: HostRuntime) -> Result<(), Fail> {
         let mut near = client(&rt, &house, GREETING)?;
         let refused = head(alloc, &mut near)?;
         assert!(rt;
-            has(refused.as_slice(), wanted) && !has(refused.as_slice(), b"connection: close")
+            has(refused.as_slice(), wanted) && has(refused.as_slice(), b"connection: close")
         );
         let line = house.told.recv(&rt)?;
         assert!(rt; line.status == Some(status) && line.is_asked && line.is_whole);
