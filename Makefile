@@ -20,7 +20,7 @@
 #   make open    tries the attacks that still succeed; docs/SECURITY.md has them under what does not hold
 #   make load    runs a mixed load for 15 minutes, for eleven of them with a hostile mix beside it (needs curl, a C compiler and unshare)
 #   make large   runs 100,000 answers of 1 MiB (5 to 20 minutes; needs a C compiler)
-#   make bench   runs the benchmarks (needs valgrind; wrk, nginx, squid, and a C compiler with libpcap-dev are used if they are installed)
+#   make bench   measures the proved program, at most 15 minutes, into bench/RESULTS.md (needs a C compiler; wrk, nginx, squid, varnish, valgrind and libpcap-dev are used if they are installed)
 #   make sweep   makes each allocation of each script case, and of the stories of `test_refusals`, fail once; `make test` does a part
 #   make storm   gives 100,000,000 random events to two nodes, which must do the same; `make test` does 300,000
 
@@ -129,7 +129,4 @@ edits:
 	@tools/edits
 
 bench: build
-	@bench/feed_ir $(PROGRAM)
-	@bench/node_ir $(PROGRAM)
-	@bench/proxy_side_by_side $(PROGRAM)
-	@bench/replay_side_by_side $(PROGRAM)
+	@bench/all $(PROGRAM)

@@ -3,7 +3,8 @@
  *   quick_origin PORT
  *
  * listens at 127.0.0.1 and answers GET of /DELAY/OCTETS/LIFE/anything after DELAY milliseconds with a body of OCTETS octets that
- * is fresh for LIFE seconds (0: may not be stored). With a DELAY of 9999 it never answers. Prints its port once it listens. */
+ * is fresh for LIFE seconds (0: may not be stored). With a DELAY of 9999 it never answers. GET of /asked is answered with how many other
+ * requests there were. Prints its port once it listens. */
 #define _GNU_SOURCE
 #include <arpa/inet.h>
 #include <errno.h>
@@ -35,6 +36,7 @@ static struct connection *connections[MOST];
 static struct connection *first, *last; /* those that wait, in the order in which they came */
 static char body[BODY];
 static int poll_fd;
+static unsigned long requests;
 
 static uint64_t now(void)
 {
@@ -85,18 +87,39 @@ static void push(struct connection *c)
     watch(c, EPOLLIN, EPOLL_CTL_MOD);
 }
 
+/* The time as a Date field has it, made once a second. */
+static const char *date(void)
+{
+    static char text[64];
+    static time_t shown;
+    time_t t = time(0);
+    if (t != shown)
+        strftime(text, sizeof text, "%a, %d %b %Y %H:%M:%S GMT", gmtime(&t));
+    shown = t;
+    return text;
+}
+
 static void asked(struct connection *c)
 {
     unsigned long delay = 0, octets = 0, life = 0;
+    c->sent = 0;
+    c->in_len = 0;
+    if (!strncmp(c->in, "GET /asked ", 11)) {
+        char count[32];
+        int len = snprintf(count, sizeof count, "%lu", requests);
+        c->head_len = (size_t)snprintf(c->head, sizeof c->head, "HTTP/1.1 200 OK\r\nContent-Length: %d\r\n\r\n%s", len, count);
+        c->total = c->head_len;
+        push(c);
+        return;
+    }
+    requests++;
     sscanf(c->in, "GET /%lu/%lu/%lu/", &delay, &octets, &life);
     if (octets > BODY)
         octets = BODY;
     c->head_len = (size_t)snprintf(c->head, sizeof c->head,
-        "HTTP/1.1 200 OK\r\nContent-Length: %lu\r\nContent-Type: text/plain\r\nCache-Control: %s%lu\r\nDate: Sun, 06 Nov 2033 08:49:37 GMT\r\n\r\n",
-        octets, life ? "max-age=" : "no-store, max-age=", life);
-    c->sent = 0;
+        "HTTP/1.1 200 OK\r\nContent-Length: %lu\r\nContent-Type: text/plain\r\nCache-Control: %s%lu\r\nDate: %s\r\n\r\n",
+        octets, life ? "max-age=" : "no-store, max-age=", life, date());
     c->total = c->head_len + octets;
-    c->in_len = 0;
     if (delay == NEVER)
         return;
     if (delay == 0) {

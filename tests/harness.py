@@ -1,6 +1,6 @@
 """Shared by the tests over loopback, the load test and the benchmarks: origins, proxies, clients' answers, datagrams.
 
-A proxy is a process on free ports. Whoever starts one ends it: by its last answer (`end`), by as many requests as it still
+A proxy is a process on free ports. Where the environment has CLIENT_THREADS, that many of its threads serve clients. Whoever starts one ends it: by its last answer (`end`), by as many requests as it still
 answers (`finish`), or by its process id (`kill`). What a test leaves running is ended after it.
 """
 import hashlib
@@ -17,8 +17,9 @@ import tempfile
 import threading
 import time
 
-# The program, and the tests of a file in order.
+# The program, how many of its threads serve clients unless a test or the usual number decides, and the tests of a file in order.
 PROGRAM = os.path.abspath(sys.argv[1]) if len(sys.argv) > 1 else None
+THREADS = {"client_threads": int(os.environ["CLIENT_THREADS"])} if "CLIENT_THREADS" in os.environ else {}
 TESTS = []
 # What the test on each thread has started.
 STARTED = threading.local()
@@ -86,6 +87,11 @@ def at_once(count, function):
     for it in threads:
         it.join()
     return seen
+
+
+def processor_seconds(pid):
+    """The processor time of a process, with all its threads, to the nanosecond."""
+    return time.clock_gettime(~pid << 3 | 2)        # the number of its CPU clock, as clock_getcpuclockid(3) makes it
 
 
 def free_port(kind=socket.SOCK_STREAM, address="127.0.0.1"):
@@ -173,7 +179,7 @@ class Proxy:
             self.settings = {
                 "address": address, **self.ports, "name": "edge", "allowed": ["127.0.0.0/8"], "miss_nofetch": False, "origin": True,
                 "entries": 1000, "octets": 67108864, "body_limit": 4194304, "volume": 4096, "stop_after": stop_after, "keys": [],
-                "neighbours": [], **settings}
+                "neighbours": [], **THREADS, **settings}
             said = self.start(files)
             if said is None:
                 return

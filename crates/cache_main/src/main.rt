@@ -3,7 +3,7 @@
 //! that file. What is asked about the program itself (`--help`, `help`, `--version`, `serve --check`) is told by `command_line`.
 //!
 //! This crate parses the arguments, calls the crates below it, and turns their results into lines and exit statuses. It has no
-//! functional contract of its own; `run_serve` only requires a ledger for seven threads, those that submit events to the node.
+//! functional contract of its own; `run_serve` only requires a ledger for as many threads as may submit events to the node.
 //! Tested by: its run by `rt ci` (args, stdin, stdout), cases/, tests/.
 #![tactic(auto)]
 
@@ -12,6 +12,7 @@ mod configuration_command;
 mod ending;
 mod serve_command;
 mod standard_files;
+mod version;
 
 use cache_serve::SEATS;
 use check_command::run_check;
@@ -26,6 +27,7 @@ use std::marker::Brand;
 use std::process::ExitCode;
 use std::sync::ledger::Blank;
 use std::{env, io};
+use version::VERSION;
 
 /// The message when standard output cannot be written.
 pub const NO_OUTPUT: &str = "standard output can't be written";
@@ -78,7 +80,7 @@ fn main(rt: HostRuntime) -> ExitCode {
 /// The status once the arguments were answered that ask for a help text, the version or a check of a configuration; `None` if they
 /// ask for none of these.
 fn answered(rt: &HostRuntime, words: &[String]) -> Option<ExitCode> {
-    match asked(rt.alloc(), words) {
+    match asked(rt.alloc(), VERSION, words) {
         Ok(None) => None,
         Ok(Some(Question::Text(text))) => Some(print_text(rt, text.as_str())),
         Ok(Some(Question::Configuration(file))) => Some(check_configuration(rt, file)),

@@ -2,11 +2,11 @@
 ghost use Rattle.std.specs.Prelude.{◌≡◌};
 
 use crate::ending::tell_finish;
+use crate::version::VERSION;
 use access_log::Form;
 use cache_serve::{
     Equipment, MethodsFault, Port, ProxyLimits, SEATS, ServeFault, Site, methods_fault, start,
 };
-use command_line::VERSION;
 use filter_files::{FilesFault, Filter, read_filters};
 use log_writer::{LogPlace, LogTask, open_log};
 use proxy_node::{AccessLog, Notices};

@@ -15,10 +15,17 @@ pub const FETCH_OCTETS: u32 = 268_435_456;
 /// How many octets of each body take nothing of the octets under way.
 pub const FREE_OCTETS: usize = 65_536;
 
-/// Threads that have a seat at the node: those that fetch, and one each for queries, clients and administration.
-pub const SEATS: u64 = FETCHERS as u64 + 3;
+/// The most threads that serve clients.
+pub const MOST_CLIENT_THREADS: usize = 16;
 
-/// The threads that are joined: all but those that look up names.
+/// The most threads that serve clients, if the configuration does not say how many.
+pub const USUAL_CLIENT_THREADS: usize = 4;
+
+/// Threads that may have a seat at the node: those that fetch, as many as may serve clients, and one each for queries and
+/// administration. A seat that no thread has stays spare.
+pub const SEATS: u64 = FETCHERS as u64 + MOST_CLIENT_THREADS as u64 + 2;
+
+/// The most threads that are joined: all but those that look up names.
 pub const THREADS: usize = SEATS as usize;
 
 /// The capacity of the channel that asks the proxy to end. Each thread sends at most two such messages, one audit sends one, and the

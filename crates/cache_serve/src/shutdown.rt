@@ -9,7 +9,7 @@ use proxy_node::ProxyState;
 use std::sync::atomic::Ordering;
 use std::sync::ledger::Ledger;
 use std::sync::{Arc, Wait};
-use std::thread::Threads;
+use std::thread::{JoinHandle, Threads};
 use std::time::Clock;
 
 /// How a proxy ended.
@@ -26,8 +26,8 @@ pub struct Finish {
 }
 
 impl<L: Ledger + Send + Sync + 'static> Site<L> {
-    /// Stops and joins all threads but those that look up names, and settles the event log. The clients' thread goes first, so that
-    /// fetches that are still under way have its grace. Returns the report, and which logs are written to their end.
+    /// Stops and joins all threads but those that look up names, and settles the event log. Those that serve clients go first, so that
+    /// fetches that are still under way have their grace. Returns the report, and which logs are written to their end.
     pub(crate) fn shut<R: Threads + Wait + Clock + Copy>(
         self,
         rt: R,
@@ -49,18 +49,16 @@ impl<L: Ledger + Send + Sync + 'static> Site<L> {
             fault: None,
         };
         tell_stop(stop_clients);
-        if let Some(clients) = clients {
-            endings.add(clients.join(&rt));
-        }
+        endings.join(&rt, clients);
         is_ended.store(true, Ordering::SeqCst);
         if let Some(bell) = &bell {
             bell.ring();
         }
-        tell_stop(stop_administration);
-        proxy.close(&rt);
-        for thread in threads {
-            endings.add(thread.join(&rt));
+        if let Some(stop) = stop_administration {
+            let _ = stop.send(());
         }
+        proxy.close(&rt);
+        endings.join(&rt, threads);
         let settled = settled(proxy, endings);
         let written = writings.finish(&rt);
         Ok((settled?, written))
@@ -72,6 +70,15 @@ impl<L: Ledger + Send + Sync + 'static> Site<L> {
 struct Endings<L: Ledger> {
     seats: Vec<Seat<L>>,
     fault: Option<ServeFault>,
+}
+
+impl<L: Ledger + Send + Sync + 'static> Endings<L> {
+    /// Waits until these threads have ended, and adds what they gave back.
+    fn join<R: Threads>(&mut self, rt: &R, threads: Vec<JoinHandle<Ending<L>>>) {
+        for thread in threads {
+            self.add(thread.join(rt));
+        }
+    }
 }
 
 impl<L: Ledger> Endings<L> {
@@ -89,9 +96,9 @@ impl<L: Ledger> Endings<L> {
     }
 }
 
-/// Tells a server to stop.
-fn tell_stop(stop: Option<oneshot::Sender<()>>) {
-    if let Some(stop) = stop {
+/// Tells servers to stop.
+fn tell_stop(stops: Vec<oneshot::Sender<()>>) {
+    for stop in stops {
         let _ = stop.send(());
     }
 }

@@ -2,7 +2,7 @@
 ghost use Rattle.std.specs.Prelude.{◌≡◌};
 
 use crate::fault::ServeFault;
-use crate::limits::{ENDS, ProxyLimits, SEATS, THREADS};
+use crate::limits::{ENDS, MOST_CLIENT_THREADS, ProxyLimits, SEATS, THREADS};
 use crate::opening::Opening;
 use crate::shutdown::Finish;
 use crate::state::{Given, proxy_of};
@@ -43,15 +43,15 @@ pub struct Site<L: Ledger> {
     pub(crate) proxy: Arc<ProxyState<L>>,
     pub(crate) addresses: Option<Addresses>,
     pub(crate) threads: Vec<JoinHandle<Ending<L>>>,
-    // The thread that serves clients, which ends before the others.
-    pub(crate) clients: Option<JoinHandle<Ending<L>>>,
+    // The threads that serve clients, which end before the others.
+    pub(crate) clients: Vec<JoinHandle<Ending<L>>>,
     // What writes the access log and the notices, which ends last.
     pub(crate) writings: Writings,
     // Seats of threads that were not started.
     pub(crate) spare: Vec<Seat<L>>,
     pub(crate) is_ended: Arc<AtomicBool>,
     pub(crate) bell: Option<Bell>,
-    pub(crate) stop_clients: Option<oneshot::Sender<()>>,
+    pub(crate) stop_clients: Vec<oneshot::Sender<()>>,
     pub(crate) stop_administration: Option<oneshot::Sender<()>>,
     // Receives a message when the proxy is to end: after the last answer, or from a thread that ends.
     pub(crate) ends: Receiver<(), Global>,
@@ -136,7 +136,7 @@ impl<L: Ledger + Send + Sync + 'static> Site<L> {
             proxy: Arc::new(alloc, proxy)?,
             addresses: None,
             threads: Vec::with_capacity(alloc, THREADS)?,
-            clients: None,
+            clients: Vec::with_capacity(alloc, MOST_CLIENT_THREADS)?,
             writings: Writings {
                 log: None,
                 notices: None,
@@ -144,7 +144,7 @@ impl<L: Ledger + Send + Sync + 'static> Site<L> {
             spare: seats,
             is_ended: Arc::new(alloc, AtomicBool::new(false))?,
             bell: None,
-            stop_clients: None,
+            stop_clients: Vec::with_capacity(alloc, MOST_CLIENT_THREADS)?,
             stop_administration: None,
             ends,
             end,

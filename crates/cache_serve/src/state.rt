@@ -15,12 +15,13 @@ use mio_queries::Timeline;
 use node_book::{BOOK_OCTETS, BookFault, Booked, Desk, RECEIPT_OCTETS, Seat};
 use node_core::{Config, Node};
 use object_shelf::Shelf;
+use object_store::MOST_KEY_OCTETS;
 use proxy_node::{AccessLog, NeighbourEnds, Notices, PartKeys, Passes, ProxyState, no_failures};
 use serve_config::{Freshness, Settings, SharedField, UrlPart};
 use std::alloc::{AllocError, Global};
 use std::mem;
 use std::random::RandomSource;
-use std::sync::atomic::{AtomicBool, AtomicU16, AtomicUsize};
+use std::sync::atomic::{AtomicBool, AtomicU16, AtomicU64, AtomicUsize};
 use std::sync::ledger::{Blank, Ledger};
 use std::sync::{Arc, Mutex};
 use std::time::{Clock, Duration, Instant};
@@ -37,8 +38,8 @@ pub(crate) struct Given {
     pub(crate) notices: Option<Notices>,
     /// The version of the program.
     pub(crate) version: &'static str,
-    /// Ends the grace of clients early.
-    pub(crate) hurry: oneshot::Sender<()>,
+    /// Ends the grace of clients early, at each thread that serves them.
+    pub(crate) hurries: Vec<oneshot::Sender<()>>,
 }
 
 /// What the shared state of a proxy has of this run alone.
@@ -68,6 +69,7 @@ struct Rules {
     profile: Profile,
     shelf: Option<Mutex<Shelf>>,
     serve_stale: u32,
+    tells_stored: Option<u32>,
     parts: Option<Mutex<PartKeys>>,
     passes: Passes,
     shared_fields: Vec<Field>,
@@ -162,6 +164,7 @@ fn rules_in(
         profile: profile_of(alloc, settings)?,
         shelf: shelf_of(alloc, settings)?,
         serve_stale: settings.serve_stale,
+        tells_stored: tells_stored(settings),
         parts: parts_of(alloc, settings)?,
         passes,
         shared_fields: shared_fields_of(alloc, settings)?,
@@ -198,6 +201,15 @@ fn shelf_of(alloc: Global, settings: &Settings) -> Result<Option<Mutex<Shelf>>, 
     match Shelf::new(alloc, settings.node.entries, octets) {
         Ok(shelf) => Ok(Some(Mutex::new(shelf))),
         Err(_) => Err(AllocError),
+    }
+}
+
+/// The most octets of an object's head and body whose client is told that it was stored: with any key, what has no more is within the
+/// store's limits. `None` by the published rules.
+fn tells_stored(settings: &Settings) -> Option<u32> {
+    match settings.freshness {
+        Freshness::Published => None,
+        Freshness::Rfc9111 => Some(settings.node.octets.saturating_sub(MOST_KEY_OCTETS as u32)),
     }
 }
 
@@ -248,6 +260,7 @@ fn state_of<L: Ledger>(
         profile,
         shelf,
         serve_stale,
+        tells_stored,
         parts,
         passes,
         shared_fields,
@@ -266,6 +279,7 @@ fn state_of<L: Ledger>(
         profile,
         shelf,
         serve_stale,
+        tells_stored,
         changed: Mutex::new(Vec::new(alloc)),
         parts,
         passes,
@@ -275,12 +289,13 @@ fn state_of<L: Ledger>(
         figures: run.figures,
         ends: kept.ends,
         connections: run.connections,
+        answered: AtomicU64::new(0),
         log: given.log,
         notices: given.notices,
         version: given.version,
         started: run.started,
         is_stopping: AtomicBool::new(false),
-        hurry: Mutex::new(Some(given.hurry)),
+        hurries: Mutex::new(Some(given.hurries)),
         is_astray: AtomicBool::new(false),
         end,
     })

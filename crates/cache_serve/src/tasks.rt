@@ -9,7 +9,7 @@ use crossbeam_channel::{Receiver, Sender};
 use filter_slots::{End, Socket};
 use forwarding::KnownKeys;
 use futures::channel::{mpsc, oneshot};
-use http_clients::{serve_admin, serve_clients};
+use http_clients::{ClientSocket, ServeLimits, serve_admin, serve_clients};
 use http_fetches::{Budget, FetchLimits, FetchRules, run_fetches};
 use http_traffic::{FollowUp, Front, Job, Panel, PassOn};
 use mio_queries::{Bell, BindFault, MioWire, Timeline};
@@ -54,6 +54,8 @@ pub struct ThreadConfig {
     pub icp: End,
     pub htcp: End,
     pub clients: SocketAddr,
+    /// How many threads serve clients: 1 to 16.
+    pub client_threads: usize,
     pub admin_port: u16,
     pub body_limit: usize,
     pub fetch_octets: usize,
@@ -94,19 +96,33 @@ pub struct QueryTask<L: Ledger> {
     pub end: Sender<(), Global>,
 }
 
-/// The work of the client thread, which owns the clients' connections.
+/// The work of a thread that serves clients, which owns their connections.
 #[derive(Drop)]
 pub struct ClientTask<L: Ledger> {
-    pub proxy: Arc<ProxyState<L>>,
     pub seat: ThreadSeat<L>,
     pub outbox: Outbox,
+    pub front: FrontTask<L>,
+    pub serving: ServingTask,
     pub config: ThreadConfig,
-    pub rules: FrontRules,
-    pub name: String,
-    pub bound: Sender<SocketAddr, Global>,
-    pub stopped: oneshot::Receiver<()>,
-    pub hurried: oneshot::Receiver<()>,
     pub end: Sender<(), Global>,
+}
+
+/// What a thread that serves clients gives the node their requests with.
+#[derive(Drop)]
+pub struct FrontTask<L: Ledger> {
+    pub proxy: Arc<ProxyState<L>>,
+    pub rules: Arc<FrontRules>,
+    /// The thread's number among those that serve clients, from 0 on.
+    pub number: u64,
+}
+
+/// What a thread that serves clients serves them with.
+#[derive(Drop)]
+pub struct ServingTask {
+    pub name: String,
+    pub socket: ClientSocket,
+    pub bound: Sender<SocketAddr, Global>,
+    pub stops: Stops,
 }
 
 /// The work of the administration thread, which owns the administrators' connections.
@@ -134,6 +150,8 @@ pub struct FetchTask<L: Ledger> {
     pub limits: ProxyLimits,
     /// The most requests that are passed on at a time.
     pub streams: u32,
+    /// Receives a message once the thread takes jobs.
+    pub opened: Sender<(), Global>,
     pub end: Sender<(), Global>,
 }
 
@@ -173,6 +191,7 @@ where
         octets,
         limits,
         streams,
+        opened,
         end,
     } = fetches;
     let alloc = rt.alloc();
@@ -190,6 +209,7 @@ where
         node: NodeHandle::new(rt, alloc, seat, None),
         has_given_up: false,
         end,
+        opened: Some(opened),
     };
     let rules = FetchRules {
         budget,
@@ -271,27 +291,23 @@ where
     Ok((wire, ready))
 }
 
-/// Runs the thread that serves clients.
+/// Runs a thread that serves clients.
 fn answer_clients<R, L>(rt: R, clients: ClientTask<L>) -> Ending<L>
 where
     R: Wait + Net + Clock + RandomSource + AllocGlobal + Copy,
     L: Ledger,
 {
     let ClientTask {
-        proxy,
         seat,
         outbox,
+        front,
+        serving,
         config,
-        rules,
-        name,
-        bound,
-        stopped,
-        hurried,
         end,
     } = clients;
     let alloc = rt.alloc();
     let node = NodeHandle::new(rt, alloc, seat, Some(outbox));
-    let Ok(shares) = client_shares(alloc, node, &proxy, &end) else {
+    let Ok(shares) = client_shares(alloc, node, &front.proxy, &end) else {
         return lost(&rt, &end);
     };
     let ClientShares {
@@ -300,33 +316,48 @@ where
         stop,
         connections,
     } = shares;
-    let front = NodeFront {
+    let front = front_of(rt, config, front, node, stop);
+    let ran = front.served_by(ClientServer {
+        rt,
+        limits: config.limits.clients,
+        serving,
+        connections,
+    });
+    end_of(&rt, kept, ran, Port::Clients, &end)
+}
+
+/// What gives the node the requests of a thread's clients.
+fn front_of<R, L: Ledger>(
+    rt: R,
+    config: ThreadConfig,
+    front: FrontTask<L>,
+    node: Arc<Mutex<NodeHandle<R, L>>>,
+    stop: Sender<(), Global>,
+) -> NodeFront<R, L>
+where
+    R: Wait + Clock + AllocGlobal + Copy,
+{
+    let FrontTask {
+        proxy,
+        rules,
+        number,
+    } = front;
+    let alloc = rt.alloc();
+    NodeFront {
         rt,
         alloc,
         proxy,
         node,
         rules,
         keys: KnownKeys::new(alloc),
-        last: 0,
-        left: config.stop_after,
+        last: number,
+        step: config.client_threads as u64,
+        stop_after: config.stop_after,
         stop,
-    };
-    let stops = Stops {
-        stop: stopped,
-        hurry: hurried,
-    };
-    let ran = front.served_by(ClientServer {
-        rt,
-        config,
-        name,
-        bound,
-        stops,
-        connections,
-    });
-    end_of(&rt, kept, ran, Port::Clients, &end)
+    }
 }
 
-/// What the thread that serves clients shares with its server and with others.
+/// What a thread that serves clients shares with its server and with others.
 #[derive(Drop)]
 struct ClientShares<R: Drop, L: Ledger> {
     node: Arc<Mutex<NodeHandle<R, L>>>,
@@ -335,7 +366,7 @@ struct ClientShares<R: Drop, L: Ledger> {
     connections: Arc<AtomicUsize>,
 }
 
-/// What the thread that serves clients shares. Errors: out of memory; the handle to the node is dropped.
+/// What a thread that serves clients shares. Errors: out of memory; the handle to the node is dropped.
 fn client_shares<R, L: Ledger>(
     alloc: Global,
     node: NodeHandle<R, L>,
@@ -360,10 +391,8 @@ where
 #[derive(Drop)]
 struct ClientServer<R> {
     rt: R,
-    config: ThreadConfig,
-    name: String,
-    bound: Sender<SocketAddr, Global>,
-    stops: Stops,
+    limits: ServeLimits,
+    serving: ServingTask,
     connections: Arc<AtomicUsize>,
 }
 
@@ -374,22 +403,18 @@ where
     fn serve<F: Front + FollowUp + PassOn>(self, front: F) -> io::Result<()> {
         let ClientServer {
             rt,
-            config,
-            name,
-            bound,
-            stops,
+            limits,
+            serving,
             connections,
         } = self;
-        serve_clients(
-            rt,
-            config.clients,
-            name.as_str(),
-            front,
+        let ServingTask {
+            name,
+            socket,
             bound,
             stops,
-            connections,
-            config.limits.clients,
-        )
+        } = serving;
+        let name = name.as_str();
+        serve_clients(rt, socket, name, front, bound, stops, connections, limits)
     }
 }
 
@@ -488,11 +513,15 @@ where
     let _ = end.send(rt, ());
     Ending {
         seat: Arc::into_inner(kept).map(|node| node.into_inner().into_seat()),
-        fault: match ran {
-            Ok(()) => None,
-            Err(error) if error.kind() == ErrorKind::OutOfMemory => Some(ServeFault::NoMemory),
-            Err(error) => Some(ServeFault::Bind(port, error.kind())),
-        },
+        fault: ran.err().map(|error| socket_fault(port, &error)),
+    }
+}
+
+/// A failure of a server or its socket as a fault of the proxy.
+pub fn socket_fault(port: Port, error: &io::Error) -> ServeFault {
+    match error.kind() {
+        ErrorKind::OutOfMemory => ServeFault::NoMemory,
+        kind => ServeFault::Bind(port, kind),
     }
 }
 

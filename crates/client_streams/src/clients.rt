@@ -4,12 +4,14 @@ ghost use Rattle.futures.specs.Poll.{OnPending};
 ghost use Rattle.futures.specs.Task.{Covers, IsArmed, Keeps};
 
 use crate::patient::SharedStage;
+use crate::pool::{NoSeat, SeatShare};
 use crate::seats::{SharedSeats, TakenSeat};
 use futures::channel::oneshot;
 use futures::task::{Context, Poll};
 use futures::{Future, Stream, ready};
 use std::alloc::{AllocError, Global};
-use std::net::{IpAddr, SocketAddr};
+use std::net::SocketAddr;
+use std::sync::Wait;
 use std::time::{Clock, Duration};
 use tokio::net::{TcpListener, TcpStream};
 use tokio::time::{Handle, Sleep};
@@ -39,15 +41,15 @@ pub trait Accept: Drop {
 /// A client that is being served or refused, and its seat, which is free again when this is dropped. It ends early where its
 /// connection has been idle for longer than all others and a client waits for a seat.
 #[derive(Drop)]
-pub struct Seated<F> {
+pub struct Seated<F, R: Wait + Copy> {
     // None for a seat that is only taken until the server is open.
     serving: Option<Box<F>>,
     // None for such a seat as well.
     stage: Option<SharedStage>,
-    seat: TakenSeat,
+    seat: TakenSeat<R>,
 }
 
-impl<F: Future<Output = ()>> Future for Seated<F> {
+impl<F: Future<Output = ()>, R: Wait + Copy> Future for Seated<F, R> {
     type Output = ();
 
     ghost can_poll = { λ s. IfSome s.serving (λ f. F.can_poll (box_value f)) };
@@ -69,6 +71,9 @@ impl<F: Future<Output = ()>> Future for Seated<F> {
     }
 }
 
+// How long a thread that serves more clients than another leaves the next one to that, in milliseconds.
+const MOMENT_MILLIS: u64 = 1;
+
 // A client that was accepted.
 #[derive(Drop)]
 struct Arrival {
@@ -76,7 +81,7 @@ struct Arrival {
     address: SocketAddr,
 }
 
-/// How many clients of a listener are served concurrently, and what follows an accept that fails.
+/// How many clients of a listener are served concurrently, by all threads that serve them, and what follows an accept that fails.
 #[derive(Clone, Copy)]
 pub struct ClientLimits {
     /// The most clients.
@@ -107,17 +112,18 @@ pub struct Stops {
     pub hurry: oneshot::Receiver<()>,
 }
 
-/// The clients of a listener, as a stream of futures. It accepts no more of them, and closes its listener, when `stop` is ready or its
+/// The clients of a listener that one thread serves, as a stream of futures. It accepts no more of them, and closes its listener, when `stop` is ready or its
 /// sender is dropped, and ends when all clients are gone, when the grace has passed, or when `hurry` is ready, whichever comes first;
 /// whoever runs the futures then drops those that are left. Each future holds a seat. A client of an address that has as many seats as
-/// it may is closed. While all seats are taken, the connection that has been idle for longest is closed in favour of the next client;
-/// while none is idle, that client waits, and further ones wait in the listener's queue. A client that takes no seat holds one of 64
-/// others, and is closed where none of these is free.
+/// it may is closed. While all seats are taken, the connection that has been idle for longest is closed in favour of the next client,
+/// or one that has been so for longest among another thread's; while none is idle, that client waits, and further ones wait in the
+/// listener's queue. A client that takes no seat holds one of 64 others of its thread, and is closed where none of these is free. A
+/// thread that serves more clients than another lets that accept the next one, for a millisecond.
 ///
 /// The first futures serve nobody, and end together: one for each seat, so that whoever runs the futures has room for as many as
 /// there may be, and no client is refused for want of memory for that room. `Accept::opened` is called after that.
 #[derive(Drop)]
-pub struct AcceptedClients<A, R> {
+pub struct AcceptedClients<A, R: Wait + Copy> {
     rt: R,
     alloc: Global,
     timers: Handle,
@@ -129,16 +135,19 @@ pub struct AcceptedClients<A, R> {
     // The end of the grace, once it has begun.
     ending: Option<Sleep>,
     accept: A,
-    seats: SharedSeats,
+    seats: SharedSeats<R>,
     opening: Opening,
     // A client that waits for a seat.
     arrival: Option<Arrival>,
     rest: Duration,
     resting: Option<Sleep>,
+    // Whether the next client was left to other threads for a moment.
+    has_waited: bool,
 }
 
-impl<A: Accept, R: Clock + Drop> AcceptedClients<A, R> {
-    /// The clients of `listener`, with these limits, and so much time for them to end once the server is told to stop.
+impl<A: Accept, R: Wait + Clock + Copy> AcceptedClients<A, R> {
+    /// The clients of `listener`, with these limits and this part in the seats of all its threads, and so much time for them to end once
+    /// the server is told to stop.
     pub fn new(
         rt: R,
         alloc: Global,
@@ -148,8 +157,9 @@ impl<A: Accept, R: Clock + Drop> AcceptedClients<A, R> {
         grace: Duration,
         accept: A,
         limits: ClientLimits,
+        share: SeatShare,
     ) -> Result<AcceptedClients<A, R>, AllocError> {
-        let seats = SharedSeats::new(alloc, limits.most, limits.an_address)?;
+        let seats = SharedSeats::new(rt, alloc, share, limits.most)?;
         let Stops { stop, hurry } = stops;
         Ok(AcceptedClients {
             rt,
@@ -166,11 +176,12 @@ impl<A: Accept, R: Clock + Drop> AcceptedClients<A, R> {
             arrival: None,
             rest: limits.rest,
             resting: None,
+            has_waited: false,
         })
     }
 
     // The next seat that is taken while the server opens. `None` once all were taken.
-    fn next_room(&mut self) -> Option<Seated<A::Serving>>
+    fn next_room(&mut self) -> Option<Seated<A::Serving, R>>
         ensures { IfSome result (λ s. IfSome s.serving (λ f. A.Serving.can_poll (box_value f))) }
     {
         if self.opening != Opening::Taking {
@@ -188,7 +199,7 @@ impl<A: Accept, R: Clock + Drop> AcceptedClients<A, R> {
         None
     }
 
-    // Waits for the next client that is to be served or refused. `None` if one was closed, or if the accept failed.
+    // Waits for the next client that is to be served or refused. `None` if the accept failed.
     fn poll_arrival(&mut self, cx: &mut Context<'_>) -> Poll<Option<Arrival>>
         ensures registered { OnPending result (Covers cx.new (λ _. ⊥)) }
         ensures kept { Keeps cx.old cx.new }
@@ -196,6 +207,7 @@ impl<A: Accept, R: Clock + Drop> AcceptedClients<A, R> {
         if let Some(arrival) = self.arrival.take() {
             return Poll::Ready(Some(arrival));
         }
+        self.has_waited = false;
         let Some(listener) = &mut self.listener else {
             return Poll::Ready(None);
         };
@@ -203,25 +215,22 @@ impl<A: Accept, R: Clock + Drop> AcceptedClients<A, R> {
             self.rest();
             return Poll::Ready(None);
         };
-        if self.accept.has_seat(address) && self.seats.has_most(address.ip()) {
-            return Poll::Ready(None);
-        }
         Poll::Ready(Some(Arrival { socket, address }))
     }
 
     // The seat for a client at this address. `None` if it has to wait for one. Errors: it is to be closed.
-    fn seat(&mut self, address: SocketAddr) -> Result<Option<TakenSeat>, AllocError> {
+    fn seat(&mut self, address: SocketAddr) -> Result<Option<TakenSeat<R>>, NoSeat> {
         if self.accept.has_seat(address) {
             return self.seats.take(address.ip());
         }
         match self.seats.take_refusal() {
             Some(seat) => Ok(Some(seat)),
-            None => Err(AllocError),
+            None => Err(NoSeat),
         }
     }
 
     // Serves or refuses a client. `None` if its connection is closed.
-    fn serve(&mut self, arrival: Arrival, seat: TakenSeat) -> Option<Seated<A::Serving>>
+    fn serve(&mut self, arrival: Arrival, seat: TakenSeat<R>) -> Option<Seated<A::Serving, R>>
         ensures { IfSome result (λ s. IfSome s.serving (λ f. A.Serving.can_poll (box_value f))) }
     {
         let Arrival { socket, address } = arrival;
@@ -280,17 +289,30 @@ impl<A: Accept, R: Clock + Drop> AcceptedClients<A, R> {
     fn rest(&mut self) {
         self.resting = self.timers.sleep(&self.rt, self.rest).ok();
     }
+
+    // Leaves the next client to other threads, for a moment.
+    fn let_others_accept(&mut self) {
+        let is_next = self.opening == Opening::Done && self.arrival.is_none();
+        if is_next && self.resting.is_none() && !self.has_waited {
+            let moment = Duration::from_millis(MOMENT_MILLIS);
+            self.has_waited = true;
+            self.resting = self.timers.sleep(&self.rt, moment).ok();
+        }
+    }
 }
 
-impl<A: Accept, R: Clock + Drop> Stream for AcceptedClients<A, R> {
-    type Item = Seated<A::Serving>;
+impl<A: Accept, R: Wait + Clock + Copy> Stream for AcceptedClients<A, R> {
+    type Item = Seated<A::Serving, R>;
 
     ghost yields = { λ _ _ last. IfSome last (λ s. IfSome s.serving (λ f. A.Serving.can_poll (box_value f))) };
 
-    fn poll_next(&mut self, cx: &mut Context<'_>) -> Poll<Option<Seated<A::Serving>>> {
+    fn poll_next(&mut self, cx: &mut Context<'_>) -> Poll<Option<Seated<A::Serving, R>>> {
         if self.is_stopped(cx) {
             ready!(self.poll_end(cx));
             return Poll::Ready(None);
+        }
+        if self.seats.heed(cx) {
+            self.let_others_accept();
         }
         if let Some(resting) = &mut self.resting {
             let _ = ready!(resting.poll(cx));

@@ -1,15 +1,16 @@
-//! The seats of a listener's clients.
+//! The seats of a listener's clients of one thread.
 ghost use Rattle.std.specs.Prelude.{◌≡◌};
 ghost use Rattle.futures.specs.Task.{IsArmed, Keeps};
 ghost use Rattle.futures.specs.Poll.{OnPending};
 
 use crate::patient::SharedStage;
+use crate::pool::{NoSeat, SeatShare};
 use futures::task::{Context, Poll, Source, Waker};
 use std::alloc::{AllocError, Global};
 use std::cell::RefCell;
-use std::collections::BTreeMap;
 use std::net::IpAddr;
 use std::rc::Rc;
+use std::sync::Wait;
 
 // The most clients that are refused concurrently. Further ones are closed without an answer.
 const MOST_REFUSALS: usize = 64;
@@ -27,28 +28,26 @@ struct Seat {
     waker: Option<Waker>,
 }
 
-/// The seats of a listener's clients, how many clients each address has, and which connections are idle.
+/// The seats of a thread's clients, and which connections are idle. There is one for each client that all threads may serve together.
 #[derive(Drop)]
-pub(crate) struct Seats {
+pub(crate) struct Seats<R> {
+    rt: R,
+    // The thread's part in the seats of all threads.
+    share: SeatShare,
     seats: Vec<Seat>,
     // The free seats of clients that are served, and of those that are refused.
     free: Vec<usize>,
     free_refusals: Vec<usize>,
     // The last seat of a client that is served.
     last: usize,
-    // The clients of each address that are served.
-    addresses: BTreeMap<IpAddr, usize>,
-    an_address: usize,
     is_open: bool,
-    // Whether a client waits for a seat.
-    is_wanted: bool,
-    // Wakes the task that waits for a seat.
+    // Wakes the task that waits until no seat is taken.
     taker: Option<Waker>,
 }
 
-impl Seats {
-    // Seats for so many clients that are served, at most `an_address` of one address, and for those that are refused.
-    fn new(alloc: Global, most: usize, an_address: usize) -> Result<Seats, AllocError> {
+impl<R: Wait + Copy> Seats<R> {
+    // Seats for so many clients that are served, and for those that are refused.
+    fn new(rt: R, alloc: Global, share: SeatShare, most: usize) -> Result<Seats<R>, AllocError> {
         let all = most.saturating_add(MOST_REFUSALS);
         let mut seats = Vec::with_capacity(alloc, all.saturating_add(1))?;
         for number in 0..=all {
@@ -59,45 +58,34 @@ impl Seats {
             })?;
         }
         Ok(Seats {
+            rt,
+            share,
             seats,
             free: numbers(alloc, 1, most)?,
             free_refusals: numbers(alloc, most.saturating_add(1), all)?,
             last: most,
-            addresses: BTreeMap::new(alloc),
-            an_address,
             is_open: false,
-            is_wanted: false,
             taker: None,
         })
     }
 
-    fn has_most(&self, address: IpAddr) -> bool {
-        match self.addresses.get(&address) {
-            Some(count) => self.an_address <= *count,
-            None => self.an_address == 0,
-        }
-    }
-
-    // A free seat for a client at this address. `None` if there is no free one.
-    fn take(&mut self, address: IpAddr) -> Result<Option<usize>, AllocError> {
-        if self.free.is_empty() {
+    // A free seat for a client at this address. `None` if there is no free one. Errors: the address has as many as it may have, or out of
+    // memory.
+    fn take(&mut self, address: IpAddr) -> Result<Option<usize>, NoSeat> {
+        if !self.share.take(&self.rt, address)? {
             return Ok(None);
         }
-        let count = match self.addresses.get(&address) {
-            Some(count) => count.saturating_add(1),
-            None => 1,
-        };
-        if self.addresses.insert(address, count).is_err() {
-            return Err(AllocError);
+        let seat = self.free.pop();
+        if seat.is_none() {
+            self.share.leave(&self.rt, address);
         }
-        self.is_wanted = false;
-        Ok(self.free.pop())
+        Ok(seat)
     }
 
     fn leave(&mut self, number: usize, address: Option<IpAddr>) {
         self.take_out(number);
         if let Some(address) = address {
-            self.forget(address);
+            self.share.leave(&self.rt, address);
         }
         // Both have the capacity for all of their seats.
         let _ = if number <= self.last {
@@ -107,18 +95,6 @@ impl Seats {
         };
         // A waker that is dropped wakes its task.
         self.taker = None;
-    }
-
-    // One client less of this address.
-    fn forget(&mut self, address: IpAddr) {
-        let Some(count) = self.addresses.get_mut(&address) else {
-            return;
-        };
-        if 1 < *count {
-            *count = count.saturating_sub(1);
-        } else {
-            let _ = self.addresses.remove(&address);
-        }
     }
 
     // The seat that follows in the ring.
@@ -169,15 +145,26 @@ impl Seats {
         }
     }
 
-    // Waits until a seat is free, and has the connection closed that has been idle for longest.
+    // Waits until a seat is free, and has the connection closed that has been idle for longest, or one of another thread.
     fn wait(&mut self, cx: &mut Context<'_>) -> Poll<()>
         ensures pending { result ≡ Poll.Pending }
         ensures armed { IsArmed cx.new }
         ensures kept { Keeps cx.old cx.new }
     {
-        self.is_wanted = true;
         self.wake_longest_idle();
-        cx.register(&Source::new(), &mut self.taker)
+        self.share.wait(&self.rt, cx)
+    }
+
+    // Has the connection that has been idle for longest closed if a client of any thread waits for a seat, now or later. Returns whether
+    // this thread serves more clients than another.
+    fn heed(&mut self, cx: &mut Context<'_>) -> bool
+        ensures { Keeps cx.old cx.new }
+    {
+        let is_ahead = self.share.listen(&self.rt, cx);
+        if self.share.is_wanted() {
+            self.wake_longest_idle();
+        }
+        is_ahead
     }
 
     // Notes that the connection of a seat is idle. Returns whether it has to close.
@@ -185,8 +172,8 @@ impl Seats {
         ensures { Keeps cx.old cx.new }
     {
         self.put_last(number);
-        if self.is_wanted && self.after(NO_SEAT) == number {
-            self.is_wanted = false;
+        let is_longest = self.after(NO_SEAT) == number;
+        if is_longest && self.share.is_wanted() && self.share.gives_way() {
             return true;
         }
         if let Some(seat) = self.seats.get_mut(number) {
@@ -198,7 +185,7 @@ impl Seats {
     // Notes that the connection of a seat is not idle. One that has been idle for long may have to close in its place.
     fn work(&mut self, number: usize) {
         self.take_out(number);
-        if self.is_wanted {
+        if self.share.is_wanted() {
             self.wake_longest_idle();
         }
     }
@@ -249,28 +236,39 @@ fn numbers(alloc: Global, first: usize, last: usize) -> Result<Vec<usize>, Alloc
 
 /// The seats, shared by the tasks of one thread.
 #[derive(Drop)]
-pub(crate) struct SharedSeats(Rc<RefCell<Seats>>);
+pub(crate) struct SharedSeats<R: Drop>(Rc<RefCell<Seats<R>>>);
 
-impl SharedSeats {
-    /// Seats for `most` clients, at most `an_address` of one address, and for 64 that are refused.
-    pub fn new(alloc: Global, most: usize, an_address: usize) -> Result<SharedSeats, AllocError> {
-        let seats = Seats::new(alloc, most, an_address)?;
+impl<R: Wait + Copy> SharedSeats<R> {
+    /// Seats for `most` clients, which is what all threads have together, and for 64 that are refused.
+    pub fn new(
+        rt: R,
+        alloc: Global,
+        share: SeatShare,
+        most: usize,
+    ) -> Result<SharedSeats<R>, AllocError> {
+        let seats = Seats::new(rt, alloc, share, most)?;
         Ok(SharedSeats(Rc::new(alloc, RefCell::new(seats))?))
     }
 
-    /// Whether as many clients of this address as may be are served.
-    pub fn has_most(&self, address: IpAddr) -> bool {
+    /// Has the connection that has been idle for longest closed if a client of any thread waits for a seat, now or later: this task is
+    /// woken for that. Returns whether this thread serves more clients than another.
+    pub fn heed(&self, cx: &mut Context<'_>) -> bool
+        ensures { Keeps cx.old cx.new }
+    {
         match self.0.try_borrow_mut() {
-            Ok(seats) => seats.has_most(address),
-            Err(_) => true,
+            Ok(mut seats) => seats.heed(cx),
+            Err(_) => false,
         }
     }
 
-    /// A seat for a client that is served. `None` if there is no free one. Errors: out of memory.
-    pub fn take(&self, address: IpAddr) -> Result<Option<TakenSeat>, AllocError> {
-        let shared = self.0.clone()?;
+    /// A seat for a client that is served. `None` if there is no free one. Errors: as many clients of its address as may be are served, or
+    /// out of memory.
+    pub fn take(&self, address: IpAddr) -> Result<Option<TakenSeat<R>>, NoSeat> {
+        let Ok(shared) = self.0.clone() else {
+            return Err(NoSeat);
+        };
         let Ok(mut seats) = self.0.try_borrow_mut() else {
-            return Err(AllocError);
+            return Err(NoSeat);
         };
         let Some(number) = seats.take(address)? else {
             return Ok(None);
@@ -283,7 +281,7 @@ impl SharedSeats {
     }
 
     /// A seat for a client that is refused. `None` if there is no free one, or if out of memory.
-    pub fn take_refusal(&self) -> Option<TakenSeat> {
+    pub fn take_refusal(&self) -> Option<TakenSeat<R>> {
         let shared = self.0.clone().ok()?;
         let Ok(mut seats) = self.0.try_borrow_mut() else {
             return None;
@@ -297,7 +295,7 @@ impl SharedSeats {
     }
 
     /// Any seat, for nobody. `None` if there is no free one, or if out of memory.
-    pub fn take_any(&self) -> Option<TakenSeat> {
+    pub fn take_any(&self) -> Option<TakenSeat<R>> {
         let shared = self.0.clone().ok()?;
         let Ok(mut seats) = self.0.try_borrow_mut() else {
             return None;
@@ -331,7 +329,7 @@ impl SharedSeats {
         }
     }
 
-    /// Waits until a seat is free, and has the connection closed that has been idle for longest.
+    /// Waits until a seat is free, and has the connection closed that has been idle for longest, or one of another thread.
     pub fn wait(&self, cx: &mut Context<'_>) -> Poll<()>
         ensures pending { result ≡ Poll.Pending }
         ensures armed { IsArmed cx.new }
@@ -345,14 +343,14 @@ impl SharedSeats {
 }
 
 /// A seat that is taken, until this is dropped.
-pub(crate) struct TakenSeat {
-    seats: Rc<RefCell<Seats>>,
+pub(crate) struct TakenSeat<R: Wait + Copy> {
+    seats: Rc<RefCell<Seats<R>>>,
     number: usize,
     // The address of a client that is served.
     address: Option<IpAddr>,
 }
 
-impl TakenSeat {
+impl<R: Wait + Copy> TakenSeat<R> {
     /// Waits until the server is open.
     pub fn wait_for_opening(&self, cx: &mut Context<'_>) -> Poll<()>
         ensures armed { OnPending result (IsArmed cx.new) }
@@ -383,7 +381,7 @@ impl TakenSeat {
     }
 }
 
-impl Drop for TakenSeat {
+impl<R: Wait + Copy> Drop for TakenSeat<R> {
     fn drop(self) {
         let TakenSeat {
             seats,

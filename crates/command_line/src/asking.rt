@@ -18,15 +18,20 @@ pub enum Question<'a> {
 }
 
 /// What an argument list asks for, which begins with the program's name; `None` if it is no question of these, or not a right one.
+/// `version` is what `--version` tells.
 ///
 /// Errors: out of memory.
-pub fn asked<'a>(alloc: Global, words: &'a [String]) -> Result<Option<Question<'a>>, AllocError>
+pub fn asked<'a>(
+    alloc: Global,
+    version: &'a str,
+    words: &'a [String],
+) -> Result<Option<Question<'a>>, AllocError>
     ensures { list_any (λ word. is_asking_word (string_bytes word)) (drop 1 words.entry.now) ≡ false → result ≡ Ok None }
 {
     if !is_asking(words) {
         return Ok(None);
     }
-    let mut command = program(alloc)?;
+    let mut command = program(alloc, version)?;
     match command.try_get_matches_from_mut(words) {
         Ok(matches) => Ok(configuration_of(&matches).map(Question::Configuration)),
         Err(error) if error.kind() == ErrorKind::OutOfMemory => Err(AllocError),

@@ -4,9 +4,6 @@ use crate::flags::{FILTER, Flag, NODE, SERVE, SHARED};
 use clap::{Arg, Command};
 use std::alloc::{AllocError, Global};
 
-/// The version: the day of the newest entry of CHANGELOG.md.
-pub const VERSION: &str = "2026-11-26";
-
 /// The usage of `replay`, whose three forms take other words.
 const REPLAY_USAGE: &str = "cache_main replay <filter> <capture> [OPTIONS]
        cache_main replay --script <capture> --own <address> [OPTIONS]
@@ -17,11 +14,11 @@ const STATUSES: &str = "\
 Statuses: 0; 1 after a fault, with its line; 2 for words that are none of these; 3 where replay was told to fail.
 The manual is wabretos(1); docs/OPERATING.md and docs/REPLAY.md have all of it.";
 
-/// The program with all its commands.
-pub(crate) fn program<'a>(alloc: Global) -> Result<Command<'a>, AllocError> {
+/// The program with all its commands, of this version.
+pub(crate) fn program<'a>(alloc: Global, version: &'a str) -> Result<Command<'a>, AllocError> {
     Command::new(alloc, "cache_main")
         .bin_name("cache_main")?
-        .version(VERSION)
+        .version(version)
         .about(
             "Wabretos, a caching HTTP/1.1 proxy that asks its neighbours by ICP and HTCP, through filters",
         )

@@ -11,4 +11,3 @@ mod commands;
 mod flags;
 
 pub use asking::{Question, asked};
-pub use commands::VERSION;

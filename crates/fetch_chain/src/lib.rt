@@ -37,6 +37,9 @@ pub trait Begin: Drop {
 
 /// Takes results.
 pub trait Submit<T>: Drop {
+    /// Called once the thread has all that it needs to take jobs.
+    fn opened(&mut self) {}
+
     /// Takes one result. It blocks all other jobs of the thread until it returns.
     fn submit(&mut self, done: T);
 }
@@ -69,9 +72,9 @@ impl<F: Future, T: Tend> Future for Tended<F, T> {
     }
 }
 
-/// Runs the jobs of a channel, at most `most` concurrently, until all its senders are gone and the last job has ended. Passes
-/// each result to `seat` as soon as it is ready, and has `tend` look after what they leave. Errors: the event loop failed, or out of
-/// memory.
+/// Runs the jobs of a channel, at most `most` concurrently, until all its senders are gone and the last job has ended. Tells `seat` once
+/// it takes them, passes each result to it as soon as it is ready, and has `tend` look after what they leave. Errors: the event loop
+/// failed, or out of memory.
 pub fn run<R, B, S, T>(
     rt: &R,
     runtime: &mut LocalRuntime,
@@ -92,6 +95,7 @@ where
     let running = jobs
         .map(move |job| begin.begin(job))
         .buffer_unordered(rt.alloc(), most)?;
+    seat.opened();
     let jobs = running.for_each(|done| {
         seat.submit(done);
         ready(())

@@ -16,5 +16,5 @@ pub use addressing::{Destination, Peer, end_in_digits, origin_of, peer_of};
 pub use keeping::{Exchange, Life, Profile};
 pub use known_keys::KnownKeys;
 pub use mailbox::{Field, Flight, Landed, Mailbox, Waiting};
-pub use objects::{object_of, refusal, stale_object, via};
+pub use objects::{object_of, refusal, stale_object, unasked_object, via};
 pub use validating::{confirmed, hides_rules};

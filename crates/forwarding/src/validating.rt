@@ -8,15 +8,19 @@ use std::alloc::Global;
 /// The octets of names and values that an object's fields may have after a 304, some more than a head that is received can have.
 const MOST_OCTETS: usize = 65_536;
 
+/// The fields that an object may have after a 304, some more than a head that is received can have. Each takes memory and time beside
+/// its octets.
+const MOST_FIELDS: usize = 128;
+
 /// The whole response that a 304 with this head stands for, to a request with the validators of this object: the object's status
-/// and body, and its fields brought up to date. `None` if the 304 is not about the object, if its fields would have more than 65,536
-/// octets (each 304 may add some), or if out of memory.
+/// and body, and its fields brought up to date. `None` if the 304 is not about the object, if there would be more than 128 fields or
+/// they would have more than 65,536 octets (each 304 may add some), or if out of memory.
 pub fn confirmed(alloc: Global, head: &HeaderMap, object: &Object) -> Option<Page> {
     if !is_about(head, object.head()) {
         return None;
     }
     let fields = updated(alloc, head, object.head()).ok()?;
-    if octets_of(fields.as_slice()) > MOST_OCTETS {
+    if fields.len() > MOST_FIELDS || octets_of(fields.as_slice()) > MOST_OCTETS {
         return None;
     }
     let body = object.body().to_vec(alloc).ok()?;

@@ -1,7 +1,7 @@
 //! The administration server: installs and removes filters, and shows counters.
 use crate::account::SharedFacts;
 use crate::requests::{Answers, Given, TextKind};
-use crate::server::{ServeLimits, serve};
+use crate::server::{ClientSocket, ServeLimits, serve};
 use crate::texts::{no_log, not_administrator, stopping, text_of};
 use admin_page::PAGE;
 use client_streams::Stops;
@@ -370,5 +370,6 @@ where
         office: Rc::new(alloc, office)?,
     };
     let address = SocketAddr::V4(SocketAddrV4::new(Ipv4Addr::new(127, 0, 0, 1), port));
-    serve(rt, address, administrators, bound, stops, None, limits)
+    let socket = ClientSocket::bind(&rt, address, limits.connections)?;
+    serve(rt, socket, administrators, bound, stops, None, limits)
 }

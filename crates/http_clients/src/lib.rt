@@ -18,5 +18,5 @@ mod tunnel;
 mod upload;
 
 pub use administration::serve_admin;
-pub use server::ServeLimits;
+pub use server::{ClientSocket, ServeLimits, client_sockets};
 pub use serving::serve_clients;

@@ -8,7 +8,8 @@ use crate::requests::Answers;
 use crate::texts::{FORBIDDEN, forbidden};
 use crate::tunnel::Dialer;
 use client_streams::{
-    Accept, AcceptedClients, ClientLimits, Patient, Refusal, SharedStage, Stops, StreamTimeouts,
+    Accept, AcceptedClients, ClientLimits, Patient, Refusal, SeatShare, SharedStage, Stops,
+    StreamTimeouts, seat_shares,
 };
 use crossbeam_channel::Sender;
 use futures::Future;
@@ -19,12 +20,12 @@ use hyper::server::conn::http1;
 use hyper::server::conn::http1::Connection;
 use std::alloc::{AllocGlobal, Global};
 use std::hash::RandomState;
-use std::io;
 use std::net::{IpAddr, Net, SocketAddr};
 use std::random::RandomSource;
 use std::sync::atomic::AtomicUsize;
 use std::sync::{Arc, Wait};
 use std::time::{Clock, Duration};
+use std::{io, net};
 use tokio::net::{TcpListener, TcpStream};
 use tokio::runtime::{Handle, LocalRuntime};
 
@@ -33,12 +34,58 @@ use tokio::runtime::{Handle, LocalRuntime};
 pub struct ServeLimits {
     /// How long a client may stay silent.
     pub still: StreamTimeouts,
-    /// The concurrent connections of clients. A client that is not admitted is none of these: it is closed once its 403 is sent.
+    /// The concurrent connections of clients, on all threads that serve them. A client that is not admitted is none of these: it is closed
+    /// once its 403 is sent.
     pub connections: ClientLimits,
     /// How long open connections may continue after the server is told to stop.
     pub grace: Duration,
     /// The most octets of a request's content.
     pub content: usize,
+}
+
+/// A thread's handle to a listening socket, and its part in the seats of the clients that come there.
+#[derive(Drop)]
+pub struct ClientSocket {
+    /// The socket.
+    pub listener: net::TcpListener,
+    /// The seats.
+    pub seats: SeatShare,
+}
+
+impl ClientSocket {
+    /// Listens at this address, for one thread. Errors: the socket cannot be bound, or out of memory.
+    pub fn bind<R: Net + AllocGlobal>(
+        rt: &R,
+        address: SocketAddr,
+        limits: ClientLimits,
+    ) -> io::Result<ClientSocket> {
+        Ok(ClientSocket {
+            listener: listen(rt, address)?,
+            seats: SeatShare::alone(rt.alloc(), limits)?,
+        })
+    }
+}
+
+/// Listens at this address, once for so many threads, which have these limits together. Returns the handle of each. Errors: the socket
+/// cannot be bound, there are no more descriptors, or out of memory.
+pub fn client_sockets<R: Net + AllocGlobal>(
+    rt: &R,
+    address: SocketAddr,
+    limits: ClientLimits,
+    threads: usize,
+) -> io::Result<Vec<ClientSocket>> {
+    let bound = listen(rt, address)?;
+    let mut sockets = Vec::with_capacity(rt.alloc(), threads)?;
+    for seats in seat_shares(rt.alloc(), limits, threads)? {
+        let listener = bound.try_clone()?;
+        sockets.push(ClientSocket { listener, seats })?;
+    }
+    Ok(sockets)
+}
+
+// A listening socket with the longest queue that the system allows, whose accept does not block.
+fn listen<R: Net>(rt: &R, address: SocketAddr) -> io::Result<net::TcpListener> {
+    Ok(net::TcpListener::from(mio::net::TcpListener::bind(rt, address)?))
 }
 
 // Makes the HTTP connection of each client.
@@ -224,7 +271,7 @@ where
 /// is ready before. Sends the address to `bound` once clients are accepted. Errors: the socket or the event loop failed.
 pub(crate) fn serve<R, H>(
     rt: R,
-    address: SocketAddr,
+    socket: ClientSocket,
     answers: H,
     bound: Sender<SocketAddr, Global>,
     stops: Stops,
@@ -238,13 +285,14 @@ where
     let mut runtime = LocalRuntime::new(&rt)?;
     // The stream of clients ends with the grace.
     runtime.set_shutdown_timeout(Some(Duration::ZERO));
-    let listener = TcpListener::bind(&rt, address, runtime.handle().reactor())?;
+    let ClientSocket { listener, seats } = socket;
+    let listener = TcpListener::from_std(listener, runtime.handle().reactor())?;
     let bound = Bound {
         address: listener.local_addr()?,
         to: bound,
     };
     let http = http_of(rt, &runtime, answers, bound, open, limits)?;
-    run_accepted(rt, runtime, listener, stops, http, limits)
+    run_accepted(rt, runtime, listener, seats, stops, http, limits)
 }
 
 // Runs a server that accepts by `accept`. A function of its own, since of a type that is named little is known here, and much has to be
@@ -253,6 +301,7 @@ fn run_accepted<R, A>(
     rt: R,
     runtime: LocalRuntime,
     listener: TcpListener,
+    seats: SeatShare,
     stops: Stops,
     accept: A,
     limits: ServeLimits,
@@ -265,6 +314,8 @@ where
     let timers = runtime.handle().time().clone()?;
     let (most, grace) = (limits.connections, limits.grace);
     let alloc = rt.alloc();
-    let clients = AcceptedClients::new(rt, alloc, timers, listener, stops, grace, accept, most)?;
+    let clients = AcceptedClients::new(
+        rt, alloc, timers, listener, stops, grace, accept, most, seats,
+    )?;
     runtime.run_all(&rt, clients)
 }

@@ -5,7 +5,7 @@ ghost use Rattle.futures.specs.Task.{Covers, Keeps};
 
 use crate::account::SharedFacts;
 use crate::requests::{Answers, Given, PassedAnswer, TextKind};
-use crate::server::{ServeLimits, serve};
+use crate::server::{ClientSocket, ServeLimits, serve};
 use client_streams::Stops;
 use crossbeam_channel::Sender;
 use futures::channel::oneshot;
@@ -319,7 +319,13 @@ impl<F: Front + FollowUp + PassOn> Waiting<F> {
     fn is_for_another(&self, answer: &Option<Outcome>) -> bool {
         if let Some(waits) = &self.waits
             && waits.forward == Forward::Collapsed
-            && let Some(Outcome::Got { object, supplier }) = answer
+            && let Some(
+                Outcome::Got {
+                    object,
+                    supplier,
+                    ..
+                },
+            ) = answer
         {
             return object.get().life() == 0 && stale_age(*supplier).is_none();
         }
@@ -533,16 +539,20 @@ fn given_of(
     answer: Outcome,
     shape: Shape,
 ) -> Result<Given, u16> {
-    let (object, age, supplier) = match answer {
-        Outcome::Hit { object, age } => (object, Some(age), None),
-        Outcome::Got { object, supplier } => (object, stale_age(supplier), supplier),
+    let (object, age, supplier, is_stored) = match answer {
+        Outcome::Hit { object, age } => (object, Some(age), None, false),
+        Outcome::Got {
+            object,
+            supplier,
+            is_stored,
+        } => (object, stale_age(supplier), supplier, is_stored),
         Outcome::Fail(status) => return Err(status),
     };
     let told = match (age, supplier) {
         (_, Some(Supplier::Stale(_))) => told_stale(alloc, label),
-        (_, Some(Supplier::Confirmed)) => told_confirmed(alloc, label, forward),
+        (_, Some(Supplier::Confirmed)) => told_confirmed(alloc, label, forward, is_stored),
         (Some(age), _) => told_hit(alloc, label, ttl_of(&object, age)),
-        (None, _) => told_forward(alloc, label, forward),
+        (None, _) => told_forward(alloc, label, forward, is_stored),
     };
     match told {
         Ok(told) => Ok(Given::Object {
@@ -587,7 +597,12 @@ fn told_stale(alloc: Global, label: &[u8]) -> Result<Vec<u8>, AllocError> {
 }
 
 // The Cache-Status member of a forwarded request.
-fn told_forward(alloc: Global, label: &[u8], forward: Forward) -> Result<Vec<u8>, AllocError> {
+fn told_forward(
+    alloc: Global,
+    label: &[u8],
+    forward: Forward,
+    is_stored: bool,
+) -> Result<Vec<u8>, AllocError> {
     let mut told = label.to_vec(alloc)?;
     let how: &[u8] = match forward {
         Forward::Miss => b"; fwd=miss",
@@ -595,11 +610,25 @@ fn told_forward(alloc: Global, label: &[u8], forward: Forward) -> Result<Vec<u8>
         Forward::Bypass => b"; fwd=bypass",
     };
     told.extend_from_slice(how)?;
+    tell_stored(&mut told, forward, is_stored)?;
     Ok(told)
 }
 
+// Tells that a fetched object was stored, unless it was fetched for its client alone.
+fn tell_stored(told: &mut Vec<u8>, forward: Forward, is_stored: bool) -> Result<(), AllocError> {
+    if is_stored && forward != Forward::Bypass {
+        told.extend_from_slice(b"; stored")?;
+    }
+    Ok(())
+}
+
 // The Cache-Status member of a forwarded request whose answer was there and is confirmed by a 304.
-fn told_confirmed(alloc: Global, label: &[u8], forward: Forward) -> Result<Vec<u8>, AllocError> {
+fn told_confirmed(
+    alloc: Global,
+    label: &[u8],
+    forward: Forward,
+    is_stored: bool,
+) -> Result<Vec<u8>, AllocError> {
     let mut told = label.to_vec(alloc)?;
     let how: &[u8] = match forward {
         Forward::Miss => b"; fwd=stale; fwd-status=304",
@@ -607,6 +636,7 @@ fn told_confirmed(alloc: Global, label: &[u8], forward: Forward) -> Result<Vec<u
         Forward::Bypass => b"; fwd=bypass; fwd-status=304",
     };
     told.extend_from_slice(how)?;
+    tell_stored(&mut told, forward, is_stored)?;
     Ok(told)
 }
 
@@ -661,10 +691,10 @@ fn is_token_octet(octet: u8) -> bool {
     octet.is_ascii_alphanumeric() || b"!#$%&'*+-.^_`|~:/".contains(&octet)
 }
 
-/// Serves clients on the calling thread, as many concurrently as `limits.connections` says, until `stops.stop` is ready or its sender
-/// is dropped; open connections then have `limits.grace` to end, unless `stops.hurry` is ready before. Sends the address to `bound`
-/// once clients are accepted, and keeps in `open` how many connections of clients are open that are admitted. Errors: the socket or the
-/// event loop failed.
+/// Serves clients on the calling thread, as many concurrently as `limits.connections` says together with the other threads that have
+/// handles to the socket, until `stops.stop` is ready or its sender is dropped; open connections then have `limits.grace` to end, unless
+/// `stops.hurry` is ready before. Sends the address to `bound` once clients are accepted, and counts in `open` the connections of clients
+/// that are open and admitted. Errors: the socket or the event loop failed.
 ///
 /// A request is taken as `Front::road` says by its method: answered through the node, passed on with its content and the answer's
 /// as they come, or refused. An answer that `PassOn::is_large` says is too long to be stored is passed on as well. A client that is
@@ -679,7 +709,7 @@ fn is_token_octet(octet: u8) -> bool {
 /// not told.
 pub fn serve_clients<R, F>(
     rt: R,
-    address: SocketAddr,
+    socket: ClientSocket,
     name: &str,
     front: F,
     bound: Sender<SocketAddr, Global>,
@@ -701,5 +731,5 @@ where
     let clients = FrontAnswers {
         context: Rc::new(alloc, context)?,
     };
-    serve(rt, address, clients, bound, stops, Some(open), limits)
+    serve(rt, socket, clients, bound, stops, Some(open), limits)
 }

@@ -194,6 +194,21 @@ impl<R: Wait + Copy> Get<R> {
     }
 }
 
+impl<R: Wait + Copy> Get<R> {
+    // Whether its connection may be kept: connections are, and the request has no credentials. There are servers that take those for
+    // the credentials of all requests on their connection (RFC 9110, section 3.3), so that another client would be taken for this one.
+    fn may_last(&self) -> bool {
+        self.kept.is_some() && !has_credentials(self.fields.as_slice())
+    }
+}
+
+// Whether one of these fields is Authorization.
+fn has_credentials(fields: &[(Vec<u8>, Vec<u8>)]) -> bool {
+    fields
+        .iter()
+        .any(|(name, _)| name.as_slice() == b"authorization".as_slice())
+}
+
 impl<R: Wait + Clock + Copy> Get<R> {
     // The patience with a connection whose octets are noted here, if it is limited.
     fn patience(&self, moves: &Moves) -> Option<Patience<R>> {
@@ -242,7 +257,7 @@ impl<R: Wait + Clock + Copy> Get<R> {
             share: self.share(moves),
         };
         let patience = self.patience(moves);
-        let getting = begun(&self.http, noted, request, metered, self.kept.is_some())?;
+        let getting = begun(&self.http, noted, request, metered, self.may_last())?;
         Some(Patient::new(getting, patience))
     }
 }

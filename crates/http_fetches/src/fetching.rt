@@ -418,6 +418,10 @@ struct PassOn<'a, S> {
 }
 
 impl<P: Drop, S: Submit<Fetched>> Submit<Done<P>> for PassOn<'_, S> {
+    fn opened(&mut self) {
+        self.seat.opened();
+    }
+
     fn submit(&mut self, done: Done<P>) {
         let Done { fetched, purse } = done;
         if let Some(fetched) = fetched {
@@ -462,9 +466,9 @@ where
     })
 }
 
-/// Runs the jobs of a channel until all its senders are gone and the last job has ended. Each job has a connection to itself, a new one or
-/// for a fetch one that is kept, and a fetch passes its result to `seat`. `MOST_PASSAGES` requests that are passed on take no place of the fetches. Errors: the event loop
-/// failed, or out of memory.
+/// Runs the jobs of a channel until all its senders are gone and the last job has ended, after `seat` was told that it can. Each job has
+/// a connection to itself, a new one or for a fetch one that is kept, and a fetch passes its result to `seat`. `MOST_PASSAGES` requests
+/// that are passed on take no place of the fetches. Errors: the event loop failed, or out of memory.
 pub fn run_fetches<R, S, A>(
     rt: R,
     jobs: UnboundedReceiver<Job>,

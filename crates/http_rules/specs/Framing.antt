@@ -1,4 +1,5 @@
--- How the end of a body is known (RFC 9112, section 6.3).
+-- How the end of a body is known (RFC 9112, section 6.3). A Transfer-Encoding tells it if chunked is its last coding: what asks here
+-- has read the answer, and reads none with another coding than chunked alone.
 use Rattle.std.specs.Prelude.{List, codes, ◌||◌, Bool}
 use Rattle.http_rules.specs.Fields.{Field, has_field}
 

@@ -3,7 +3,7 @@
 use Rattle.std.specs.Prelude.{ℕ, ◌-◌, nat_le, nat_lt, ◌&&◌, Bool, false, Option, Some, None}
 use Rattle.http_rules.specs.declared.parts.PartRequests.{PartRequests}
 
--- whether a time is there, and less than a minute ago
+-- whether a time is there, and less than a minute ago; one that is still to come counts as now
 abbrev pub is_recent : ℕ → Option ℕ → Bool
 is_recent now None = false
 is_recent now (Some at) = nat_lt (now - at) 60000

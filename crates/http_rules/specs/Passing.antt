@@ -36,8 +36,9 @@ is_zero (Some n) = n == 0
 abbrev pub has_no_hops : List Field → Bool
 has_no_hops fields = list_any (λ value. is_zero (hops value)) (values_of (codes "max-forwards") fields)
 
--- the fields that are made anew: framing and host are those of the next connection, and this proxy asks for the content itself, so
--- that no expectation goes on (section 10.1.1 lets it)
+-- the fields that do not go on as they came: framing and host are those of the next connection. Expect ends here: this proxy asks for
+-- the content itself, as it begins to read it. An exception to section 10.1.1, by which a proxy does so only for a next server that
+-- speaks HTTP/1.0: so the client sends its content whatever the server says to the head
 abbrev pub is_made_anew : List ℕ → Bool
 is_made_anew name = list_any (bytes_eq name) (codes "host" ∷ codes "expect" ∷ codes "content-length" ∷ [])
 

@@ -12,7 +12,8 @@ use Rattle.http_rules.specs.Fields.{Field}
 use Rattle.http_rules.specs.Text.{trimmed, seconds}
 use Rattle.http_rules.specs.Validators.{only_value}
 
--- the value of digits: no content has 2^64 - 1 octets, so this and every larger number count as one behind the end
+-- the value of digits: no content has 2^64 - 1 octets, so this and every larger number count as one behind the end. Of two such numbers
+-- the first counts as not after the last
 abbrev pub number_of : List ℕ → ℕ
 number_of digits = min (value_after 0 digits) (2 ^ 64 - 1)
 

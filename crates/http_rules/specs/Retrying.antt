@@ -9,7 +9,8 @@ use Rattle.http_rules.specs.Passing.{is_unsafe}
 abbrev pub is_without_body : ℕ → Bool
 is_without_body status = status == 204 || status == 304
 
--- whether the end of a body is told by one framing and not by another one, too (RFC 9112, sections 6.1 and 6.3)
+-- whether the end of a body is told by one framing and not by another one, too (RFC 9112, sections 6.1 and 6.3). A Transfer-Encoding is
+-- chunked alone here, as in `tells_end`
 abbrev pub has_one_framing : List Field → Bool
 has_one_framing fields =
     if has_field (codes "transfer-encoding") fields then not (has_field (codes "content-length") fields)

@@ -27,6 +27,6 @@ abbrev pub is_fresh_enough : ℕ → List Field → Bool
 is_fresh_enough life fields = is_met (λ least. nat_le least life) (argument (codes "min-fresh") fields)
 
 -- whether a request accepts a stored response of this age, which stays fresh for so many seconds. One that is stale is not
--- accepted, whatever max-stale says (section 5.2.1.2).
+-- accepted by these: Stale has what max-stale accepts (section 5.2.1.2).
 abbrev pub accepts : ℕ → ℕ → List Field → Bool
 accepts age life fields = nat_lt 0 life && (is_young_enough age fields && is_fresh_enough life fields)

@@ -1,7 +1,7 @@
--- When a stored object may be served that is stale (RFC 9111, section 4.2.4; RFC 5861). Times are in seconds.
-use Rattle.std.specs.Prelude.{ℕ, ◌-◌, List, codes, nat_le, nat_lt, ◌==◌, not, ◌&&◌, ◌||◌, Bool, false, Option, Some, None, is_some, option_and_then, if◌then◌else◌}
+-- When a stored object may be served that is stale (RFC 9111, sections 4.2.4 and 5.2.1.2; RFC 5861). Times are in seconds.
+use Rattle.std.specs.Prelude.{ℕ, ◌-◌, List, [], ◌∷◌, codes, nat_le, nat_lt, ◌==◌, not, ◌&&◌, ◌||◌, Bool, true, false, Option, Some, None, is_some, option_map, option_and_then, unwrap_or, if◌then◌else◌}
 use Rattle.http_rules.specs.declared.stale.StaleUse.{StaleUse}
-use Rattle.http_rules.specs.declared.stale.StaleUse.TheVariants.{InPlaceOfError, WhileValidated}
+use Rattle.http_rules.specs.declared.stale.StaleUse.TheVariants.{InPlaceOfError, WhileValidated, Accepted}
 use Rattle.http_rules.specs.Fields.{Field}
 use Rattle.http_rules.specs.Directives.{argument, argument_seconds, asks, has_unclosed}
 
@@ -43,11 +43,14 @@ is_within staleness None = false
 is_within staleness (Some most) = nat_le staleness most
 
 -- whether an object that has been stale for so long may be used for this: in place of an error by stale-if-error (RFC 5861, section 4)
--- or by the operator, and while it is validated by stale-while-revalidate (RFC 5861, section 3)
+-- or by the operator, while it is validated by stale-while-revalidate (RFC 5861, section 3), and where the client accepts it for so long,
+-- whatever the object says (RFC 9111, section 5.2.1.2)
 abbrev pub permits : StaleUse → ℕ → ℕ → List Field → Bool
 permits InPlaceOfError staleness operators fields =
     is_within staleness (window (codes "stale-if-error") fields) || is_within staleness (operators_window operators)
 permits WhileValidated staleness operators fields = is_within staleness (window (codes "stale-while-revalidate") fields)
+permits (Accepted None) staleness operators fields = true
+permits (Accepted (Some most)) staleness operators fields = nat_le staleness most
 
 -- whether an object is stale and may be used for this. It came `stay` seconds ago and was fresh for `life` seconds from then on, so
 -- that it has been stale for the difference.
@@ -63,6 +66,20 @@ has_stale_use operators fields =
     || is_some (window (codes "stale-while-revalidate") fields))
 
 -- whether a request takes what is stale: with max-age it wants nothing stale (RFC 9111, section 5.2.1.1), and with min-fresh something
--- that is fresh for a time (section 5.2.1.3)
+-- that is fresh for a time (section 5.2.1.3). A max-stale beside them, which would take that back (section 5.2.1.2), is not looked at
 abbrev pub takes_stale : List Field → Bool
 takes_stale request = not (asks (codes "max-age") request || asks (codes "min-fresh") request)
+
+-- what is accepted by an argument of max-stale (RFC 9111, section 5.2.1.2): without one what has been stale for any time, otherwise for
+-- at most so many seconds; an argument that is no number accepts nothing
+abbrev pub accepted_by : List ℕ → Option StaleUse
+accepted_by [] = Some (Accepted None)
+accepted_by (c ∷ cs) = option_map (λ most. Accepted (Some most)) (argument_seconds (c ∷ cs))
+
+-- what a request takes that is stale while it waits for nothing else: with max-stale what it accepts by that, otherwise what may be
+-- given while it is validated
+abbrev pub stale_use : List Field → Option StaleUse
+stale_use request =
+    if takes_stale request
+    then unwrap_or (option_map accepted_by (argument (codes "max-stale") request)) (Some WhileValidated)
+    else None

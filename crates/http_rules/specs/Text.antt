@@ -1,5 +1,5 @@
 -- Text helpers and delta-seconds (RFC 9111, section 1.2.2).
--- 34 is a double quote, 48 the digit 0.
+-- 34 is a double quote.
 use Rattle.std.specs.Prelude.{ℕ, ◌-◌, List, length, take, drop, min, slice_index, slice_range, nat_le, ◌==◌, ◌&&◌, Option, Some, None, if◌then◌else◌}
 use Rattle.std.specs.List.{prefix_len, suffix_len}
 use Rattle.std.specs.Char.{is_ascii_whitespace}

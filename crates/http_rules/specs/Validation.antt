@@ -53,7 +53,7 @@ is_same_date (Some given) (Some stored) = given == stored
 is_same_date (Some given) None = false
 is_same_date None stored = false
 
--- a Last-Modified of a response with status 304, if it has one, is that of the object
+-- a Last-Modified of a response with status 304, if it has one, is that of the object, as a date: one that is no date is nobody's
 abbrev pub is_as_old : List Field → List Field → Bool
 is_as_old response object =
     not (has_field (codes "last-modified") response)

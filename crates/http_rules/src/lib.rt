@@ -66,7 +66,9 @@ pub use request::classify;
 pub use response::may_store;
 pub use retrying::{lasts, may_retry};
 pub use reuse::accepts;
-pub use stale::{StaleUse, has_stale_use, is_error, may_serve_stale, supersedes, takes_stale};
+pub use stale::{
+    StaleUse, has_stale_use, is_error, may_serve_stale, stale_use, supersedes, takes_stale,
+};
 pub use target::{TargetFault, key_of, key_of_url};
 pub use updating::updated;
 pub use validation::{conditions_for, has_validator, is_about, may_validate};

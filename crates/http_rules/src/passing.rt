@@ -18,7 +18,7 @@ pub fn is_unsafe(method: &str) -> bool
 }
 
 /// What becomes of a request with this method and head: whether it is passed on, and the fields that are forwarded, as
-/// [`end_to_end`] has them, without Host, Expect and Content-Length, which are made anew.
+/// [`end_to_end`] has them, without Host and Content-Length, which are made anew, and Expect, which is answered here.
 ///
 /// Max-Forwards counts in requests with OPTIONS (RFC 9110, section 7.6.2; TRACE is not passed on): with 0 this proxy is the last recipient, another
 /// number is forwarded less one, at most 2,147,483,647, and what is no number as it is.
@@ -83,7 +83,7 @@ fn onward_fields(
     Ok(kept)
 }
 
-// Whether fields with this name are made anew for a request that is passed on.
+// Whether fields with this name do not go on as they came: they are made anew, or end here.
 fn is_made_anew(name: &[u8]) -> bool
     ensures { result ≡ is_made_anew name.now }
 {

@@ -1,6 +1,7 @@
 //! Whether a connection to a server lasts beyond an answer, and whether a request that failed on it may be sent once more.
-ghost use Rattle.std.specs.Prelude.{◌≡◌, IfOk};
+ghost use Rattle.std.specs.Prelude.{◌≡◌, ◌<◌, IfOk, IsErrOf, length};
 ghost use Rattle.http_rules.specs.Fields.{fields_of};
+ghost use Rattle.http_rules.specs.Forwarding.{options};
 ghost use Rattle.http_rules.specs.Retrying.{has_length, has_one_framing, is_without_body, lasts, may_retry};
 
 use crate::fields::has_field;
@@ -21,7 +22,8 @@ pub fn lasts(
     status: u16,
     head: &HeaderMap,
 ) -> Result<bool, PassFault>
-    ensures { IfOk result (λ it. it ≡ lasts is_newest status (fields_of head.now)) }
+    ensures value { IfOk result (λ it. it ≡ lasts is_newest status (fields_of head.now)) }
+    ensures many { IsErrOf result PassFault.TooManyNames → 64 < length (options (fields_of head.now)) }
 {
     let options = Options::of(alloc, head)?;
     let is_open = is_newest && !options.contains(b"close");

@@ -34,8 +34,8 @@ fn may_have_no_cache(value: &[u8]) -> bool
 
 /// Whether a request with these fields accepts a stored response that has this age and stays fresh for `life` seconds: its
 /// `max-age` is no less than the age (RFC 9111, section 5.2.1.1), and its `min-fresh` is no more than the life (section 5.2.1.3). A
-/// directive whose argument is no number accepts nothing. `max-stale` (section 5.2.1.2) never helps: nothing stale is kept, and a
-/// response whose life is 0 is not accepted.
+/// directive whose argument is no number accepts nothing. Nor is a response accepted whose life is 0: what `max-stale` accepts (section
+/// 5.2.1.2) is judged by `stale_use`.
 pub fn accepts(head: &HeaderMap, age: u32, life: u32) -> bool
     ensures { result ≡ accepts age life (fields_of head.now) }
 {

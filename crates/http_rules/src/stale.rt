@@ -1,9 +1,9 @@
-//! When an object may be served that is stale (RFC 9111, section 4.2.4; RFC 5861).
+//! When an object may be served that is stale (RFC 9111, sections 4.2.4 and 5.2.1.2; RFC 5861).
 ghost use Rattle.std.specs.Prelude.{◌≡◌, codes};
 ghost use Rattle.http_header.specs.Token.{lowercase};
 ghost use Rattle.http_rules.specs.Fields.{fields_of};
 ghost use Rattle.http_rules.specs.Validators.{stored_fields};
-ghost use Rattle.http_rules.specs.Stale.{is_error, supersedes, prohibits_stale, window, operators_window, is_within, permits, may_serve_stale, has_stale_use, takes_stale};
+ghost use Rattle.http_rules.specs.Stale.{is_error, supersedes, prohibits_stale, window, operators_window, is_within, permits, may_serve_stale, has_stale_use, takes_stale, accepted_by, stale_use};
 
 use crate::directives::argument_seconds;
 use crate::named_directive::{argument_of, has_stored_unclosed, stored_argument};
@@ -16,6 +16,8 @@ pub enum StaleUse {
     InPlaceOfError,
     /// Its origin server is asked about it meanwhile (RFC 5861, section 3).
     WhileValidated,
+    /// The client accepts what has been stale for at most so many seconds, `None` for any time (RFC 9111, section 5.2.1.2).
+    Accepted(Option<u32>),
 }
 
 /// Whether a status is an error in whose place a stale object may be served: 500, 502, 503 or 504 (RFC 5861, section 4).
@@ -37,8 +39,8 @@ pub fn supersedes(status: u16) -> bool
 /// on.
 ///
 /// In place of an error it may if it has been stale for at most as many seconds as its `stale-if-error` says, or as the operator
-/// allows, whose 0 allows nothing; while it is validated, if for at most as many as its `stale-while-revalidate` says. A directive
-/// whose argument is no number allows nothing. With `no-cache`, `must-revalidate`, `proxy-revalidate` or `s-maxage`, or a Cache-Control
+/// allows, whose 0 allows nothing; while it is validated, if for at most as many as its `stale-while-revalidate` says; where the client
+/// accepts it, if for at most as many as the client says. A directive whose argument is no number allows nothing. With `no-cache`, `must-revalidate`, `proxy-revalidate` or `s-maxage`, or a Cache-Control
 /// value with an unclosed quote, it never may (RFC 9111, section 4.2.4).
 pub fn may_serve_stale(
     object: &[(Vec<u8>, Vec<u8>)],
@@ -72,6 +74,32 @@ pub fn takes_stale(head: &HeaderMap) -> bool
     !(argument_of(head, b"max-age").is_some() || argument_of(head, b"min-fresh").is_some())
 }
 
+/// How a request takes what is stale, without waiting for a response that is not: not at all with `max-age` or `min-fresh`; as its
+/// `max-stale` says, which accepts nothing if its argument is no number (RFC 9111, section 5.2.1.2); otherwise what is validated
+/// meanwhile.
+pub fn stale_use(head: &HeaderMap) -> Option<StaleUse>
+    ensures { result ≡ stale_use (fields_of head.now) }
+{
+    if !takes_stale(head) {
+        return None;
+    }
+    match argument_of(head, b"max-stale") {
+        Some(argument) => accepted_by(argument),
+        None => Some(StaleUse::WhileValidated),
+    }
+}
+
+// What is accepted by an argument of max-stale.
+fn accepted_by(argument: &[u8]) -> Option<StaleUse>
+    ensures { result ≡ accepted_by argument.now }
+{
+    if argument.is_empty() {
+        return Some(StaleUse::Accepted(None));
+    }
+    let most = argument_seconds(argument)?;
+    Some(StaleUse::Accepted(Some(most)))
+}
+
 // Whether an object must not be served while it is stale.
 fn prohibits_stale(object: &[(Vec<u8>, Vec<u8>)]) -> bool
     ensures { result ≡ prohibits_stale (stored_fields object.now) }
@@ -98,6 +126,8 @@ fn permits(
                 || is_within(staleness, operators_window(operators))
         }
         StaleUse::WhileValidated => is_within(staleness, window(object, b"stale-while-revalidate")),
+        StaleUse::Accepted(Some(most)) => staleness <= most,
+        StaleUse::Accepted(None) => true,
     }
 }
 

@@ -46,6 +46,8 @@ pub enum Outcome {
     Got {
         object: SharedObject,
         supplier: Option<Supplier>,
+        /// Whether the client is told that the object was stored.
+        is_stored: bool,
     },
     /// No object; answer with this status.
     Fail(u16),

@@ -15,7 +15,7 @@ rest_after octets next end some =
     drop-drop (end - next) next octets ∙ ap (λ n. drop n octets) place
 
 -- they are the first of the octets from the lower index on; those from the upper index on remain
-pub gives_piece : (octets : List ℕ) (next end : ℕ) → next < end → end ≤ length octets → end ≤ next + 65536
+pub gives_piece : (octets : List ℕ) (next end : ℕ) → next < end → end ≤ length octets → end ≤ next + 131072
     → Gives (drop next octets) (Ok (data_frame (take (end - next) (drop next octets)))) (drop end octets)
 gives_piece octets next end some within most =
     let long = piece_length octets next end some within in

@@ -9,13 +9,13 @@ use Rattle.futures.specs.Runs.{Runs}
 abbrev pub Answer : Type 0
 Answer = Result (Frame (List ℕ)) AllocError
 
--- a frame holds the first 1 to 65,536 of the octets, and the rest remain
+-- a frame holds the first 1 to 131,072 of the octets, and the rest remain
 pub record IsPiece (octets : List ℕ) (answer : Answer) (rest : List ℕ) : Type 0 where
   pub piece : List ℕ
   pub given : answer ≡ Ok (data_frame piece)
   pub first : octets ≡ piece ++ rest
   pub some : 0 < length piece
-  pub most : length piece ≤ 65536
+  pub most : length piece ≤ 131072
 
 -- after an allocation failure all octets remain
 pub record IsWant (octets : List ℕ) (answer : Answer) (rest : List ℕ) : Type 0 where

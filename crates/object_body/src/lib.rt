@@ -1,5 +1,5 @@
 //! The HTTP body of a response: the octets of a text, or of a stored object that many responses share or of a part of it, at most
-//! 64 KiB a frame.
+//! 64 KiB a frame, or 128 KiB of a long object, which a frame shares with it and does not copy.
 //!
 //! Contracts see a body as the octets that remain. They prove that the frames are those octets in order, that the body ends only
 //! when none remain, and that the size hint is exact; an allocation failure loses nothing.
@@ -7,7 +7,7 @@
 //! Tested by: crates/test_edge.
 #![tactic(auto)]
 
-ghost use Rattle.std.specs.Prelude.{◌≡◌, Some, length, take, drop};
+ghost use Rattle.std.specs.Prelude.{◌≡◌, ◌<◌, ◌≤◌, Some, IfOk, length, take, drop, slice_range};
 ghost use Rattle.http_body.specs.SizeHint.{exact};
 ghost use Rattle.object_body.specs.Octets.{source_octets};
 ghost use Rattle.object_body.specs.Pieces.{in_pieces};
@@ -19,8 +19,11 @@ use object_store::SharedObject;
 use std::alloc::{AllocError, Global};
 use std::marker::Model;
 
-// The most octets of a frame.
+// The most octets of a frame that is a copy.
 const PIECE: usize = 64 * 1024;
+
+// The most octets of a frame that is shared with a long object: as many as the HTTP server sends without a copy of its own.
+const SHARED_PIECE: usize = 128 * 1024;
 
 // The octets of a body.
 #[derive(Drop)]
@@ -41,6 +44,38 @@ impl Source {
             Source::Text(text) => text.as_slice(),
         }
     }
+
+    // The most octets of a frame of it.
+    fn most(&self) -> usize
+        ensures { (0 < result) × (result ≤ 131072) }
+    {
+        match self {
+            Source::Object(object) | Source::Front(object, _) if is_long(object) => SHARED_PIECE,
+            _ => PIECE,
+        }
+    }
+
+    // The octets from the place `first` to the one before `end`, shared if they can be.
+    fn octets(&self, alloc: Global, first: usize, end: usize) -> Result<Bytes, AllocError>
+        requires places { (first ≤ end) × (end ≤ length (source_octets self.now)) }
+        ensures { IfOk result (λ octets. octets ≡ slice_range (source_octets self.now) first end) }
+    {
+        let shared = match self {
+            Source::Object(object) | Source::Front(object, _) => object
+                .get()
+                .share_body(first, end),
+            Source::Text(_) => None,
+        };
+        match shared {
+            Some(octets) => Ok(octets),
+            None => Bytes::copy_from_slice(alloc, &self.as_slice()[first..end]),
+        }
+    }
+}
+
+// Whether frames share the octets of an object, as a rule.
+fn is_long(object: &SharedObject) -> bool {
+    object.get().body().len() >= SHARED_PIECE
 }
 
 // The first octets, of which there are at most so many.
@@ -54,7 +89,8 @@ fn up_to(octets: &[u8], end: usize) -> &[u8]
     }
 }
 
-/// The octets of an object, of a part of it or of a text, in frames of at most 64 KiB. Contracts see the octets that remain.
+/// The octets of an object, of a part of it or of a text, in frames of at most 64 KiB, or of at most 128 KiB that are shared with the
+/// object. Contracts see the octets that remain.
 #[derive(Drop)]
 pub struct Portions {
     alloc: Global,
@@ -128,8 +164,9 @@ impl Body for Portions {
         if content.len() <= self.next {
             return Poll::Ready(None);
         }
-        let end = content.len().min(self.next.saturating_add(PIECE));
-        match Bytes::copy_from_slice(self.alloc, &content[self.next..end]) {
+        let most = self.source.most();
+        let end = content.len().min(self.next.saturating_add(most));
+        match self.source.octets(self.alloc, self.next, end) {
             Ok(piece) => {
                 self.next = end;
                 Poll::Ready(Some(Ok(Frame::data(piece))))

@@ -8,9 +8,9 @@ use crossbeam_channel::Sender;
 use forwarding::{Field, KnownKeys, Profile, Waiting, end_in_digits};
 use futures::channel::oneshot;
 use http_rules::{
-    Mirror, PassFault, StaleUse, Stored, StoredAnswer, TargetFault, answer_to, choose, classify,
+    Mirror, PassFault, Stored, StoredAnswer, TargetFault, answer_to, choose, classify,
     content_range, end_to_end, has_come_back, is_for_a_part, is_in_not_modified, is_plain_request,
-    may_validate, mirrored, takes_stale, unsatisfied_range,
+    may_validate, mirrored, stale_use, unsatisfied_range,
 };
 use http_traffic::{
     Asked, Asking, FollowUp, Forward, Front, How, Outcome, PassOn, Shape, Supplier, Told,
@@ -20,6 +20,7 @@ use object_store::{CacheKey, Object};
 use std::alloc::{AllocError, Global};
 use std::io;
 use std::net::{Ipv4Addr, SocketAddr};
+use std::sync::atomic::Ordering;
 use std::sync::ledger::Ledger;
 use std::sync::{Arc, Mutex, Wait};
 use std::time::{Clock, Instant};
@@ -42,7 +43,7 @@ pub trait ServeFront: Drop {
     fn serve<F: Front + FollowUp + PassOn>(self, front: F) -> io::Result<()>;
 }
 
-/// Submits client requests to the node and counts the answers. Owned by the client thread.
+/// Submits client requests to the node and counts the answers. Owned by a thread that serves clients.
 #[derive(Drop)]
 pub struct NodeFront<R, L: Ledger> {
     pub rt: R,
@@ -51,13 +52,15 @@ pub struct NodeFront<R, L: Ledger> {
     pub proxy: Arc<ProxyState<L>>,
     /// The thread's handle to the node. Only this thread locks it; a second owner takes the seat back after the server ends.
     pub node: Arc<Mutex<NodeHandle<R, L>>>,
-    pub rules: FrontRules,
+    pub rules: Arc<FrontRules>,
     /// The keys of targets that were asked for before.
     pub keys: KnownKeys,
-    /// The number of the last client; the first one is 1.
+    /// The number of the last client. It begins with the thread's own, which is less than `step`.
     pub last: u64,
-    /// Answers to give before the proxy stops; 0 means no limit.
-    pub left: u64,
+    /// What each client's number is more than that of the one before: how many threads serve clients, so that no two have a number.
+    pub step: u64,
+    /// Answers that all threads give before the proxy stops; 0 means no limit.
+    pub stop_after: u64,
     /// Receives a message when the last answer has been given.
     pub stop: Sender<(), Global>,
 }
@@ -238,6 +241,12 @@ impl<R: Wait + Clock + Drop, L: Ledger> NodeFront<R, L> {
         })
     }
 
+    /// The number of a new client, which no other has.
+    pub(crate) fn next_client(&mut self) -> u64 {
+        self.last = self.last.saturating_add(self.step);
+        self.last
+    }
+
     /// Has what a reload has found changed fetched anew for all: what is stored is taken out, as the administration does, and a request of
     /// the cache's own, whose answer nobody waits for, asks for it. Without a key for the first it stays.
     fn renew_changed(&mut self) {
@@ -251,8 +260,7 @@ impl<R: Wait + Clock + Drop, L: Ledger> NodeFront<R, L> {
         if self.take(event).is_none() {
             return;
         }
-        self.last = self.last.saturating_add(1);
-        let client = self.last;
+        let client = self.next_client();
         let mode = Mode::Shared;
         let _ = self.take(Event::Request {
             client,
@@ -260,23 +268,33 @@ impl<R: Wait + Clock + Drop, L: Ledger> NodeFront<R, L> {
             mode,
             now,
         });
+        let _ = self.take(Event::Gone { client });
     }
 
     /// Gives a client that waits for a fetch for all clients what is on the shelf, if it may have that while its origin is asked about it
-    /// (RFC 5861, section 3). The fetch goes on without it.
+    /// (RFC 5861, section 3), or if it accepts that (RFC 9111, section 5.2.1.2). The fetch goes on without it, and it takes no place of
+    /// those who wait any more.
     fn give_stale(&mut self, asked: &Asked, client: u64) {
-        if self.proxy.shelf.is_none() || !takes_stale(&asked.head) {
+        if self.proxy.shelf.is_none() {
             return;
         }
+        let Some(occasion) = stale_use(&asked.head) else {
+            return;
+        };
         let Ok(key) = self.key(asked) else {
             return;
         };
         let key = key.as_slice();
-        let found = self.proxy.stale(&self.rt, key, StaleUse::WhileValidated);
+        let found = self.proxy.stale(&self.rt, key, occasion);
         if let Some(Stale { object, age }) = found {
             let supplier = Some(Supplier::Stale(age));
-            let answer = Outcome::Got { object, supplier };
+            let answer = Outcome::Got {
+                object,
+                supplier,
+                is_stored: false,
+            };
             self.proxy.mailbox.lock(&self.rt).answer(client, answer);
+            let _ = self.take(Event::Gone { client });
         }
     }
 
@@ -385,8 +403,7 @@ impl<R: Wait + Clock + Drop, L: Ledger> NodeFront<R, L> {
         } = request_of(self.alloc, asked, key, mode, is_marked)?;
         self.check(asked, &key, is_marked)?;
         let began = Instant::now(&self.rt).ok();
-        self.last = self.last.saturating_add(1);
-        let client = self.last;
+        let client = self.next_client();
         let Ok(answer) = self.expect(client, fields, looped, validates) else {
             return Err(503);
         };
@@ -484,10 +501,10 @@ impl<R: Wait + Clock + Drop, L: Ledger> NodeFront<R, L> {
     }
 
     fn answered(&mut self) -> Returned {
-        if self.left == 1 {
+        let before = self.proxy.answered.fetch_add(1, Ordering::SeqCst);
+        if self.stop_after != 0 && before == self.stop_after.saturating_sub(1) {
             let _ = self.stop.send(&self.rt, ());
         }
-        self.left = self.left.saturating_sub(1);
         Returned::Nothing
     }
 

@@ -88,8 +88,8 @@ impl<R: Wait + Clock + Drop, L: Ledger> NodeFront<R, L> {
         }
     }
 
-    /// Whether a request whose method the node answers is passed on all the same: a HEAD that nothing stored answers, or a GET whose
-    /// answer is known to be too long to be stored. Errors: the status to answer.
+    /// Whether a request whose method the node answers is passed on all the same: a HEAD that nothing stored answers, or a GET that
+    /// nothing stored answers whose answer is known to be too long to be stored. Errors: the status to answer.
     pub(crate) fn is_beside_node(&mut self, asked: &Asked) -> Result<bool, u16> {
         if asked.method.as_str() == "HEAD" {
             return self.is_unstored_head(asked);
@@ -101,8 +101,18 @@ impl<R: Wait + Clock + Drop, L: Ledger> NodeFront<R, L> {
         if !self.proxy.passes.is_large(&self.rt, &key) {
             return Ok(false);
         }
-        let mode = self.mode(asked, &key)?;
-        Ok(mode != Mode::Cached)
+        match self.mode(asked, &key)? {
+            Mode::Cached => Ok(false),
+            Mode::Private => Ok(true),
+            Mode::Shared => Ok(!self.is_stored(&key)),
+        }
+    }
+
+    // Whether something fresh is stored under a key. Where one client's own answer was too long, that may be.
+    fn is_stored(&self, key: &CacheKey) -> bool {
+        let now = now(&self.rt, &self.proxy.timeline);
+        let found = self.proxy.desk.stored(&self.rt, key.as_slice(), now);
+        matches!(found, Ok(Some(_)))
     }
 
     // Whether a HEAD is to be passed on which nothing stored answers.
@@ -121,7 +131,7 @@ impl<R: Wait + Clock + Drop, L: Ledger> NodeFront<R, L> {
     /// Passes on a request, which is without its content here. Errors: the status to answer.
     pub(crate) fn pass(&mut self, asked: &Asked, content: Option<Coming>) -> Result<Passing, u16> {
         let way = self.way_of(asked)?;
-        self.last = self.last.saturating_add(1);
+        let _ = self.next_client();
         self.send_on(asked, content, way).map_err(|_| 503u16)
     }
 
@@ -188,14 +198,11 @@ impl<R: Wait + Clock + Drop, L: Ledger> NodeFront<R, L> {
             pieces,
             ticket,
         };
-        self.proxy.pass_on(
-            &self.rt,
-            self.alloc,
-            self.last,
-            name.as_str(),
-            port,
-            passage,
-        )?;
+        // The count of this thread's clients, by which they take turns at the fetch threads.
+        let count = self.last.checked_div(self.step).unwrap_or(0);
+        let name = name.as_str();
+        self.proxy
+            .pass_on(&self.rt, self.alloc, count, name, port, passage)?;
         Ok(passing)
     }
 

@@ -224,8 +224,8 @@ impl<R: Wait + Clock + Drop, L: Ledger> NodeHandle<R, L> {
     }
 
     // Queues a datagram for the query thread, and counts it if it is a query to a neighbour. On an allocation failure it is dropped, as
-    // UDP may drop any. All queries to neighbours come this way: only a client's request opens a round, and it comes through the
-    // client thread; what the query thread sends by itself are answers.
+    // UDP may drop any. All queries to neighbours come this way: only a client's request opens a round, and it comes through a thread that
+    // serves clients; what the query thread sends by itself are answers.
     fn queue(&self, socket: Socket, to: End, payload: &[u8]) {
         let Some(outbox) = &self.outbox else {
             return;

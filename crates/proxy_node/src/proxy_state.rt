@@ -8,10 +8,14 @@ use crate::passes::Passes;
 use capture_tap::Tap;
 use crossbeam_channel::Sender;
 use filter_slots::{End, Moment};
-use forwarding::{Destination, Field, Flight, Mailbox, Peer, Profile, origin_of, peer_of, via};
+use forwarding::{
+    Destination, Field, Flight, Mailbox, Peer, Profile, origin_of, peer_of, unasked_object, via,
+};
 use futures::channel::mpsc::UnboundedSender;
 use futures::channel::oneshot;
-use http_rules::{OriginRules, StaleUse, conditions_for, has_validator, may_serve_stale};
+use http_rules::{
+    OriginRules, StaleUse, conditions_for, has_stale_use, has_validator, may_serve_stale,
+};
 use http_traffic as serving;
 use http_traffic::{Admit, Job, Order, Passage, Server, Supplier};
 use mio_queries::Timeline;
@@ -19,12 +23,12 @@ use name_lookup::{NameDesk, hand_over, pass_over, server_of};
 use node_book::Desk;
 use node_core::{Action, Answer, Mode, NoMemory};
 use object_shelf::Shelf;
-use object_store::{CacheKey, Entry, SharedObject};
+use object_store::{CacheKey, Entry, Object, SharedObject};
 use peer_select::Source;
 use plain_node::MAX_PENDING_FETCHES;
 use std::alloc::{AllocError, Global};
 use std::net::{IpAddr, SocketAddr};
-use std::sync::atomic::{AtomicBool, AtomicU16, AtomicUsize, Ordering};
+use std::sync::atomic::{AtomicBool, AtomicU16, AtomicU64, AtomicUsize, Ordering};
 use std::sync::ledger::Ledger;
 use std::sync::{Arc, Mutex, Wait};
 use std::time::{Clock, Duration, Instant};
@@ -54,7 +58,7 @@ const CHANGED_KEYS: usize = 64;
 pub struct ProxyState<L: Ledger> {
     /// The node and its event log, behind a lock of its own that is held for one event or one question at a time.
     pub desk: Desk<L>,
-    /// Waiting clients and in-flight fetches. Locked by the client thread when a client comes or leaves, by a thread whose action
+    /// Waiting clients and in-flight fetches. Locked by a thread that serves clients when one comes or leaves, by a thread whose action
     /// starts a fetch or answers a client, and by a fetch thread when a fetch ends.
     pub mailbox: Mutex<Mailbox>,
     /// Senders to the threads that fetch; `None` before they start and after `close`. Locked while an order is sent.
@@ -82,6 +86,9 @@ pub struct ProxyState<L: Ledger> {
     pub serve_stale: u32,
     /// The keys of what reloads have found changed and has not been fetched anew for all yet. Locked to add or remove one.
     pub changed: Mutex<Vec<CacheKey>>,
+    /// The most octets of head and body of an object whose client is told that it was stored: one that has no more is within the limits
+    /// of the store with any key. `None` by the published rules, which don't tell it.
+    pub tells_stored: Option<u32>,
     /// URLs of which parts were asked for and nothing is stored; `None` by the published rules. Locked to note a request or a length.
     pub parts: Option<Mutex<PartKeys>>,
     /// What passes the proxy without the node.
@@ -98,6 +105,8 @@ pub struct ProxyState<L: Ledger> {
     pub ends: NeighbourEnds,
     /// The number of open connections of clients.
     pub connections: Arc<AtomicUsize>,
+    /// How many answers clients were given.
+    pub answered: AtomicU64,
     /// Where lines about answers go, if anywhere, and their form.
     pub log: Option<AccessLog>,
     /// Where notices of what fails go, if they are asked for.
@@ -108,8 +117,9 @@ pub struct ProxyState<L: Ledger> {
     pub started: Option<Instant>,
     /// Whether an administrator has asked the proxy to end.
     pub is_stopping: AtomicBool,
-    /// Ends the time that open connections have to end, once the proxy is ending. `None` once it was used.
-    pub hurry: Mutex<Option<oneshot::Sender<()>>>,
+    /// Ends the time that open connections have to end, once the proxy is ending, at each thread that serves clients. `None` once it
+    /// was used.
+    pub hurries: Mutex<Option<Vec<oneshot::Sender<()>>>>,
     /// Whether an audit found a receipt that does not agree with the event log.
     pub is_astray: AtomicBool,
     /// Receives a message when that happens, or when an administrator asks for it, so that the proxy ends.
@@ -169,6 +179,19 @@ fn stale_in(entry: &Entry, now: Moment, occasion: StaleUse, serve_stale: u32) ->
     })
 }
 
+/// An entry of the shelf whose object is not asked about any more. `None` if there is no use for it then, or if out of memory.
+/// `serve_stale` are the operator's seconds.
+fn unasked(alloc: Global, entry: &Entry, serve_stale: u32) -> Option<Entry> {
+    let object = entry.object.get();
+    if !has_stale_use(object.head(), serve_stale) {
+        return None;
+    }
+    Some(Entry {
+        object: unasked_object(alloc, object).ok()?,
+        at: entry.at,
+    })
+}
+
 /// These fields of a client's request without Accept-Encoding: what is asked about was fetched without the fields of any client, so
 /// that an entity tag for another coding would not be its own (RFC 9110, section 8.8.3.3).
 fn without_codings(alloc: Global, fields: Vec<Field>) -> Result<Vec<Field>, AllocError> {
@@ -194,7 +217,7 @@ impl<L: Ledger> ProxyState<L> {
         match action {
             Action::Send { .. } => Ok(()),
             Action::Serve { client, answer } => {
-                let answer = outcome_of(answer, supplier);
+                let answer = outcome_of(answer, supplier, self.tells_stored);
                 self.mailbox.lock(rt).answer(*client, answer);
                 Ok(())
             }
@@ -464,14 +487,33 @@ impl<L: Ledger> ProxyState<L> {
         }
     }
 
+    /// Has what is on the shelf under a key not be asked about any more. What may be of use once it is stale stays there for that, unless
+    /// memory is short.
+    pub fn ask_no_more<R: Wait>(&self, rt: &R, alloc: Global, key: &CacheKey) {
+        let Some(shelf) = &self.shelf else {
+            return;
+        };
+        let mut shelf = shelf.lock(rt);
+        let kept = match shelf.get(key.as_slice()) {
+            Some(entry) => unasked(alloc, entry, self.serve_stale),
+            None => None,
+        };
+        shelf.remove(key.as_slice());
+        if let Some(Entry { object, at }) = kept
+            && let Ok(key) = key.share()
+        {
+            let _ = shelf.put(key, object, at);
+        }
+    }
+
     /// Asks the proxy to end; the second time, ends the time that open connections have for that.
     pub fn stop<R: Wait>(&self, rt: &R) {
         if !self.is_stopping.swap(true, Ordering::SeqCst) {
             let _ = self.end.send(rt, ());
             return;
         }
-        let hurry = self.hurry.lock(rt).take();
-        if let Some(hurry) = hurry {
+        let hurries = self.hurries.lock(rt).take();
+        for hurry in hurries.into_iter().flatten() {
             let _ = hurry.send(());
         }
     }
@@ -511,15 +553,42 @@ pub(crate) fn end_at(server: SocketAddr) -> Option<End> {
     }
 }
 
+/// Whether the client of a fetched object is told that it was stored.
+fn is_told(object: &Object, tells_stored: Option<u32>) -> bool {
+    match tells_stored {
+        Some(most) => 0 < object.life() && octets_of(object) <= most as usize,
+        None => false,
+    }
+}
+
+/// The octets of an object's fields and body.
+fn octets_of(object: &Object) -> usize {
+    let mut octets = object.body().len();
+    for (name, value) in object.head() {
+        octets = octets
+            .saturating_add(name.len())
+            .saturating_add(value.len());
+    }
+    octets
+}
+
 /// An answer of the node as the HTTP server takes it; status 503 if the object cannot get one more owner.
-fn outcome_of(answer: &Answer, supplier: Option<Supplier>) -> serving::Outcome {
+fn outcome_of(
+    answer: &Answer,
+    supplier: Option<Supplier>,
+    tells_stored: Option<u32>,
+) -> serving::Outcome {
     match answer {
         Answer::Hit { object, age } => match object.share() {
             Ok(object) => serving::Outcome::Hit { object, age: *age },
             Err(_) => serving::Outcome::Fail(503),
         },
         Answer::Got(object) => match object.share() {
-            Ok(object) => serving::Outcome::Got { object, supplier },
+            Ok(object) => serving::Outcome::Got {
+                is_stored: is_told(object.get(), tells_stored),
+                object,
+                supplier,
+            },
             Err(_) => serving::Outcome::Fail(503),
         },
         Answer::Fail(status) => serving::Outcome::Fail(*status),

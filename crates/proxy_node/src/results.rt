@@ -70,6 +70,13 @@ fn is_down(flight: Flight, end: &FetchEnd) -> bool {
     }
 }
 
+/// Whether an origin has a response for all clients that is too long to be kept, in place of what was kept before.
+fn is_too_long(flight: Flight, end: &FetchEnd) -> bool {
+    flight.is_origin()
+        && flight.mode == Mode::Shared
+        && matches!(end, FetchEnd::Failed(FetchFault::TooLarge))
+}
+
 /// Whether an origin that was asked about an object was reached, and has not answered as it should. It may answer a request without
 /// conditions, so the next fetch has none.
 fn is_unanswered(landed: &Landed, end: &FetchEnd) -> bool {
@@ -101,6 +108,8 @@ pub struct Results<R, L: Ledger> {
     pub has_given_up: bool,
     /// Receives a message when that happens: the clients of the fetch would wait forever, so the proxy shuts down.
     pub end: Sender<(), Global>,
+    /// Receives a message once the thread takes fetches; `None` from then on.
+    pub opened: Option<Sender<(), Global>>,
 }
 
 impl<R: Wait + Clock + Drop, L: Ledger> Results<R, L> {
@@ -311,6 +320,11 @@ impl<R: Wait + Clock + Drop, L: Ledger> Results<R, L> {
         if is_unanswered(&landed, &end)
             && let Some(key) = self.key_of(fetch)
         {
+            self.node.proxy().ask_no_more(&self.rt, self.alloc, &key);
+        }
+        if is_too_long(landed.flight, &end)
+            && let Some(key) = self.key_of(fetch)
+        {
             self.node.proxy().unshelve(&self.rt, &key);
         }
         Delivery {
@@ -386,6 +400,12 @@ impl<R: Wait + Clock + Drop, L: Ledger> Results<R, L> {
 }
 
 impl<R: Wait + Clock + Drop, L: Ledger> Submit<Fetched> for Results<R, L> {
+    fn opened(&mut self) {
+        if let Some(to) = self.opened.take() {
+            let _ = to.send(&self.rt, ());
+        }
+    }
+
     fn submit(&mut self, done: Fetched) {
         let Fetched {
             fetch,

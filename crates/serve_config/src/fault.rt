@@ -1,5 +1,6 @@
 //! Why a configuration is rejected.
 use crate::place::Place;
+use json_fault::Expected;
 use std::alloc::{AllocError, Global};
 use std::fmt;
 
@@ -7,14 +8,20 @@ use std::fmt;
 /// that says what is wrong and where.
 #[derive(Debug, Drop)]
 pub enum Fault {
-    /// 1: not JSON. The line and column, both counted from 1, where the JSON parser stopped.
-    Syntax { line: usize, column: usize },
+    /// 1: not JSON. The line and column, both counted from 1, where the JSON parser stopped, and what would have been right there.
+    Syntax {
+        line: usize,
+        column: usize,
+        expected: Expected,
+    },
     /// 2: a missing key, an unknown key, or a value of the wrong kind. The message says which and where.
     Shape(String),
     /// 3: a value of the right kind that is not allowed there. The message says which and where.
     Value(String),
     /// 4: a socket cannot be bound. The configuration key of its port.
-    Socket { key: &'static str },
+    Socket {
+        key: &'static str,
+    },
     /// 5: out of memory.
     Memory,
 }
@@ -81,9 +88,14 @@ impl Fault {
 impl fmt::Display for Fault {
     fn fmt<W: fmt::Write>(&self, f: &mut fmt::Formatter<W>) -> fmt::Result {
         match self {
-            Fault::Syntax { line, column } => {
-                write!(f, "config fault 1\nline {line}, column {column}")
-            }
+            Fault::Syntax {
+                line,
+                column,
+                expected,
+            } => write!(
+                f,
+                "config fault 1\nline {line}, column {column}: expected {expected}"
+            ),
             Fault::Shape(what) => write!(f, "config fault 2\n{what}"),
             Fault::Value(what) => write!(f, "config fault 3\n{what}"),
             Fault::Socket { key } => write!(

@@ -17,6 +17,7 @@ pub(crate) struct LimitKeys {
     pub(crate) fetch_octets: Option<u32>,
     pub(crate) shelf_octets: Option<u32>,
     pub(crate) address_connections: Option<u32>,
+    pub(crate) client_threads: Option<u32>,
     pub(crate) stop_after: u64,
 }
 
@@ -28,6 +29,7 @@ pub(crate) fn limit_keys(alloc: Global, value: &Value) -> Result<LimitKeys, Faul
     ensures fetch_octets { IfOk result (λ s. IfSome s.fetch_octets (λ n. (1 ≤ n) × (n ≤ 1073741824))) }
     ensures shelf_octets { IfOk result (λ s. IfSome s.shelf_octets (λ n. n ≤ 1073741824)) }
     ensures address_connections { IfOk result (λ s. IfSome s.address_connections (λ n. (1 ≤ n) × (n ≤ 4096))) }
+    ensures client_threads { IfOk result (λ s. IfSome s.client_threads (λ n. (1 ≤ n) × (n ≤ 16))) }
 {
     let top = Place::whole();
     Ok(LimitKeys {
@@ -38,6 +40,7 @@ pub(crate) fn limit_keys(alloc: Global, value: &Value) -> Result<LimitKeys, Faul
         fetch_octets: optional(alloc, value, "fetch_octets", 1, 1_073_741_824)?,
         shelf_octets: optional(alloc, value, "shelf_octets", 0, 1_073_741_824)?,
         address_connections: optional(alloc, value, "address_connections", 1, 4096)?,
+        client_threads: optional(alloc, value, "client_threads", 1, 16)?,
         stop_after: number(alloc, value, top.key("stop_after"), 0, u64::MAX)?,
     })
 }

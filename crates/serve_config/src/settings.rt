@@ -29,10 +29,14 @@ use crate::passing::{Large, PassedMethod};
 use crate::shape::check;
 use crate::shared_fields::SharedField;
 use crate::web::{WebKeys, web_keys};
+use json_fault::{Expected, expected_at, offset_of};
 use node_core::{Config, Network};
 use serde_json::Value;
 use std::alloc::Global;
 use std::fmt;
+
+// How the parser tells of a number that it has no place for. It then stops behind that number.
+const OUT_OF_RANGE: &str = "number out of range";
 
 /// The form of the lines about answers to clients.
 #[derive(Clone, Copy, Debug, PartialEq, Eq)]
@@ -77,6 +81,8 @@ pub struct Settings {
     pub shelf_octets: Option<u32>,
     /// Connections from one address at most, 1 to 4,096, if the configuration says it.
     pub address_connections: Option<u32>,
+    /// Threads that serve clients, 1 to 16, if the configuration says it.
+    pub client_threads: Option<u32>,
     /// The networks that are never fetched from as origins, if the configuration says it.
     pub deny_origins: Option<Vec<Network>>,
     /// The only ports that origins are fetched from, at least one and none of them 0, if the configuration says it.
@@ -137,6 +143,7 @@ impl Settings {
         ensures fetch_octets { IfOk result (λ s. IfSome s.fetch_octets (λ n. (1 ≤ n) × (n ≤ 1073741824))) }
         ensures shelf_octets { IfOk result (λ s. IfSome s.shelf_octets (λ n. n ≤ 1073741824)) }
         ensures address_connections { IfOk result (λ s. IfSome s.address_connections (λ n. (1 ≤ n) × (n ≤ 4096))) }
+        ensures client_threads { IfOk result (λ s. IfSome s.client_threads (λ n. (1 ≤ n) × (n ≤ 16))) }
         ensures deny_origins { IfOk result (λ s. IfSome s.deny_origins (λ networks. AreNetworks networks.items)) }
         ensures origin_ports { IfOk result (λ s. IfSome s.origin_ports (λ ports. ArePorts ports.items)) }
         ensures admin_token { IfOk result (λ s. IfSome s.admin_token (λ token. IsToken (string_bytes token))) }
@@ -188,6 +195,7 @@ impl fmt::Debug for Settings {
             .field("fetch_octets", &self.fetch_octets)
             .field("shelf_octets", &self.shelf_octets)
             .field("address_connections", &self.address_connections)
+            .field("client_threads", &self.client_threads)
             .field("deny_origins", &self.deny_origins)
             .field("origin_ports", &self.origin_ports)
             .field("access_log", &self.access_log)
@@ -221,6 +229,7 @@ fn parse_values(alloc: Global, value: &Value) -> Result<Settings, Fault>
     ensures fetch_octets { IfOk result (λ s. IfSome s.fetch_octets (λ n. (1 ≤ n) × (n ≤ 1073741824))) }
     ensures shelf_octets { IfOk result (λ s. IfSome s.shelf_octets (λ n. n ≤ 1073741824)) }
     ensures address_connections { IfOk result (λ s. IfSome s.address_connections (λ n. (1 ≤ n) × (n ≤ 4096))) }
+    ensures client_threads { IfOk result (λ s. IfSome s.client_threads (λ n. (1 ≤ n) × (n ≤ 16))) }
     ensures deny_origins { IfOk result (λ s. IfSome s.deny_origins (λ networks. AreNetworks networks.items)) }
     ensures origin_ports { IfOk result (λ s. IfSome s.origin_ports (λ ports. ArePorts ports.items)) }
     ensures admin_token { IfOk result (λ s. IfSome s.admin_token (λ token. IsToken (string_bytes token))) }
@@ -271,6 +280,7 @@ fn parse_values(alloc: Global, value: &Value) -> Result<Settings, Fault>
         fetch_octets: limits.fetch_octets,
         shelf_octets: limits.shelf_octets,
         address_connections: limits.address_connections,
+        client_threads: limits.client_threads,
         deny_origins: origins.deny_origins,
         origin_ports: origins.origin_ports,
         admin_token: front.admin_token,
@@ -303,9 +313,26 @@ fn json(alloc: Global, text: &[u8]) -> Result<Value, Fault>
     match Value::from_slice(alloc, text) {
         Ok(value) => Ok(value),
         Err(error) if error.is_memory() => Err(Fault::Memory),
-        Err(error) => Err(Fault::Syntax {
-            line: error.line(),
-            column: error.column(),
-        }),
+        Err(error) => Err(syntax_fault(alloc, text, error)),
+    }
+}
+
+// Where a text is no JSON, and what would have been right there.
+fn syntax_fault(alloc: Global, text: &[u8], error: serde_json::Error) -> Fault {
+    let (line, column) = (error.line(), error.column());
+    let Ok(said) = format!(in alloc; "{error}") else {
+        return Fault::Memory;
+    };
+    let expected = if said.as_str().starts_with(OUT_OF_RANGE) {
+        Expected::Word
+    } else if error.is_eof() {
+        expected_at(text, text.len())
+    } else {
+        expected_at(text, offset_of(text, line, column))
+    };
+    Fault::Syntax {
+        line,
+        column,
+        expected,
     }
 }

@@ -38,12 +38,13 @@ const TOP: [Known; 16] = [
 ];
 
 /// The keys that a configuration may leave out.
-const OPTIONAL: [Known; 25] = [
+const OPTIONAL: [Known; 26] = [
     ("receipt_octets", Kind::Number),
     ("book_octets", Kind::Number),
     ("fetch_octets", Kind::Number),
     ("shelf_octets", Kind::Number),
     ("address_connections", Kind::Number),
+    ("client_threads", Kind::Number),
     ("deny_origins", Kind::List),
     ("origin_ports", Kind::List),
     ("admin_token", Kind::Text),

@@ -6,7 +6,7 @@ use crate::servers::{Line, new_stops, uncounted};
 use crossbeam_channel::{Receiver, Sender, unbounded};
 use futures::channel::mpsc::{UnboundedReceiver, UnboundedSender};
 use futures::channel::{mpsc, oneshot};
-use http_clients::serve_clients;
+use http_clients::{ClientSocket, serve_clients};
 use http_fetches::run_fetches;
 use http_traffic::{
     Asked, Asking, Coming, FollowUp, Forward, Front, How, Job, Outcome, PassOn, Passage, Passing,
@@ -327,9 +327,10 @@ where
     limits.still.content = Duration::from_secs(10);
     limits.still.taking = Duration::from_secs(10);
     let address = SocketAddr::V4(SocketAddrV4::new(Ipv4Addr::new(127, 0, 0, 1), 0));
+    let socket = ClientSocket::bind(&rt, address, limits.connections)?;
     threads.push(thread::spawn(
         &rt,
-        move || serve_clients(rt, address, "edge", passer, bound, stops, open, limits),
+        move || serve_clients(rt, socket, "edge", passer, bound, stops, open, limits),
     )?)?;
     Ok(Stage {
         address: at.recv(&rt)?,

@@ -9,7 +9,7 @@ use crossbeam_channel::unbounded;
 use fetch_chain::Submit;
 use futures::channel::mpsc::UnboundedSender;
 use futures::channel::{mpsc, oneshot};
-use http_clients::serve_clients;
+use http_clients::{ClientSocket, serve_clients};
 use http_fetches::{FetchLimits, run_fetches};
 use http_traffic::{
     Asked, Asking, FetchEnd, Fetched, FollowUp, Forward, Front, Job, Order, Outcome, PassOn,
@@ -148,6 +148,7 @@ impl<R: Wait + Copy> Submit<Fetched> for Puts<R> {
                     waiting.send(Outcome::Got {
                         object,
                         supplier: Some(Supplier::Origin),
+                        is_stored: false,
                     })
                 }
                 None => waiting.send(Outcome::Fail(502)),
@@ -208,11 +209,12 @@ fn a_miss_and_a_hit(rt: HostRuntime) -> Result<(), Fail> {
         move || run_fetches(rt, work, &mut puts, rules, short_bodies()),
     )?;
     let address = SocketAddr::V4(SocketAddrV4::new(Ipv4Addr::new(127, 0, 0, 1), 0));
+    let socket = ClientSocket::bind(&rt, address, serve_limits().connections)?;
     let server = thread::spawn(
         &rt,
         move || serve_clients(
             rt,
-            address,
+            socket,
             "edge",
             asks,
             bound,

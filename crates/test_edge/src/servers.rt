@@ -1,10 +1,10 @@
 //! Tests of the server for clients.
 use crate::clients::{exchange, has, is_ended_after};
 use crate::limits::{client_limits, serve_limits};
-use client_streams::{Accept, AcceptedClients, Patient, Refusal, SharedStage, Stops};
+use client_streams::{Accept, AcceptedClients, Patient, Refusal, SeatShare, SharedStage, Stops};
 use crossbeam_channel::{Sender, unbounded};
 use futures::channel::oneshot;
-use http_clients::serve_clients;
+use http_clients::{ClientSocket, serve_clients};
 use http_traffic::{Asked, Asking, FollowUp, Forward, Front, How, Outcome, PassOn, Supplier, Told};
 use object_store::{Object, SharedObject};
 use std::alloc::{AllocError, AllocGlobal, Global};
@@ -99,6 +99,7 @@ impl<R: AllocGlobal + Copy> Script<R> {
             _ => Ok(Outcome::Got {
                 object,
                 supplier: Some(Supplier::Neighbour(3)),
+                is_stored: target == "http://o/kept",
             }),
         }
     }
@@ -407,11 +408,12 @@ fn clients_are_answered(rt: HostRuntime) -> Result<(), Fail> {
     script.answered = Some(stop);
     script.left = 16;
     let address = SocketAddr::V4(SocketAddrV4::new(Ipv4Addr::new(127, 0, 0, 1), 0));
+    let socket = ClientSocket::bind(&rt, address, serve_limits().connections)?;
     let server = thread::spawn(
         &rt,
         move || serve_clients(
             rt,
-            address,
+            socket,
             "edge",
             script,
             bound,
@@ -488,7 +490,10 @@ where
     };
     let limits = client_limits(64, 64);
     let grace = Duration::from_millis(200);
-    let clients = AcceptedClients::new(rt, alloc, timers, listener, stops, grace, accept, limits)?;
+    let seats = SeatShare::alone(alloc, limits)?;
+    let clients = AcceptedClients::new(
+        rt, alloc, timers, listener, stops, grace, accept, limits, seats,
+    )?;
     runtime.run_all(&rt, clients)
 }
 

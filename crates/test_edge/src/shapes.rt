@@ -3,11 +3,11 @@ use crate::clients::{exchange, has};
 use crate::limits::serve_limits;
 use crate::servers::{Script, new_stops, uncounted};
 use crossbeam_channel::unbounded;
-use http_clients::serve_clients;
+use http_clients::{ClientSocket, serve_clients};
 use http_traffic::{Asked, Asking, FollowUp, Front, PassOn, Road, Shape, Told};
 use object_store::Object;
 use std::alloc::{AllocError, AllocGlobal, Global};
-use std::net::{Ipv4Addr, SocketAddr, SocketAddrV4};
+use std::net::{Ipv4Addr, Net, SocketAddr, SocketAddrV4};
 use std::sync::Wait;
 use std::test::Fail;
 use std::thread;
@@ -85,7 +85,15 @@ impl<R: Wait + AllocGlobal + Copy> FollowUp for Shaping<R> {
 impl<R: Wait + AllocGlobal + Copy> PassOn for Shaping<R> {}
 
 // A request line and the shape that is asked for, what the response must contain, how it must end, and what it must not contain.
-const CASES: [(&str, &str, [&[u8]; 4], &[u8], &[u8]); 9] = [
+type Case = (
+    &'static str,
+    &'static str,
+    [&'static [u8]; 4],
+    &'static [u8],
+    &'static [u8],
+);
+
+const CASES: [Case; 9] = [
     (
         "GET http://o/hit",
         "whole",
@@ -193,6 +201,36 @@ fn is_as_wanted(got: &[u8], wanted: &[&[u8]], end: &[u8], unwanted: &[u8]) -> bo
     wanted.iter().all(|part| has(got, part)) && got.ends_with(end) && !has(got, unwanted)
 }
 
+// What a client sends that asks for this shape.
+fn request_for(alloc: Global, line: &str, shape: &str) -> Result<String, Fail> {
+    Ok(format!(in alloc;
+        "{line} HTTP/1.1\r\nHost: o\r\nX-Shape: {shape}\r\nConnection: close\r\n\r\n"
+    )?)
+}
+
+// Whether a case is answered as it says.
+fn is_answered<R: Net>(
+    rt: &R,
+    alloc: Global,
+    server: SocketAddr,
+    case: &Case,
+) -> Result<bool, Fail> {
+    let (line, shape, wanted, end, unwanted) = case;
+    let sent = request_for(alloc, *line, *shape)?;
+    let got = exchange(rt, alloc, server, sent.as_bytes())?;
+    Ok(is_as_wanted(got.as_slice(), wanted.as_slice(), *end, *unwanted))
+}
+
+// The place of the first case that is answered otherwise.
+fn first_wrong<R: Net>(rt: &R, alloc: Global, server: SocketAddr) -> Result<Option<usize>, Fail> {
+    for (place, case) in CASES.iter().enumerate() {
+        if !is_answered(rt, alloc, server, case)? {
+            return Ok(Some(place));
+        }
+    }
+    Ok(None)
+}
+
 #[test]
 fn answers_have_their_shape(rt: HostRuntime) -> Result<(), Fail> {
     let alloc = rt.alloc();
@@ -205,24 +243,15 @@ fn answers_have_their_shape(rt: HostRuntime) -> Result<(), Fail> {
     };
     let address = SocketAddr::V4(SocketAddrV4::new(Ipv4Addr::new(127, 0, 0, 1), 0));
     let limits = serve_limits();
+    let socket = ClientSocket::bind(&rt, address, limits.connections)?;
     let server = thread::spawn(
         &rt,
-        move || serve_clients(rt, address, "edge", front, bound, stopped, open, limits),
+        move || serve_clients(rt, socket, "edge", front, bound, stopped, open, limits),
     )?;
     let server_address = told.recv(&rt)?;
-    for (line, shape, wanted, end, unwanted) in CASES {
-        let sent = format!(in alloc;
-            "{line} HTTP/1.1\r\nHost: o\r\nX-Shape: {shape}\r\nConnection: close\r\n\r\n"
-        )?;
-        let got = exchange(&rt, alloc, server_address, sent.as_bytes())?;
-        let got = got.as_slice();
-        let text = String::from_utf8_lossy(alloc, got)?;
-        assert!(rt;
-            is_as_wanted(got, wanted.as_slice(), end, unwanted),
-            "{line} {shape}: {text}"
-        );
-    }
+    let wrong = first_wrong(&rt, alloc, server_address)?;
     let _ = stop.send(());
     server.join(&rt)?;
+    assert_eq!(rt; wrong, None);
     Ok(())
 }

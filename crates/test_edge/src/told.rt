@@ -4,7 +4,7 @@ use crate::limits::serve_limits;
 use crate::servers::{HUGE, Line, Script, new_stops};
 use crossbeam_channel::{Receiver, unbounded};
 use futures::channel::oneshot;
-use http_clients::{ServeLimits, serve_clients};
+use http_clients::{ClientSocket, ServeLimits, serve_clients};
 use http_traffic::{Forward, How, Supplier};
 use std::alloc::{AllocGlobal, Global};
 use std::io::{Read, Write};
@@ -100,10 +100,10 @@ where
     let open = Arc::new(alloc, AtomicUsize::new(0))?;
     let counted = Arc::try_clone(&open)?;
     let script = Script::telling(rt, lines)?;
-    let address = SocketAddr::new(address, 0);
+    let socket = ClientSocket::bind(&rt, SocketAddr::new(address, 0), limits.connections)?;
     let thread = thread::spawn(
         &rt,
-        move || serve_clients(rt, address, "edge", script, bound, stopped, counted, limits),
+        move || serve_clients(rt, socket, "edge", script, bound, stopped, counted, limits),
     )?;
     Ok(Server {
         address: at.recv(&rt)?,

@@ -4,7 +4,7 @@ use crate::limits::serve_limits;
 use crate::servers::{Line, new_stops, uncounted};
 use crossbeam_channel::{Receiver, Sender, unbounded};
 use futures::channel::oneshot;
-use http_clients::serve_clients;
+use http_clients::{ClientSocket, serve_clients};
 use http_traffic::{
     Asked, Asking, FollowUp, Front, How, PassOn, Road, Server, Ticket, Told, TunnelEnd,
 };
@@ -183,6 +183,7 @@ where
 {
     let alloc = rt.alloc();
     let any = SocketAddr::V4(SocketAddrV4::new(Ipv4Addr::new(127, 0, 0, 1), 0));
+    let socket = ClientSocket::bind(&rt, any, serve_limits().connections)?;
     let (bound, address) = unbounded(alloc)?;
     let (lines, told) = unbounded(alloc)?;
     let (stop, _hurry, stops) = new_stops(alloc)?;
@@ -200,7 +201,7 @@ where
         &rt,
         move || serve_clients(
             rt,
-            any,
+            socket,
             "edge",
             front,
             bound,

@@ -1,27 +1,17 @@
 //! Answers from a stored object to conditions and ranges. The values are those of RFC 9110, or follow from its text by hand.
 
-use crate::heads::head_of;
+use crate::heads::{fields_of, head_of};
+use crate::rows::{Question, all_hold};
 use http_rules::{
     StoredAnswer, answer_to, content_range, is_for_origin, is_in_not_modified, unsatisfied_range,
 };
 use std::alloc::Global;
 use std::test::Fail;
 
-// The fields of a stored object, from lines of the form `name: value`.
-fn stored(alloc: Global, lines: &str) -> Result<Vec<(Vec<u8>, Vec<u8>)>, Fail> {
-    let mut fields = Vec::new(alloc);
-    for line in lines.lines() {
-        let (name, value) = line.split_once(": ").ok_or("no field")?;
-        let name = name.as_bytes().to_ascii_lowercase(alloc)?;
-        fields.push((name, value.as_bytes().to_vec(alloc)?))?;
-    }
-    Ok(fields)
-}
-
 // The answer to a request with this method and head from an object of 10,000 octets.
 fn answer(alloc: Global, method: &str, lines: &str, object: &str) -> Result<StoredAnswer, Fail> {
     let head = head_of(alloc, lines)?;
-    let object = stored(alloc, object)?;
+    let object = fields_of(alloc, object)?;
     Ok(answer_to(method, &head, &object, 10_000))
 }
 
@@ -32,41 +22,54 @@ fn part(alloc: Global, range: &str, length: usize) -> Result<StoredAnswer, Fail>
     Ok(answer_to("GET", &head, &Vec::new(alloc), length))
 }
 
-fn span(first: usize, last: usize) -> StoredAnswer {
-    StoredAnswer::Part { first, last }
-}
-
 // The table of section 8.8.3.2: two tags, and whether they match by strong and by weak comparison. Weak is the comparison of
 // If-None-Match, strong that of If-Range.
-#[test]
-fn weak_and_strong(rt: HostRuntime) -> Result<(), Fail> {
-    let table: [(&str, &str, bool, bool); 8] = [
-        ("W/\"1\"", "W/\"1\"", false, true),
-        ("W/\"1\"", "W/\"2\"", false, false),
-        ("W/\"1\"", "\"1\"", false, true),
-        ("\"1\"", "W/\"1\"", false, true),
-        ("\"1\"", "\"1\"", true, true),
-        ("\"1\"", "\"2\"", false, false),
-        ("\"\"", "\"\"", true, true),
-        ("\"a\"", "\"A\"", false, false),
-    ];
-    for (given, stored, is_strong, is_weak) in table {
-        let object = format!(in rt.alloc(); "ETag: {stored}")?;
-        let lines = format!(in rt.alloc(); "If-None-Match: {given}")?;
-        let weak = answer(rt.alloc(), "GET", lines.as_str(), object.as_str())?;
-        assert_eq!(rt;
-            weak == StoredAnswer::NotModified,
-            is_weak,
-            "{given} {stored}"
-        );
-        let lines = format!(in rt.alloc(); "Range: bytes=0-0\nIf-Range: {given}")?;
-        let strong = answer(rt.alloc(), "GET", lines.as_str(), object.as_str())?;
-        assert_eq!(rt; strong == span(0, 0), is_strong, "{given} {stored}");
-    }
-    Ok(())
+type Tags = (&'static str, &'static str, bool, bool);
+
+const TAGS: [Tags; 8] = [
+    ("W/\"1\"", "W/\"1\"", false, true),
+    ("W/\"1\"", "W/\"2\"", false, false),
+    ("W/\"1\"", "\"1\"", false, true),
+    ("\"1\"", "W/\"1\"", false, true),
+    ("\"1\"", "\"1\"", true, true),
+    ("\"1\"", "\"2\"", false, false),
+    ("\"\"", "\"\"", true, true),
+    ("\"a\"", "\"A\"", false, false),
+];
+
+fn is_same_weakly(alloc: Global, given: &str, stored: &str) -> Result<bool, Fail> {
+    let object = format!(in alloc; "ETag: {stored}")?;
+    let lines = format!(in alloc; "If-None-Match: {given}")?;
+    Ok(answer(alloc, "GET", lines.as_str(), object.as_str())? == StoredAnswer::NotModified)
 }
 
-const TAG_LISTS: [(&str, &str, bool); 28] = [
+fn is_same_strongly(alloc: Global, given: &str, stored: &str) -> Result<bool, Fail> {
+    let object = format!(in alloc; "ETag: {stored}")?;
+    let lines = format!(in alloc; "Range: bytes=0-0\nIf-Range: {given}")?;
+    let first = StoredAnswer::Part { first: 0, last: 0 };
+    Ok(answer(alloc, "GET", lines.as_str(), object.as_str())? == first)
+}
+
+struct WeakAndStrong;
+
+impl Question<Tags> for WeakAndStrong {
+    fn holds(&self, alloc: Global, row: &Tags) -> Result<bool, Fail> {
+        Ok(
+            is_same_strongly(alloc, row.0, row.1)? == row.2
+                && is_same_weakly(alloc, row.0, row.1)? == row.3,
+        )
+    }
+}
+
+#[test]
+fn weak_and_strong(rt: HostRuntime) -> Result<(), Fail> {
+    all_hold(rt.alloc(), &TAGS, &WeakAndStrong)
+}
+
+// The fields of a request, those of the object, and whether the answer is 304, which it is for GET and for HEAD, or the whole.
+type Condition = (&'static str, &'static str, bool);
+
+const TAG_LISTS: [Condition; 28] = [
     ("If-None-Match: \"xyzzy\"", "ETag: \"xyzzy\"", true),
     ("If-None-Match: W/\"xyzzy\"", "ETag: \"xyzzy\"", true),
     (
@@ -116,27 +119,29 @@ const TAG_LISTS: [(&str, &str, bool); 28] = [
     ("If-None-Match: \"*\"", "ETag: \"a\"", false),
 ];
 
+fn is_answered(alloc: Global, method: &str, row: &Condition) -> Result<bool, Fail> {
+    let answer = answer(alloc, method, row.0, row.1)?;
+    Ok((answer == StoredAnswer::NotModified) == row.2 && (answer == StoredAnswer::Whole) != row.2)
+}
+
+struct NotModified;
+
+impl Question<Condition> for NotModified {
+    fn holds(&self, alloc: Global, row: &Condition) -> Result<bool, Fail> {
+        Ok(is_answered(alloc, "GET", row)? && is_answered(alloc, "HEAD", row)?)
+    }
+}
+
 // Sections 8.8.3 and 13.1.2: values of If-None-Match, the object's fields, and whether the answer is 304.
 #[test]
 fn lists_of_tags(rt: HostRuntime) -> Result<(), Fail> {
-    for (lines, object, wanted) in TAG_LISTS {
-        for method in ["GET", "HEAD"] {
-            let answer = answer(rt.alloc(), method, lines, object)?;
-            assert_eq!(rt;
-                answer == StoredAnswer::NotModified,
-                wanted,
-                "{lines} {object}"
-            );
-            assert_eq!(rt; answer == StoredAnswer::Whole, !wanted, "{lines} {object}");
-        }
-    }
-    Ok(())
+    all_hold(rt.alloc(), &TAG_LISTS, &NotModified)
 }
 
 const MODIFIED: &str =
     "Date: Tue, 15 Nov 1994 12:45:26 GMT\nLast-Modified: Sat, 29 Oct 1994 19:43:31 GMT\nETag: \"a\"";
 
-const DATES: [(&str, &str, bool); 16] = [
+const DATES: [Condition; 16] = [
     (
         "If-Modified-Since: Sat, 29 Oct 1994 19:43:31 GMT",
         MODIFIED,
@@ -218,221 +223,379 @@ const DATES: [(&str, &str, bool); 16] = [
 // Section 13.1.3, and RFC 9111, section 4.3.2: the fields of a request, and whether the answer is 304.
 #[test]
 fn dates(rt: HostRuntime) -> Result<(), Fail> {
-    for (lines, object, wanted) in DATES {
-        for method in ["GET", "HEAD"] {
-            let answer = answer(rt.alloc(), method, lines, object)?;
-            assert_eq!(rt;
-                answer == StoredAnswer::NotModified,
-                wanted,
-                "{lines} {object}"
-            );
-            assert_eq!(rt; answer == StoredAnswer::Whole, !wanted, "{lines} {object}");
-        }
-    }
-    Ok(())
+    all_hold(rt.alloc(), &DATES, &NotModified)
 }
 
 // Section 14.1.2, for a representation of 10,000 octets, and sections 14.1.1 and 14.2 for what is no single range.
+type Range = (&'static str, StoredAnswer);
+
+const RANGES: [Range; 36] = [
+    (
+        "bytes=0-499",
+        StoredAnswer::Part {
+            first: 0,
+            last: 499,
+        },
+    ),
+    (
+        "bytes=500-999",
+        StoredAnswer::Part {
+            first: 500,
+            last: 999,
+        },
+    ),
+    (
+        "bytes=-500",
+        StoredAnswer::Part {
+            first: 9_500,
+            last: 9_999,
+        },
+    ),
+    (
+        "bytes=9500-",
+        StoredAnswer::Part {
+            first: 9_500,
+            last: 9_999,
+        },
+    ),
+    ("bytes=0-0", StoredAnswer::Part { first: 0, last: 0 }),
+    (
+        "bytes=-1",
+        StoredAnswer::Part {
+            first: 9_999,
+            last: 9_999,
+        },
+    ),
+    (
+        "bytes=0-",
+        StoredAnswer::Part {
+            first: 0,
+            last: 9_999,
+        },
+    ),
+    (
+        "bytes=0-9999",
+        StoredAnswer::Part {
+            first: 0,
+            last: 9_999,
+        },
+    ),
+    (
+        "bytes=0-10000",
+        StoredAnswer::Part {
+            first: 0,
+            last: 9_999,
+        },
+    ),
+    (
+        "bytes=9999-10000",
+        StoredAnswer::Part {
+            first: 9_999,
+            last: 9_999,
+        },
+    ),
+    (
+        "bytes=-9999",
+        StoredAnswer::Part {
+            first: 1,
+            last: 9_999,
+        },
+    ),
+    (
+        "bytes=-10000",
+        StoredAnswer::Part {
+            first: 0,
+            last: 9_999,
+        },
+    ),
+    (
+        "bytes=-10001",
+        StoredAnswer::Part {
+            first: 0,
+            last: 9_999,
+        },
+    ),
+    (
+        "bytes=0000000000000000000000500-0999",
+        StoredAnswer::Part {
+            first: 500,
+            last: 999,
+        },
+    ),
+    ("BYTES=1-2", StoredAnswer::Part { first: 1, last: 2 }),
+    ("bytes= 1-2", StoredAnswer::Part { first: 1, last: 2 }),
+    (
+        "bytes=1-99999999999999999999",
+        StoredAnswer::Part {
+            first: 1,
+            last: 9_999,
+        },
+    ),
+    (
+        "bytes=-99999999999999999999",
+        StoredAnswer::Part {
+            first: 0,
+            last: 9_999,
+        },
+    ),
+    ("bytes=10000-", StoredAnswer::Unsatisfiable),
+    ("bytes=10000-10001", StoredAnswer::Unsatisfiable),
+    ("bytes=-0", StoredAnswer::Unsatisfiable),
+    ("bytes=99999999999999999999-", StoredAnswer::Unsatisfiable),
+    // Several ranges, of which one may be empty.
+    ("bytes=0-0,-1", StoredAnswer::Whole),
+    ("bytes= 0-999, 4500-5499, -1000", StoredAnswer::Whole),
+    ("bytes=500-600,601-999", StoredAnswer::Whole),
+    ("bytes=0-0,", StoredAnswer::Whole),
+    // Invalid ones.
+    ("bytes=500-400", StoredAnswer::Whole),
+    ("bytes=20000-10000", StoredAnswer::Whole),
+    ("bytes=", StoredAnswer::Whole),
+    ("bytes=-", StoredAnswer::Whole),
+    ("bytes=1", StoredAnswer::Whole),
+    ("bytes=1-2-3", StoredAnswer::Whole),
+    ("bytes=+1-2", StoredAnswer::Whole),
+    ("bytes 1-2", StoredAnswer::Whole),
+    ("bytes =1-2", StoredAnswer::Whole),
+    ("seconds=1-2", StoredAnswer::Whole),
+];
+
+struct RangeOfMuch;
+
+impl Question<Range> for RangeOfMuch {
+    fn holds(&self, alloc: Global, row: &Range) -> Result<bool, Fail> {
+        Ok(part(alloc, row.0, 10_000)? == row.1)
+    }
+}
+
 #[test]
 fn ranges(rt: HostRuntime) -> Result<(), Fail> {
-    let table: [(&str, StoredAnswer); 36] = [
-        ("bytes=0-499", span(0, 499)),
-        ("bytes=500-999", span(500, 999)),
-        ("bytes=-500", span(9_500, 9_999)),
-        ("bytes=9500-", span(9_500, 9_999)),
-        ("bytes=0-0", span(0, 0)),
-        ("bytes=-1", span(9_999, 9_999)),
-        ("bytes=0-", span(0, 9_999)),
-        ("bytes=0-9999", span(0, 9_999)),
-        ("bytes=0-10000", span(0, 9_999)),
-        ("bytes=9999-10000", span(9_999, 9_999)),
-        ("bytes=-9999", span(1, 9_999)),
-        ("bytes=-10000", span(0, 9_999)),
-        ("bytes=-10001", span(0, 9_999)),
-        ("bytes=0000000000000000000000500-0999", span(500, 999)),
-        ("BYTES=1-2", span(1, 2)),
-        ("bytes= 1-2", span(1, 2)),
-        ("bytes=1-99999999999999999999", span(1, 9_999)),
-        ("bytes=-99999999999999999999", span(0, 9_999)),
-        ("bytes=10000-", StoredAnswer::Unsatisfiable),
-        ("bytes=10000-10001", StoredAnswer::Unsatisfiable),
-        ("bytes=-0", StoredAnswer::Unsatisfiable),
-        ("bytes=99999999999999999999-", StoredAnswer::Unsatisfiable),
-        // Several ranges, of which one may be empty.
-        ("bytes=0-0,-1", StoredAnswer::Whole),
-        ("bytes= 0-999, 4500-5499, -1000", StoredAnswer::Whole),
-        ("bytes=500-600,601-999", StoredAnswer::Whole),
-        ("bytes=0-0,", StoredAnswer::Whole),
-        // Invalid ones.
-        ("bytes=500-400", StoredAnswer::Whole),
-        ("bytes=20000-10000", StoredAnswer::Whole),
-        ("bytes=", StoredAnswer::Whole),
-        ("bytes=-", StoredAnswer::Whole),
-        ("bytes=1", StoredAnswer::Whole),
-        ("bytes=1-2-3", StoredAnswer::Whole),
-        ("bytes=+1-2", StoredAnswer::Whole),
-        ("bytes 1-2", StoredAnswer::Whole),
-        ("bytes =1-2", StoredAnswer::Whole),
-        ("seconds=1-2", StoredAnswer::Whole),
-    ];
-    for (range, wanted) in table {
-        assert_eq!(rt; part(rt.alloc(), range, 10_000)?, wanted, "{range}");
-    }
-    Ok(())
+    all_hold(rt.alloc(), &RANGES, &RangeOfMuch)
 }
 
 // Section 14.1.2 again, for short representations.
+type ShortRange = (&'static str, usize, StoredAnswer);
+
+const SHORT_RANGES: [ShortRange; 7] = [
+    ("bytes=0-", 0, StoredAnswer::Unsatisfiable),
+    ("bytes=0-0", 0, StoredAnswer::Unsatisfiable),
+    ("bytes=-0", 0, StoredAnswer::Unsatisfiable),
+    ("bytes=-1", 0, StoredAnswer::Whole),
+    ("bytes=0-499", 1, StoredAnswer::Part { first: 0, last: 0 }),
+    ("bytes=-2", 1, StoredAnswer::Part { first: 0, last: 0 }),
+    ("bytes=1-", 1, StoredAnswer::Unsatisfiable),
+];
+
+struct RangeOfLittle;
+
+impl Question<ShortRange> for RangeOfLittle {
+    fn holds(&self, alloc: Global, row: &ShortRange) -> Result<bool, Fail> {
+        Ok(part(alloc, row.0, row.1)? == row.2)
+    }
+}
+
 #[test]
 fn ranges_of_little(rt: HostRuntime) -> Result<(), Fail> {
-    let table: [(&str, usize, StoredAnswer); 7] = [
-        ("bytes=0-", 0, StoredAnswer::Unsatisfiable),
-        ("bytes=0-0", 0, StoredAnswer::Unsatisfiable),
-        ("bytes=-0", 0, StoredAnswer::Unsatisfiable),
-        ("bytes=-1", 0, StoredAnswer::Whole),
-        ("bytes=0-499", 1, span(0, 0)),
-        ("bytes=-2", 1, span(0, 0)),
-        ("bytes=1-", 1, StoredAnswer::Unsatisfiable),
-    ];
-    for (range, length, wanted) in table {
-        assert_eq!(rt;
-            part(rt.alloc(), range, length)?,
-            wanted,
-            "{range} {length}"
-        );
-    }
-    Ok(())
+    all_hold(rt.alloc(), &SHORT_RANGES, &RangeOfLittle)
 }
 
 // Sections 13.1.5, 13.2.2 and 14.2: what goes before a range, and what it depends on.
+const LATE: &str =
+    "Date: Sat, 29 Oct 1994 19:44:31 GMT\nLast-Modified: Sat, 29 Oct 1994 19:43:31 GMT";
+
+const SAME: &str =
+    "Date: Sat, 29 Oct 1994 19:44:30 GMT\nLast-Modified: Sat, 29 Oct 1994 19:43:31 GMT";
+
+const ONLY: &str = "Last-Modified: Sat, 29 Oct 1994 19:43:31 GMT";
+
+const GIVEN: &str = "If-Range: Sat, 29 Oct 1994 19:43:31 GMT";
+
+const EARLIER: &str = "If-Range: Sat, 29 Oct 1994 19:43:30 GMT";
+
+const LATER: &str = "If-Range: Sat, 29 Oct 1994 19:43:32 GMT";
+
+// The fields of a request beside its range, those of the object, and the answer.
+type RangeCondition = (&'static str, &'static str, StoredAnswer);
+
+const RANGE_CONDITIONS: [RangeCondition; 18] = [
+    ("If-Match: \"b\"", "ETag: \"a\"", StoredAnswer::Whole),
+    (
+        "If-Range: \"a\"",
+        "ETag: \"a\"",
+        StoredAnswer::Part { first: 1, last: 2 },
+    ),
+    ("If-Range: \"a\"", "ETag: W/\"a\"", StoredAnswer::Whole),
+    ("If-Range: W/\"a\"", "ETag: W/\"a\"", StoredAnswer::Whole),
+    ("If-Range: W/\"a\"", "ETag: \"a\"", StoredAnswer::Whole),
+    ("If-Range: \"b\"", "ETag: \"a\"", StoredAnswer::Whole),
+    ("If-Range: \"a\"", LATE, StoredAnswer::Whole),
+    ("If-Range: a", "ETag: a", StoredAnswer::Whole),
+    (
+        "If-Range: \"a\"\nIf-Range: \"a\"",
+        "ETag: \"a\"",
+        StoredAnswer::Whole,
+    ),
+    (GIVEN, LATE, StoredAnswer::Part { first: 1, last: 2 }),
+    (GIVEN, SAME, StoredAnswer::Whole),
+    (GIVEN, ONLY, StoredAnswer::Whole),
+    (EARLIER, LATE, StoredAnswer::Whole),
+    (LATER, LATE, StoredAnswer::Whole),
+    (
+        "If-None-Match: \"a\"",
+        "ETag: \"a\"",
+        StoredAnswer::NotModified,
+    ),
+    (
+        "If-None-Match: \"b\"",
+        "ETag: \"a\"",
+        StoredAnswer::Part { first: 1, last: 2 },
+    ),
+    (
+        "If-None-Match: \"a\"\nIf-Range: \"b\"",
+        "ETag: \"a\"",
+        StoredAnswer::NotModified,
+    ),
+    (
+        "If-Modified-Since: Sat, 29 Oct 1994 19:43:31 GMT",
+        LATE,
+        StoredAnswer::NotModified,
+    ),
+];
+
+fn answer_in_range(alloc: Global, lines: &str, object: &str) -> Result<StoredAnswer, Fail> {
+    let lines = format!(in alloc; "Range: bytes=1-2\n{lines}")?;
+    answer(alloc, "GET", lines.as_str(), object)
+}
+
+struct AnswerInRange;
+
+impl Question<RangeCondition> for AnswerInRange {
+    fn holds(&self, alloc: Global, row: &RangeCondition) -> Result<bool, Fail> {
+        Ok(answer_in_range(alloc, row.0, row.1)? == row.2)
+    }
+}
+
 #[test]
 fn ranges_with_conditions(rt: HostRuntime) -> Result<(), Fail> {
-    let late = "Date: Sat, 29 Oct 1994 19:44:31 GMT\nLast-Modified: Sat, 29 Oct 1994 19:43:31 GMT";
-    let same = "Date: Sat, 29 Oct 1994 19:44:30 GMT\nLast-Modified: Sat, 29 Oct 1994 19:43:31 GMT";
-    let only = "Last-Modified: Sat, 29 Oct 1994 19:43:31 GMT";
-    let given = "If-Range: Sat, 29 Oct 1994 19:43:31 GMT";
-    let earlier = "If-Range: Sat, 29 Oct 1994 19:43:30 GMT";
-    let later = "If-Range: Sat, 29 Oct 1994 19:43:32 GMT";
-    let table: [(&str, &str, StoredAnswer); 18] = [
-        ("If-Match: \"b\"", "ETag: \"a\"", StoredAnswer::Whole),
-        ("If-Range: \"a\"", "ETag: \"a\"", span(1, 2)),
-        ("If-Range: \"a\"", "ETag: W/\"a\"", StoredAnswer::Whole),
-        ("If-Range: W/\"a\"", "ETag: W/\"a\"", StoredAnswer::Whole),
-        ("If-Range: W/\"a\"", "ETag: \"a\"", StoredAnswer::Whole),
-        ("If-Range: \"b\"", "ETag: \"a\"", StoredAnswer::Whole),
-        ("If-Range: \"a\"", late, StoredAnswer::Whole),
-        ("If-Range: a", "ETag: a", StoredAnswer::Whole),
-        (
-            "If-Range: \"a\"\nIf-Range: \"a\"",
-            "ETag: \"a\"",
-            StoredAnswer::Whole,
-        ),
-        (given, late, span(1, 2)),
-        (given, same, StoredAnswer::Whole),
-        (given, only, StoredAnswer::Whole),
-        (earlier, late, StoredAnswer::Whole),
-        (later, late, StoredAnswer::Whole),
-        (
-            "If-None-Match: \"a\"",
-            "ETag: \"a\"",
-            StoredAnswer::NotModified,
-        ),
-        ("If-None-Match: \"b\"", "ETag: \"a\"", span(1, 2)),
-        (
-            "If-None-Match: \"a\"\nIf-Range: \"b\"",
-            "ETag: \"a\"",
-            StoredAnswer::NotModified,
-        ),
-        (
-            "If-Modified-Since: Sat, 29 Oct 1994 19:43:31 GMT",
-            late,
-            StoredAnswer::NotModified,
-        ),
-    ];
-    for (lines, object, wanted) in table {
-        let lines = format!(in rt.alloc(); "Range: bytes=1-2\n{lines}")?;
-        let given = answer(rt.alloc(), "GET", lines.as_str(), object)?;
-        assert_eq!(rt; given, wanted, "{lines} {object}");
-    }
-    Ok(())
+    all_hold(rt.alloc(), &RANGE_CONDITIONS, &AnswerInRange)
 }
 
 // Section 14.2: a range is of GET alone, and in one field.
+type OtherRange = (&'static str, &'static str, StoredAnswer);
+
+const OTHER_RANGES: [OtherRange; 6] = [
+    (
+        "GET",
+        "Range: bytes=1-2",
+        StoredAnswer::Part { first: 1, last: 2 },
+    ),
+    ("HEAD", "Range: bytes=1-2", StoredAnswer::Whole),
+    ("HEAD", "Range: bytes=10000-", StoredAnswer::Whole),
+    (
+        "PUT",
+        "Range: bytes=1-2\nIf-None-Match: *",
+        StoredAnswer::Whole,
+    ),
+    ("get", "If-None-Match: *", StoredAnswer::Whole),
+    (
+        "GET",
+        "Range: bytes=1-2\nRange: bytes=1-2",
+        StoredAnswer::Whole,
+    ),
+];
+
+struct AnswerOfMethod;
+
+impl Question<OtherRange> for AnswerOfMethod {
+    fn holds(&self, alloc: Global, row: &OtherRange) -> Result<bool, Fail> {
+        Ok(answer(alloc, row.0, row.1, "")? == row.2)
+    }
+}
+
 #[test]
 fn ranges_of_other_requests(rt: HostRuntime) -> Result<(), Fail> {
-    let table: [(&str, &str, StoredAnswer); 6] = [
-        ("GET", "Range: bytes=1-2", span(1, 2)),
-        ("HEAD", "Range: bytes=1-2", StoredAnswer::Whole),
-        ("HEAD", "Range: bytes=10000-", StoredAnswer::Whole),
-        (
-            "PUT",
-            "Range: bytes=1-2\nIf-None-Match: *",
-            StoredAnswer::Whole,
-        ),
-        ("get", "If-None-Match: *", StoredAnswer::Whole),
-        (
-            "GET",
-            "Range: bytes=1-2\nRange: bytes=1-2",
-            StoredAnswer::Whole,
-        ),
-    ];
-    for (method, lines, wanted) in table {
-        assert_eq!(rt;
-            answer(rt.alloc(), method, lines, "")?,
-            wanted,
-            "{method} {lines}"
-        );
-    }
-    Ok(())
+    all_hold(rt.alloc(), &OTHER_RANGES, &AnswerOfMethod)
 }
 
 // Sections 13.1.1 and 13.1.4.
+type Decided = (&'static str, bool);
+
+const FOR_ORIGINS: [Decided; 5] = [
+    ("If-Match: \"a\"", true),
+    ("if-unmodified-since: x", true),
+    ("If-None-Match: \"a\"", false),
+    ("If-Modified-Since: x\nIf-Range: x\nRange: x", false),
+    ("", false),
+];
+
+struct ForOrigin;
+
+impl Question<Decided> for ForOrigin {
+    fn holds(&self, alloc: Global, row: &Decided) -> Result<bool, Fail> {
+        Ok(is_for_origin(&head_of(alloc, row.0)?) == row.1)
+    }
+}
+
 #[test]
 fn conditions_for_origins(rt: HostRuntime) -> Result<(), Fail> {
-    let table: [(&str, bool); 5] = [
-        ("If-Match: \"a\"", true),
-        ("if-unmodified-since: x", true),
-        ("If-None-Match: \"a\"", false),
-        ("If-Modified-Since: x\nIf-Range: x\nRange: x", false),
-        ("", false),
-    ];
-    for (lines, wanted) in table {
-        let head = head_of(rt.alloc(), lines)?;
-        assert_eq!(rt; is_for_origin(&head), wanted, "{lines}");
-    }
-    Ok(())
+    all_hold(rt.alloc(), &FOR_ORIGINS, &ForOrigin)
 }
 
 // Section 15.4.5.
+const IN_NOT_MODIFIED: [Decided; 12] = [
+    ("cache-control", true),
+    ("content-location", true),
+    ("date", true),
+    ("etag", true),
+    ("expires", true),
+    ("vary", true),
+    ("content-length", false),
+    ("content-type", false),
+    ("content-encoding", false),
+    ("content-range", false),
+    ("last-modified", true),
+    ("", false),
+];
+
+struct InNotModified;
+
+impl Question<Decided> for InNotModified {
+    fn holds(&self, _alloc: Global, row: &Decided) -> Result<bool, Fail> {
+        Ok(is_in_not_modified(row.0.as_bytes()) == row.1)
+    }
+}
+
 #[test]
 fn fields_of_not_modified(rt: HostRuntime) -> Result<(), Fail> {
-    let table: [(&str, bool); 12] = [
-        ("cache-control", true),
-        ("content-location", true),
-        ("date", true),
-        ("etag", true),
-        ("expires", true),
-        ("vary", true),
-        ("content-length", false),
-        ("content-type", false),
-        ("content-encoding", false),
-        ("content-range", false),
-        ("last-modified", true),
-        ("", false),
-    ];
-    for (name, wanted) in table {
-        assert_eq!(rt; is_in_not_modified(name.as_bytes()), wanted, "{name}");
-    }
-    Ok(())
+    all_hold(rt.alloc(), &IN_NOT_MODIFIED, &InNotModified)
 }
 
 // Section 14.4.
+// A first and a last octet, and the value for a representation of 1,234 octets.
+type Span = (usize, usize, &'static str);
+
+const SPANS: [Span; 2] = [
+    (42, 1_233, "bytes 42-1233/1234"),
+    (0, 499, "bytes 0-499/1234"),
+];
+
+struct ContentRange;
+
+impl Question<Span> for ContentRange {
+    fn holds(&self, alloc: Global, row: &Span) -> Result<bool, Fail> {
+        let value = content_range(alloc, row.0, row.1, 1_234)?;
+        Ok(value.as_slice() == row.2.as_bytes())
+    }
+}
+
+fn is_unsatisfied(alloc: Global, wanted: &str) -> Result<bool, Fail> {
+    let value = unsatisfied_range(alloc, 1_234)?;
+    Ok(value.as_slice() == wanted.as_bytes())
+}
+
 #[test]
 fn content_ranges(rt: HostRuntime) -> Result<(), Fail> {
-    let value = content_range(rt.alloc(), 42, 1_233, 1_234)?;
-    assert_eq!(rt; value.as_slice(), b"bytes 42-1233/1234".as_slice());
-    let value = content_range(rt.alloc(), 0, 499, 1_234)?;
-    assert_eq!(rt; value.as_slice(), b"bytes 0-499/1234".as_slice());
-    let value = unsatisfied_range(rt.alloc(), 1_234)?;
-    assert_eq!(rt; value.as_slice(), b"bytes */1234".as_slice());
+    all_hold(rt.alloc(), &SPANS, &ContentRange)?;
+    assert!(rt; is_unsatisfied(rt.alloc(), "bytes */1234")?);
     Ok(())
 }

@@ -1,6 +1,7 @@
 //! Which origins are fetched from, which requests have come back, and which are authorized.
 
 use crate::heads::head_of;
+use crate::rows::{Question, all_hold};
 use filter_slots::End;
 use http_rules::{OriginRules, has_come_back, is_authorized, loop_mark, usual_denials};
 use node_core::Network;
@@ -27,167 +28,237 @@ fn rules_of(alloc: Global, denied: &[Network], ports: Option<&[u16]>) -> Result<
     })
 }
 
+// An address, a port, and whether it is fetched from.
+type Socket = ([u8; 4], u16, bool);
+
+// Whether these rules admit a socket.
+#[derive(Clone, Copy)]
+struct Admits<'a> {
+    rules: &'a OriginRules,
+}
+
+impl Question<Socket> for Admits<'_> {
+    fn holds(&self, _alloc: Global, row: &Socket) -> Result<bool, Fail> {
+        let server = End {
+            addr: row.0,
+            port: row.1,
+        };
+        Ok(self.rules.admits(server) == row.2)
+    }
+}
+
+const OWN: [Socket; 7] = [
+    ([10, 0, 0, 1], 3128, false),
+    ([10, 0, 0, 1], 3129, true),
+    ([10, 0, 0, 2], 3128, true),
+    ([127, 0, 0, 1], 3129, false),
+    ([0, 0, 0, 0], 3129, false),
+    ([0, 0, 0, 0], 3128, true),
+    ([127, 0, 0, 2], 3129, true),
+];
+
 #[test]
 fn own_sockets(rt: HostRuntime) -> Result<(), Fail> {
-    let table: [([u8; 4], u16, bool); 7] = [
-        ([10, 0, 0, 1], 3128, false),
-        ([10, 0, 0, 1], 3129, true),
-        ([10, 0, 0, 2], 3128, true),
-        ([127, 0, 0, 1], 3129, false),
-        ([0, 0, 0, 0], 3129, false),
-        ([0, 0, 0, 0], 3128, true),
-        ([127, 0, 0, 2], 3129, true),
-    ];
     let rules = rules_of(rt.alloc(), &[], None)?;
-    for (addr, port, wanted) in table {
-        assert_eq!(rt; rules.admits(End { addr, port }), wanted, "{addr:?} {port}");
-    }
-    Ok(())
+    let told = all_hold(rt.alloc(), &OWN, &Admits { rules: &rules });
+    drop(rules);
+    told
 }
+
+const DENIED: [Socket; 8] = [
+    ([192, 168, 1, 1], 80, false),
+    ([192, 169, 1, 1], 80, true),
+    ([127, 255, 255, 255], 80, false),
+    ([128, 0, 0, 0], 80, true),
+    ([0, 0, 0, 0], 80, false),
+    ([0, 0, 0, 1], 80, true),
+    ([192, 0, 2, 1], 8080, true),
+    ([192, 0, 2, 1], 81, false),
+];
+
+const DENIED_NETWORKS: [Network; 2] = [
+    Network {
+        addr: [192, 168, 0, 0],
+        prefix: 16,
+    },
+    Network {
+        addr: [127, 0, 0, 0],
+        prefix: 8,
+    },
+];
 
 #[test]
 fn denied_networks_and_ports(rt: HostRuntime) -> Result<(), Fail> {
-    let table: [([u8; 4], u16, bool); 8] = [
-        ([192, 168, 1, 1], 80, false),
-        ([192, 169, 1, 1], 80, true),
-        ([127, 255, 255, 255], 80, false),
-        ([128, 0, 0, 0], 80, true),
-        ([0, 0, 0, 0], 80, false),
-        ([0, 0, 0, 1], 80, true),
-        ([192, 0, 2, 1], 8080, true),
-        ([192, 0, 2, 1], 81, false),
-    ];
-    let denied = [
-        Network {
-            addr: [192, 168, 0, 0],
-            prefix: 16,
-        },
-        Network {
-            addr: [127, 0, 0, 0],
-            prefix: 8,
-        },
-    ];
-    let rules = rules_of(rt.alloc(), &denied, Some(&[80, 8080]))?;
-    for (addr, port, wanted) in table {
-        assert_eq!(rt; rules.admits(End { addr, port }), wanted, "{addr:?} {port}");
+    let rules = rules_of(rt.alloc(), &DENIED_NETWORKS, Some(&[80, 8080]))?;
+    let told = all_hold(rt.alloc(), &DENIED, &Admits { rules: &rules });
+    drop(rules);
+    told
+}
+
+// The usual rules of a cache at this address.
+fn usual_rules(alloc: Global, own: [u8; 4]) -> Result<OriginRules, Fail> {
+    let denied = usual_denials(alloc, own)?;
+    rules_of(alloc, denied.as_slice(), None)
+}
+
+// An address, and whether it is fetched from by a cache elsewhere and by one in the loopback network.
+type Usual = ([u8; 4], bool, bool);
+
+const USUAL: [Usual; 8] = [
+    ([127, 0, 0, 1], false, true),
+    ([127, 255, 255, 255], false, true),
+    ([126, 255, 255, 255], true, true),
+    ([169, 254, 169, 254], false, false),
+    ([169, 253, 255, 255], true, true),
+    ([0, 0, 0, 0], false, false),
+    ([0, 255, 255, 255], false, false),
+    ([1, 0, 0, 0], true, true),
+];
+
+// Whether the rules of caches elsewhere and in the loopback network admit an address.
+#[derive(Clone, Copy)]
+struct Usually<'a> {
+    elsewhere: &'a OriginRules,
+    loopback: &'a OriginRules,
+}
+
+impl Question<Usual> for Usually<'_> {
+    fn holds(&self, _alloc: Global, row: &Usual) -> Result<bool, Fail> {
+        let server = End {
+            addr: row.0,
+            port: 80,
+        };
+        Ok(self.elsewhere.admits(server) == row.1 && self.loopback.admits(server) == row.2)
     }
-    Ok(())
+}
+
+fn usual_rules_hold(alloc: Global, elsewhere: &OriginRules) -> Result<(), Fail> {
+    let loopback = usual_rules(alloc, [127, 0, 0, 2])?;
+    let question = Usually {
+        elsewhere,
+        loopback: &loopback,
+    };
+    let told = all_hold(alloc, &USUAL, &question);
+    drop(loopback);
+    told
 }
 
 #[test]
 fn usually_denied(rt: HostRuntime) -> Result<(), Fail> {
-    let table: [([u8; 4], bool, bool); 8] = [
-        ([127, 0, 0, 1], false, true),
-        ([127, 255, 255, 255], false, true),
-        ([126, 255, 255, 255], true, true),
-        ([169, 254, 169, 254], false, false),
-        ([169, 253, 255, 255], true, true),
-        ([0, 0, 0, 0], false, false),
-        ([0, 255, 255, 255], false, false),
-        ([1, 0, 0, 0], true, true),
-    ];
-    let elsewhere = usual_denials(rt.alloc(), [10, 0, 0, 1])?;
-    let loopback = usual_denials(rt.alloc(), [127, 0, 0, 2])?;
-    let from_elsewhere = rules_of(rt.alloc(), elsewhere.as_slice(), None)?;
-    let from_loopback = rules_of(rt.alloc(), loopback.as_slice(), None)?;
-    for (addr, wanted, wanted_in_loopback) in table {
-        let server = End { addr, port: 80 };
-        assert_eq!(rt; from_elsewhere.admits(server), wanted, "{addr:?}");
-        assert_eq!(rt;
-            from_loopback.admits(server),
-            wanted_in_loopback,
-            "{addr:?}"
-        );
+    let elsewhere = usual_rules(rt.alloc(), [10, 0, 0, 1])?;
+    let told = usual_rules_hold(rt.alloc(), &elsewhere);
+    drop(elsewhere);
+    told
+}
+
+// A name, a number, and the mark of the cache that has both.
+type Mark = (&'static str, u64, &'static str);
+
+const MARKS: [Mark; 5] = [
+    (
+        "cache.example",
+        0x0123_4567_89ab_cdef,
+        "cache.example;id=0123456789abcdef",
+    ),
+    (
+        "!#$%&'*+-.^_`|~09azAZ",
+        15,
+        "!#$%&'*+-.^_`|~09azAZ;id=000000000000000f",
+    ),
+    ("cache:3128", u64::MAX, "wabretos;id=ffffffffffffffff"),
+    ("a,b", 0, "wabretos;id=0000000000000000"),
+    ("", 1, "wabretos;id=0000000000000001"),
+];
+
+struct MarkOf;
+
+impl Question<Mark> for MarkOf {
+    fn holds(&self, alloc: Global, row: &Mark) -> Result<bool, Fail> {
+        let mark = loop_mark(alloc, row.0.as_bytes(), row.1)?;
+        Ok(mark.as_slice() == row.2.as_bytes())
     }
-    Ok(())
 }
 
 #[test]
 fn marks(rt: HostRuntime) -> Result<(), Fail> {
-    let table: [(&str, u64, &str); 5] = [
-        (
-            "cache.example",
-            0x0123_4567_89ab_cdef,
-            "cache.example;id=0123456789abcdef",
-        ),
-        (
-            "!#$%&'*+-.^_`|~09azAZ",
-            15,
-            "!#$%&'*+-.^_`|~09azAZ;id=000000000000000f",
-        ),
-        ("cache:3128", u64::MAX, "wabretos;id=ffffffffffffffff"),
-        ("a,b", 0, "wabretos;id=0000000000000000"),
-        ("", 1, "wabretos;id=0000000000000001"),
-    ];
-    for (name, number, wanted) in table {
-        let mark = loop_mark(rt.alloc(), name.as_bytes(), number)?;
-        assert_eq!(rt; mark.as_slice(), wanted.as_bytes());
-    }
-    Ok(())
+    all_hold(rt.alloc(), &MARKS, &MarkOf)
 }
 
 // The fields of the example of RFC 8586, section 2.
 const EXAMPLE: &str =
     "CDN-Loop: foo123.foocdn.example, barcdn.example; trace=\"abcdef\"\nCDN-Loop: AnotherCDN; abc=123; def=\"456\"";
 
+// The fields of a request, a mark, and whether the request has come back to the cache with that mark.
+type Back = (&'static str, &'static str, bool);
+
+const BACK: [Back; 17] = [
+    (EXAMPLE, "foo123.foocdn.example", true),
+    (EXAMPLE, "barcdn.example;trace=\"abcdef\"", true),
+    (EXAMPLE, "AnotherCDN;abc=123;def=\"456\"", true),
+    (EXAMPLE, "barcdn.example", false),
+    (EXAMPLE, "foo123.foocdn", false),
+    (EXAMPLE, "anotherCDN;abc=123;def=\"456\"", false),
+    ("Host: a", "a;id=0", false),
+    ("CDN-Loop: a;id=0", "a;id=0", true),
+    ("CDN-Loop: \t a ;\tid = 0 \t,b", "a;id=0", true),
+    ("CDN-Loop: ,,a;id=0", "a;id=0", true),
+    ("CDN-Loop: a;id=00", "a;id=0", false),
+    ("CDN-Loop: a;id=", "a;id=0", false),
+    ("CDN-Loop: b;x=\",a;id=0,\"", "a;id=0", false),
+    ("CDN-Loop: b;x=\"\\\",a;id=0,\"", "a;id=0", false),
+    ("CDN-Loop: b;x=\"\\\\\",a;id=0", "a;id=0", true),
+    ("CDN-Loop: b\nCDN-Loop: a;id=0", "a;id=0", true),
+    ("CDN-Loop: a;x=\"b c\"", "a;x=\"bc\"", false),
+];
+
+struct ComesBack;
+
+impl Question<Back> for ComesBack {
+    fn holds(&self, alloc: Global, row: &Back) -> Result<bool, Fail> {
+        let head = head_of(alloc, row.0)?;
+        Ok(has_come_back(&head, row.1.as_bytes()) == row.2)
+    }
+}
+
 #[test]
 fn requests_that_come_back(rt: HostRuntime) -> Result<(), Fail> {
-    let table: [(&str, &str, bool); 17] = [
-        (EXAMPLE, "foo123.foocdn.example", true),
-        (EXAMPLE, "barcdn.example;trace=\"abcdef\"", true),
-        (EXAMPLE, "AnotherCDN;abc=123;def=\"456\"", true),
-        (EXAMPLE, "barcdn.example", false),
-        (EXAMPLE, "foo123.foocdn", false),
-        (EXAMPLE, "anotherCDN;abc=123;def=\"456\"", false),
-        ("Host: a", "a;id=0", false),
-        ("CDN-Loop: a;id=0", "a;id=0", true),
-        ("CDN-Loop: \t a ;\tid = 0 \t,b", "a;id=0", true),
-        ("CDN-Loop: ,,a;id=0", "a;id=0", true),
-        ("CDN-Loop: a;id=00", "a;id=0", false),
-        ("CDN-Loop: a;id=", "a;id=0", false),
-        ("CDN-Loop: b;x=\",a;id=0,\"", "a;id=0", false),
-        ("CDN-Loop: b;x=\"\\\",a;id=0,\"", "a;id=0", false),
-        ("CDN-Loop: b;x=\"\\\\\",a;id=0", "a;id=0", true),
-        ("CDN-Loop: b\nCDN-Loop: a;id=0", "a;id=0", true),
-        ("CDN-Loop: a;x=\"b c\"", "a;x=\"bc\"", false),
-    ];
-    for (lines, mark, wanted) in table {
-        let head = head_of(rt.alloc(), lines)?;
-        assert_eq!(rt;
-            has_come_back(&head, mark.as_bytes()),
-            wanted,
-            "{lines} {mark}"
-        );
+    all_hold(rt.alloc(), &BACK, &ComesBack)
+}
+
+// The fields of a request, and whether it bears the token.
+type Bearer = (&'static str, bool);
+
+const BEARERS: [Bearer; 15] = [
+    // RFC 6750, section 2.1
+    ("Authorization: Bearer mF_9.B5f-4.1JqM", true),
+    ("authorization: bEARER   mF_9.B5f-4.1JqM", true),
+    ("Authorization: Bearer mF_9.B5f-4.1JqN", false),
+    ("Authorization: Bearer nF_9.B5f-4.1JqM", false),
+    ("Authorization: Bearer mF_9.B5f-4.1Jq", false),
+    ("Authorization: Bearer mF_9.B5f-4.1JqMM", false),
+    ("Authorization: Bearer mf_9.b5f-4.1jqm", false),
+    ("Authorization: BearermF_9.B5f-4.1JqM", false),
+    ("Authorization: Bearer\tmF_9.B5f-4.1JqM", false),
+    ("Authorization: Basic mF_9.B5f-4.1JqM", false),
+    ("Authorization: mF_9.B5f-4.1JqM", false),
+    ("Authorization: Bearer", false),
+    ("Proxy-Authorization: Bearer mF_9.B5f-4.1JqM", false),
+    (
+        "Authorization: Bearer mF_9.B5f-4.1JqM\nAuthorization: Bearer mF_9.B5f-4.1JqM",
+        false,
+    ),
+    ("Host: a", false),
+];
+
+struct IsAuthorized;
+
+impl Question<Bearer> for IsAuthorized {
+    fn holds(&self, alloc: Global, row: &Bearer) -> Result<bool, Fail> {
+        Ok(is_authorized(&head_of(alloc, row.0)?, b"mF_9.B5f-4.1JqM") == row.1)
     }
-    Ok(())
 }
 
 #[test]
 fn bearers(rt: HostRuntime) -> Result<(), Fail> {
-    let table: [(&str, bool); 15] = [
-        // RFC 6750, section 2.1
-        ("Authorization: Bearer mF_9.B5f-4.1JqM", true),
-        ("authorization: bEARER   mF_9.B5f-4.1JqM", true),
-        ("Authorization: Bearer mF_9.B5f-4.1JqN", false),
-        ("Authorization: Bearer nF_9.B5f-4.1JqM", false),
-        ("Authorization: Bearer mF_9.B5f-4.1Jq", false),
-        ("Authorization: Bearer mF_9.B5f-4.1JqMM", false),
-        ("Authorization: Bearer mf_9.b5f-4.1jqm", false),
-        ("Authorization: BearermF_9.B5f-4.1JqM", false),
-        ("Authorization: Bearer\tmF_9.B5f-4.1JqM", false),
-        ("Authorization: Basic mF_9.B5f-4.1JqM", false),
-        ("Authorization: mF_9.B5f-4.1JqM", false),
-        ("Authorization: Bearer", false),
-        ("Proxy-Authorization: Bearer mF_9.B5f-4.1JqM", false),
-        (
-            "Authorization: Bearer mF_9.B5f-4.1JqM\nAuthorization: Bearer mF_9.B5f-4.1JqM",
-            false,
-        ),
-        ("Host: a", false),
-    ];
-    for (lines, wanted) in table {
-        let head = head_of(rt.alloc(), lines)?;
-        assert_eq!(rt; is_authorized(&head, b"mF_9.B5f-4.1JqM"), wanted, "{lines}");
-    }
-    Ok(())
+    all_hold(rt.alloc(), &BEARERS, &IsAuthorized)
 }

@@ -2,6 +2,8 @@
 //! calculated by hand from the sections of RFC 9111 that the tests name.
 
 use crate::heads::head_of;
+use crate::rows::{Question, all_hold};
+use http_header::HeaderMap;
 use http_rules::{Kept, RefreshRule, Stored, UrlPlace, accepts, choose, may_keep};
 use node_core::Mode;
 use std::alloc::Global;
@@ -10,215 +12,228 @@ use std::test::Fail;
 /// Sun, 06 Nov 1994 08:49:37 GMT.
 const NOVEMBER: u64 = 784_111_777;
 
-/// The fields `lines` after a Date of `NOVEMBER`, and how long a response with them is kept that comes in the same second.
+// The fields `lines` after a Date of `NOVEMBER`, and how long a response with them is kept that comes in the same second.
 type Lives = (&'static str, Option<u32>);
+
+// What is kept of a response to a shared request for this URL that has this head.
+fn kept_for(url: &str, head: &HeaderMap, times: (u64, u64), rules: &[RefreshRule]) -> Option<Kept> {
+    let (requested, received) = times;
+    may_keep(
+        Mode::Shared,
+        url.as_bytes(),
+        200,
+        head,
+        requested,
+        received,
+        rules,
+    )
+}
+
+fn life_of(kept: Option<Kept>) -> Option<u32> {
+    match kept {
+        Some(kept) => Some(kept.life),
+        None => None,
+    }
+}
 
 /// How long a response to a shared request for `http://a/` is kept that has these fields after a Date of `NOVEMBER`, which is also
 /// the time of the request and of the response.
 fn life(alloc: Global, lines: &str) -> Result<Option<u32>, Fail> {
-    let mut dated = "Date: Sun, 06 Nov 1994 08:49:37 GMT\n".to_string(alloc)?;
-    dated.push_str(lines)?;
+    let dated = format!(in alloc; "Date: Sun, 06 Nov 1994 08:49:37 GMT\n{lines}")?;
     let head = head_of(alloc, dated.as_str())?;
-    let kept = may_keep(
-        Mode::Shared,
-        b"http://a/",
-        200,
-        &head,
-        NOVEMBER,
-        NOVEMBER,
-        &[],
-    );
-    Ok(match kept {
-        Some(kept) => Some(kept.life),
-        None => None,
-    })
+    Ok(life_of(kept_for("http://a/", &head, (NOVEMBER, NOVEMBER), &[])))
+}
+
+struct LifeOf;
+
+impl Question<Lives> for LifeOf {
+    fn holds(&self, alloc: Global, row: &Lives) -> Result<bool, Fail> {
+        Ok(life(alloc, row.0)? == row.1)
+    }
 }
 
 // RFC 9111, section 4.2.1: s-maxage, otherwise max-age, otherwise Expires less Date.
+const STATED: [Lives; 19] = [
+    (
+        "Cache-Control: s-maxage=30, max-age=60\nExpires: Sun, 06 Nov 1994 08:51:17 GMT",
+        Some(30),
+    ),
+    (
+        "Cache-Control: max-age=60\nCache-Control: s-maxage=30",
+        Some(30),
+    ),
+    (
+        "Cache-Control: max-age=60\nExpires: Sun, 06 Nov 1994 08:51:17 GMT",
+        Some(60),
+    ),
+    ("Expires: Sun, 06 Nov 1994 08:51:17 GMT", Some(100)),
+    ("Expires: Sunday, 06-Nov-94 08:51:17 GMT", Some(100)),
+    ("Expires: Sun Nov  6 08:51:17 1994", Some(100)),
+    ("Expires: Sun, 06 Nov 1994 08:49:38 GMT", Some(1)),
+    ("Expires: Sun, 06 Nov 1994 08:49:37 GMT", None),
+    ("Expires: Sun, 06 Nov 1994 08:49:36 GMT", None),
+    (
+        "Expires: Fri, 31 Dec 9999 23:59:59 GMT",
+        Some(2_147_483_648),
+    ),
+    ("Cache-Control: max-age=1", Some(1)),
+    ("Cache-Control: max-age=0", None),
+    ("Cache-Control: max-age=2147483647", Some(2_147_483_647)),
+    ("Cache-Control: max-age=2147483649", Some(2_147_483_648)),
+    ("Cache-Control: max-age=60, max-age=30", Some(60)),
+    ("Cache-Control: max-age=\"60\"", Some(60)),
+    (
+        "Cache-Control: max-age=x\nExpires: Sun, 06 Nov 1994 08:51:17 GMT",
+        None,
+    ),
+    ("Cache-Control: s-maxage, max-age=60", None),
+    // section 5.4: Pragma has no meaning in a response
+    ("Pragma: no-cache\nCache-Control: max-age=60", Some(60)),
+];
+
 #[test]
 fn stated_lifetimes(rt: HostRuntime) -> Result<(), Fail> {
-    let table: [Lives; 19] = [
-        (
-            "Cache-Control: s-maxage=30, max-age=60\nExpires: Sun, 06 Nov 1994 08:51:17 GMT",
-            Some(30),
-        ),
-        (
-            "Cache-Control: max-age=60\nCache-Control: s-maxage=30",
-            Some(30),
-        ),
-        (
-            "Cache-Control: max-age=60\nExpires: Sun, 06 Nov 1994 08:51:17 GMT",
-            Some(60),
-        ),
-        ("Expires: Sun, 06 Nov 1994 08:51:17 GMT", Some(100)),
-        ("Expires: Sunday, 06-Nov-94 08:51:17 GMT", Some(100)),
-        ("Expires: Sun Nov  6 08:51:17 1994", Some(100)),
-        ("Expires: Sun, 06 Nov 1994 08:49:38 GMT", Some(1)),
-        ("Expires: Sun, 06 Nov 1994 08:49:37 GMT", None),
-        ("Expires: Sun, 06 Nov 1994 08:49:36 GMT", None),
-        (
-            "Expires: Fri, 31 Dec 9999 23:59:59 GMT",
-            Some(2_147_483_648),
-        ),
-        ("Cache-Control: max-age=1", Some(1)),
-        ("Cache-Control: max-age=0", None),
-        ("Cache-Control: max-age=2147483647", Some(2_147_483_647)),
-        ("Cache-Control: max-age=2147483649", Some(2_147_483_648)),
-        ("Cache-Control: max-age=60, max-age=30", Some(60)),
-        ("Cache-Control: max-age=\"60\"", Some(60)),
-        (
-            "Cache-Control: max-age=x\nExpires: Sun, 06 Nov 1994 08:51:17 GMT",
-            None,
-        ),
-        ("Cache-Control: s-maxage, max-age=60", None),
-        // section 5.4: Pragma has no meaning in a response
-        ("Pragma: no-cache\nCache-Control: max-age=60", Some(60)),
-    ];
-    for (lines, wanted) in table {
-        assert_eq!(rt; life(rt.alloc(), lines)?, wanted, "{lines}");
-    }
-    Ok(())
+    all_hold(rt.alloc(), &STATED, &LifeOf)
 }
 
 // RFC 9111, section 5.3: an invalid date, especially `0`, is a time in the past; section 4.2.1: so are fields that differ. What is
 // stated so is not replaced by a heuristic (section 4.2.2).
+const BROKEN: [Lives; 5] = [
+    (
+        "Expires: 0\nLast-Modified: Fri, 29 Jul 1994 08:49:37 GMT",
+        None,
+    ),
+    ("Expires: -1", None),
+    ("Expires: Mon, 06 Nov 1994 08:51:17 GMT", None),
+    (
+        "Expires: Sun, 06 Nov 1994 08:51:17 GMT\nExpires: Sun, 06 Nov 1994 08:51:17 GMT",
+        Some(100),
+    ),
+    (
+        "Expires: Sun, 06 Nov 1994 08:51:17 GMT\nExpires: Sun, 06 Nov 1994 08:51:18 GMT",
+        None,
+    ),
+];
+
 #[test]
 fn broken_expires(rt: HostRuntime) -> Result<(), Fail> {
-    let table: [Lives; 5] = [
-        (
-            "Expires: 0\nLast-Modified: Fri, 29 Jul 1994 08:49:37 GMT",
-            None,
-        ),
-        ("Expires: -1", None),
-        ("Expires: Mon, 06 Nov 1994 08:51:17 GMT", None),
-        (
-            "Expires: Sun, 06 Nov 1994 08:51:17 GMT\nExpires: Sun, 06 Nov 1994 08:51:17 GMT",
-            Some(100),
-        ),
-        (
-            "Expires: Sun, 06 Nov 1994 08:51:17 GMT\nExpires: Sun, 06 Nov 1994 08:51:18 GMT",
-            None,
-        ),
-    ];
-    for (lines, wanted) in table {
-        assert_eq!(rt; life(rt.alloc(), lines)?, wanted, "{lines}");
-    }
-    Ok(())
+    all_hold(rt.alloc(), &BROKEN, &LifeOf)
 }
 
 // RFC 9111, section 4.2.2: a tenth of the time since Last-Modified, at most a day. 29 July is 100 days before 6 November, 27 October
 // 10 days.
+const HEURISTIC: [Lives; 12] = [
+    ("Last-Modified: Fri, 29 Jul 1994 08:49:37 GMT", Some(86_400)),
+    ("Last-Modified: Thu, 27 Oct 1994 08:49:27 GMT", Some(86_400)),
+    ("Last-Modified: Thu, 27 Oct 1994 08:49:37 GMT", Some(86_400)),
+    ("Last-Modified: Thu, 27 Oct 1994 08:49:47 GMT", Some(86_399)),
+    ("Last-Modified: Sunday, 06-Nov-94 08:47:57 GMT", Some(10)),
+    ("Last-Modified: Sun Nov  6 08:49:27 1994", Some(1)),
+    ("Last-Modified: Sun, 06 Nov 1994 08:49:28 GMT", None),
+    ("Last-Modified: Sun, 06 Nov 1994 08:49:37 GMT", None),
+    ("Last-Modified: Sun, 06 Nov 1994 08:49:38 GMT", None),
+    ("Last-Modified: yesterday", None),
+    ("Content-Type: text/plain", None),
+    (
+        "Cache-Control: max-age=60\nLast-Modified: Fri, 29 Jul 1994 08:49:37 GMT",
+        Some(60),
+    ),
+];
+
 #[test]
 fn heuristic_lifetimes(rt: HostRuntime) -> Result<(), Fail> {
-    let table: [Lives; 12] = [
-        ("Last-Modified: Fri, 29 Jul 1994 08:49:37 GMT", Some(86_400)),
-        ("Last-Modified: Thu, 27 Oct 1994 08:49:27 GMT", Some(86_400)),
-        ("Last-Modified: Thu, 27 Oct 1994 08:49:37 GMT", Some(86_400)),
-        ("Last-Modified: Thu, 27 Oct 1994 08:49:47 GMT", Some(86_399)),
-        ("Last-Modified: Sunday, 06-Nov-94 08:47:57 GMT", Some(10)),
-        ("Last-Modified: Sun Nov  6 08:49:27 1994", Some(1)),
-        ("Last-Modified: Sun, 06 Nov 1994 08:49:28 GMT", None),
-        ("Last-Modified: Sun, 06 Nov 1994 08:49:37 GMT", None),
-        ("Last-Modified: Sun, 06 Nov 1994 08:49:38 GMT", None),
-        ("Last-Modified: yesterday", None),
-        ("Content-Type: text/plain", None),
-        (
-            "Cache-Control: max-age=60\nLast-Modified: Fri, 29 Jul 1994 08:49:37 GMT",
-            Some(60),
-        ),
-    ];
-    for (lines, wanted) in table {
-        assert_eq!(rt; life(rt.alloc(), lines)?, wanted, "{lines}");
-    }
-    Ok(())
+    all_hold(rt.alloc(), &HEURISTIC, &LifeOf)
 }
 
 // RFC 9111, section 4.2.3: the greater of the time since Date and of Age with the time from the request to the response.
-#[test]
-fn ages(rt: HostRuntime) -> Result<(), Fail> {
-    let date = "Date: Sun, 06 Nov 1994 08:49:37 GMT";
-    let none = "Server: a";
-    let table: [(&str, &str, u64, u64, Option<(u32, u32)>); 21] = [
-        (date, "Age: 10", NOVEMBER, NOVEMBER, Some((10, 50))),
-        (date, "Age: 10", NOVEMBER, NOVEMBER + 5, Some((15, 45))),
-        (date, none, NOVEMBER + 19, NOVEMBER + 20, Some((20, 40))),
-        (
-            date,
-            "Age: 30",
-            NOVEMBER + 19,
-            NOVEMBER + 20,
-            Some((31, 29)),
-        ),
-        (date, "Age: 59", NOVEMBER, NOVEMBER, Some((59, 1))),
-        (date, "Age: 60", NOVEMBER, NOVEMBER, None),
-        (date, "Age: 58", NOVEMBER, NOVEMBER + 1, Some((59, 1))),
-        (date, "Age: 58", NOVEMBER, NOVEMBER + 2, None),
-        (date, none, NOVEMBER + 59, NOVEMBER + 59, Some((59, 1))),
-        (date, none, NOVEMBER + 60, NOVEMBER + 60, None),
-        (date, none, NOVEMBER + 10, NOVEMBER, Some((0, 60))),
-        (date, none, NOVEMBER - 100, NOVEMBER - 100, Some((0, 60))),
-        (date, "Age: x", NOVEMBER, NOVEMBER, Some((0, 60))),
-        // Section 5.1: the first member of a list; what is no number is ignored.
-        (date, "Age: 10, 5", NOVEMBER, NOVEMBER, Some((10, 50))),
-        (date, "Age: 5 ,100", NOVEMBER, NOVEMBER, Some((5, 55))),
-        (date, "Age: 60, 5", NOVEMBER, NOVEMBER, None),
-        (date, "Age: x, 5", NOVEMBER, NOVEMBER, Some((0, 60))),
-        (date, "Age: 5\nAge: 50", NOVEMBER, NOVEMBER, Some((5, 55))),
-        (none, none, NOVEMBER, NOVEMBER + 3, Some((3, 57))),
-        ("Date: today", none, NOVEMBER, NOVEMBER + 3, Some((3, 57))),
-        (none, "Age: 2147483649", 0, u64::MAX, None),
-    ];
-    for (date, age, requested, received, wanted) in table {
-        let mut lines = "Cache-Control: max-age=60\n".to_string(rt.alloc())?;
-        lines.push_str(date)?;
-        lines.push_str("\n")?;
-        lines.push_str(age)?;
-        let head = head_of(rt.alloc(), lines.as_str())?;
-        let kept = may_keep(
-            Mode::Shared,
-            b"http://a/",
-            200,
-            &head,
-            requested,
-            received,
-            &[],
-        );
-        let wanted = match wanted {
-            Some((age, life)) => Some(Kept { age, life }),
+const DATE: &str = "Date: Sun, 06 Nov 1994 08:49:37 GMT";
+
+const NONE: &str = "Server: a";
+
+// Two lines of a response, when it was asked for and when it came, and its age and life then.
+type Ages = (&'static str, &'static str, u64, u64, Option<(u32, u32)>);
+
+const AGES: [Ages; 21] = [
+    (DATE, "Age: 10", NOVEMBER, NOVEMBER, Some((10, 50))),
+    (DATE, "Age: 10", NOVEMBER, NOVEMBER + 5, Some((15, 45))),
+    (DATE, NONE, NOVEMBER + 19, NOVEMBER + 20, Some((20, 40))),
+    (
+        DATE,
+        "Age: 30",
+        NOVEMBER + 19,
+        NOVEMBER + 20,
+        Some((31, 29)),
+    ),
+    (DATE, "Age: 59", NOVEMBER, NOVEMBER, Some((59, 1))),
+    (DATE, "Age: 60", NOVEMBER, NOVEMBER, None),
+    (DATE, "Age: 58", NOVEMBER, NOVEMBER + 1, Some((59, 1))),
+    (DATE, "Age: 58", NOVEMBER, NOVEMBER + 2, None),
+    (DATE, NONE, NOVEMBER + 59, NOVEMBER + 59, Some((59, 1))),
+    (DATE, NONE, NOVEMBER + 60, NOVEMBER + 60, None),
+    (DATE, NONE, NOVEMBER + 10, NOVEMBER, Some((0, 60))),
+    (DATE, NONE, NOVEMBER - 100, NOVEMBER - 100, Some((0, 60))),
+    (DATE, "Age: x", NOVEMBER, NOVEMBER, Some((0, 60))),
+    // Section 5.1: the first member of a list; what is no number is ignored.
+    (DATE, "Age: 10, 5", NOVEMBER, NOVEMBER, Some((10, 50))),
+    (DATE, "Age: 5 ,100", NOVEMBER, NOVEMBER, Some((5, 55))),
+    (DATE, "Age: 60, 5", NOVEMBER, NOVEMBER, None),
+    (DATE, "Age: x, 5", NOVEMBER, NOVEMBER, Some((0, 60))),
+    (DATE, "Age: 5\nAge: 50", NOVEMBER, NOVEMBER, Some((5, 55))),
+    (NONE, NONE, NOVEMBER, NOVEMBER + 3, Some((3, 57))),
+    ("Date: today", NONE, NOVEMBER, NOVEMBER + 3, Some((3, 57))),
+    (NONE, "Age: 2147483649", 0, u64::MAX, None),
+];
+
+// What is kept of a response that has these fields beside a life of 60 seconds.
+fn kept_of(alloc: Global, row: &Ages) -> Result<Option<Kept>, Fail> {
+    let lines = format!(in alloc; "Cache-Control: max-age=60\n{}\n{}", row.0, row.1)?;
+    let head = head_of(alloc, lines.as_str())?;
+    Ok(kept_for("http://a/", &head, (row.2, row.3), &[]))
+}
+
+struct AgeOf;
+
+impl Question<Ages> for AgeOf {
+    fn holds(&self, alloc: Global, row: &Ages) -> Result<bool, Fail> {
+        let told = match kept_of(alloc, row)? {
+            Some(kept) => Some((kept.age, kept.life)),
             None => None,
         };
-        assert_eq!(rt; kept, wanted, "{date} {age} {requested} {received}");
+        Ok(told == row.4)
     }
-    Ok(())
+}
+
+#[test]
+fn ages(rt: HostRuntime) -> Result<(), Fail> {
+    all_hold(rt.alloc(), &AGES, &AgeOf)
 }
 
 // RFC 9111, section 4.2.1: Expires less Date, or less the time of receipt where there is no Date (RFC 9110, section 6.6.1).
+const EXPIRING: [(&str, Kept); 2] = [
+    (
+        "Expires: Sun, 06 Nov 1994 08:51:17 GMT",
+        Kept { age: 0, life: 60 },
+    ),
+    (
+        "Expires: Sun, 06 Nov 1994 08:51:17 GMT\nDate: Sun Nov  6 08:49:37 1994",
+        Kept { age: 40, life: 60 },
+    ),
+];
+
+// What is kept of a response with these fields that comes 40 seconds after `NOVEMBER`.
+struct KeptLater;
+
+impl Question<(&'static str, Kept)> for KeptLater {
+    fn holds(&self, alloc: Global, row: &(&'static str, Kept)) -> Result<bool, Fail> {
+        let head = head_of(alloc, row.0)?;
+        let times = (NOVEMBER + 40, NOVEMBER + 40);
+        Ok(kept_for("http://a/", &head, times, &[]) == Some(row.1))
+    }
+}
+
 #[test]
 fn expires_without_a_date(rt: HostRuntime) -> Result<(), Fail> {
-    let head = head_of(rt.alloc(), "Expires: Sun, 06 Nov 1994 08:51:17 GMT")?;
-    let kept = may_keep(
-        Mode::Shared,
-        b"http://a/",
-        200,
-        &head,
-        NOVEMBER + 40,
-        NOVEMBER + 40,
-        &[],
-    );
-    assert_eq!(rt; kept, Some(Kept { age: 0, life: 60 }));
-    let lines = "Expires: Sun, 06 Nov 1994 08:51:17 GMT\nDate: Sun Nov  6 08:49:37 1994";
-    let head = head_of(rt.alloc(), lines)?;
-    let kept = may_keep(
-        Mode::Shared,
-        b"http://a/",
-        200,
-        &head,
-        NOVEMBER + 40,
-        NOVEMBER + 40,
-        &[],
-    );
-    assert_eq!(rt; kept, Some(Kept { age: 40, life: 60 }));
-    Ok(())
+    all_hold(rt.alloc(), &EXPIRING, &KeptLater)
 }
 
 const PROHIBITIONS: [Lives; 20] = [
@@ -269,27 +284,41 @@ const PROHIBITIONS: [Lives; 20] = [
 ];
 
 // RFC 9111, sections 3 (statuses), 4.1 (Vary), 5.2.2.3 (must-understand), 5.2.2.4 (no-cache), 5.2.2.5 (no-store), 5.2.2.7 (private).
+const STATUSES: [u16; 9] = [199, 201, 203, 204, 206, 301, 304, 404, 410];
+
+// Whether nothing is kept of a response with this head and a status.
+#[derive(Clone, Copy)]
+struct NotKept<'a> {
+    head: &'a HeaderMap,
+}
+
+impl Question<u16> for NotKept<'_> {
+    fn holds(&self, _alloc: Global, row: &u16) -> Result<bool, Fail> {
+        Ok(may_keep(Mode::Shared, b"http://a/", *row, self.head, 0, 0, &[]) == None)
+    }
+}
+
+fn is_kept_in(mode: Mode, head: &HeaderMap) -> bool {
+    may_keep(mode, b"http://a/", 200, head, 0, 0, &[]) != None
+}
+
 #[test]
 fn prohibitions(rt: HostRuntime) -> Result<(), Fail> {
-    for (lines, wanted) in PROHIBITIONS {
-        assert_eq!(rt; life(rt.alloc(), lines)?, wanted, "{lines}");
-    }
+    all_hold(rt.alloc(), &PROHIBITIONS, &LifeOf)?;
     let head = head_of(rt.alloc(), "Cache-Control: public, max-age=60")?;
-    for status in [199, 201, 203, 204, 206, 301, 304, 404, 410] {
-        assert_eq!(rt;
-            may_keep(Mode::Shared, b"http://a/", status, &head, 0, 0, &[]),
-            None
-        );
-    }
-    for mode in [Mode::Cached, Mode::Private] {
-        assert_eq!(rt; may_keep(mode, b"http://a/", 200, &head, 0, 0, &[]), None);
-    }
-    Ok(())
+    let told = all_hold(rt.alloc(), &STATUSES, &NotKept { head: &head });
+    let is_kept = is_kept_in(Mode::Cached, &head) || is_kept_in(Mode::Private, &head);
+    drop(head);
+    assert!(rt; !is_kept);
+    told
 }
 
 const LONG_AGO: &str = "Last-Modified: Thu, 01 Jan 1970 00:00:00 GMT";
 
-const REFRESHED: [(&str, &str, Option<u32>); 17] = [
+// A URL, the fields of a response, and how long it is kept by the operator's rules.
+type Refreshed = (&'static str, &'static str, Option<u32>);
+
+const REFRESHED: [Refreshed; 17] = [
     ("http://a/x", "Cache-Control: max-age=60", Some(100)),
     ("http://a/x", "Expires: 0", Some(100)),
     ("http://a/x", "Age: 99", Some(1)),
@@ -314,82 +343,108 @@ const REFRESHED: [(&str, &str, Option<u32>); 17] = [
 ];
 
 // The operator's rules: the first that fits, in place of the heuristic lifetime or of any.
-#[test]
-fn refresh_rules(rt: HostRuntime) -> Result<(), Fail> {
-    let rules = [
-        RefreshRule {
-            place: UrlPlace::Suffix(b".png".to_vec(rt.alloc())?),
-            seconds: 300,
-            overrides: false,
+const RULES: [(&str, &str, u32, bool); 5] = [
+    ("suffix", ".png", 300, false),
+    ("prefix", "http://a/", 100, true),
+    ("prefix", "http://a/x", 5, true),
+    ("prefix", "http://c/", u32::MAX, true),
+    ("prefix", "http://d/", 0, true),
+];
+
+fn rule_of(alloc: Global, row: &(&str, &str, u32, bool)) -> Result<RefreshRule, Fail> {
+    let text = row.1.as_bytes().to_vec(alloc)?;
+    Ok(RefreshRule {
+        place: if row.0 == "suffix" {
+            UrlPlace::Suffix(text)
+        } else {
+            UrlPlace::Prefix(text)
         },
-        RefreshRule {
-            place: UrlPlace::Prefix(b"http://a/".to_vec(rt.alloc())?),
-            seconds: 100,
-            overrides: true,
-        },
-        RefreshRule {
-            place: UrlPlace::Prefix(b"http://a/x".to_vec(rt.alloc())?),
-            seconds: 5,
-            overrides: true,
-        },
-        RefreshRule {
-            place: UrlPlace::Prefix(b"http://c/".to_vec(rt.alloc())?),
-            seconds: u32::MAX,
-            overrides: true,
-        },
-        RefreshRule {
-            place: UrlPlace::Prefix(b"http://d/".to_vec(rt.alloc())?),
-            seconds: 0,
-            overrides: true,
-        },
-    ];
-    for (url, lines, wanted) in REFRESHED {
-        let head = head_of(rt.alloc(), lines)?;
-        let kept = may_keep(
-            Mode::Shared,
-            url.as_bytes(),
-            200,
-            &head,
-            NOVEMBER,
-            NOVEMBER,
-            &rules,
-        );
-        let life = match kept {
-            Some(kept) => Some(kept.life),
-            None => None,
-        };
-        assert_eq!(rt; life, wanted, "{url} {lines}");
+        seconds: row.2,
+        overrides: row.3,
+    })
+}
+
+fn add_rules(alloc: Global, rules: &mut Vec<RefreshRule>) -> Result<(), Fail> {
+    for row in &RULES {
+        rules.push(rule_of(alloc, row)?)?;
     }
     Ok(())
+}
+
+fn all_rules(alloc: Global) -> Result<Vec<RefreshRule>, Fail> {
+    let mut rules = Vec::new(alloc);
+    add_rules(alloc, &mut rules)?;
+    Ok(rules)
+}
+
+// How long a response is kept by these rules.
+#[derive(Clone, Copy)]
+struct KeptBy<'a> {
+    rules: &'a [RefreshRule],
+}
+
+impl Question<Refreshed> for KeptBy<'_> {
+    fn holds(&self, alloc: Global, row: &Refreshed) -> Result<bool, Fail> {
+        let head = head_of(alloc, row.1)?;
+        let kept = kept_for(row.0, &head, (NOVEMBER, NOVEMBER), self.rules);
+        Ok(life_of(kept) == row.2)
+    }
+}
+
+#[test]
+fn refresh_rules(rt: HostRuntime) -> Result<(), Fail> {
+    let rules = all_rules(rt.alloc())?;
+    let question = KeptBy {
+        rules: rules.as_slice(),
+    };
+    let told = all_hold(rt.alloc(), &REFRESHED, &question);
+    drop(rules);
+    told
 }
 
 // RFC 9111, section 5.4: Pragma: no-cache of a request counts where there is no Cache-Control.
-#[test]
-fn pragma_of_requests(rt: HostRuntime) -> Result<(), Fail> {
-    let table: [(&str, &str, Result<Mode, u16>); 10] = [
-        ("GET", "Pragma: no-cache", Ok(Mode::Private)),
-        ("GET", "Pragma: x, No-Cache", Ok(Mode::Private)),
-        ("GET", "Pragma: x\nPragma: no-cache", Ok(Mode::Private)),
-        ("GET", "Pragma: x=\"", Ok(Mode::Private)),
-        ("GET", "Pragma: x", Ok(Mode::Shared)),
-        (
-            "GET",
-            "Pragma: no-cache\nCache-Control: max-age=5",
-            Ok(Mode::Shared),
-        ),
-        ("GET", "Cache-Control: no-cache", Ok(Mode::Private)),
-        ("GET", "Cache-Control: no-cache, only-if-cached", Err(504)),
-        ("GET", "Host: a", Ok(Mode::Shared)),
-        ("POST", "Pragma: no-cache", Err(501)),
-    ];
-    for (method, lines, wanted) in table {
-        let head = head_of(rt.alloc(), lines)?;
-        assert_eq!(rt; choose(method, &head, None), wanted, "{method} {lines}");
+// A method and the fields of a request, and how it is answered where nothing is stored.
+type Chosen = (&'static str, &'static str, Result<Mode, u16>);
+
+const PRAGMAS: [Chosen; 10] = [
+    ("GET", "Pragma: no-cache", Ok(Mode::Private)),
+    ("GET", "Pragma: x, No-Cache", Ok(Mode::Private)),
+    ("GET", "Pragma: x\nPragma: no-cache", Ok(Mode::Private)),
+    ("GET", "Pragma: x=\"", Ok(Mode::Private)),
+    ("GET", "Pragma: x", Ok(Mode::Shared)),
+    (
+        "GET",
+        "Pragma: no-cache\nCache-Control: max-age=5",
+        Ok(Mode::Shared),
+    ),
+    ("GET", "Cache-Control: no-cache", Ok(Mode::Private)),
+    ("GET", "Cache-Control: no-cache, only-if-cached", Err(504)),
+    ("GET", "Host: a", Ok(Mode::Shared)),
+    ("POST", "Pragma: no-cache", Err(501)),
+];
+
+struct ChosenOf;
+
+impl Question<Chosen> for ChosenOf {
+    fn holds(&self, alloc: Global, row: &Chosen) -> Result<bool, Fail> {
+        Ok(choose(row.0, &head_of(alloc, row.1)?, None) == row.2)
     }
-    Ok(())
 }
 
-const MODES: [(&str, &str, Result<Mode, u16>, Result<Mode, u16>); 19] = [
+#[test]
+fn pragma_of_requests(rt: HostRuntime) -> Result<(), Fail> {
+    all_hold(rt.alloc(), &PRAGMAS, &ChosenOf)
+}
+
+// A method and the fields of a request, and how it is answered where an object is stored, and where none is.
+type Modes = (
+    &'static str,
+    &'static str,
+    Result<Mode, u16>,
+    Result<Mode, u16>,
+);
+
+const MODES: [Modes; 19] = [
     ("GET", "Host: a", Ok(Mode::Shared), Ok(Mode::Shared)),
     ("HEAD", "Host: a", Ok(Mode::Shared), Err(501)),
     ("PUT", "Host: a", Err(501), Err(501)),
@@ -476,51 +531,67 @@ const MODES: [(&str, &str, Result<Mode, u16>, Result<Mode, u16>); 19] = [
 ];
 
 // How a request is answered where an object of 10 seconds that stays fresh for 20 more is stored, and where nothing is.
+struct ModesOf;
+
+impl Question<Modes> for ModesOf {
+    fn holds(&self, alloc: Global, row: &Modes) -> Result<bool, Fail> {
+        let head = head_of(alloc, row.1)?;
+        let stored = Some(Stored { age: 10, life: 20 });
+        Ok(choose(row.0, &head, stored) == row.2 && choose(row.0, &head, None) == row.3)
+    }
+}
+
+fn is_private_where_stale(alloc: Global, lines: &str) -> Result<bool, Fail> {
+    let head = head_of(alloc, lines)?;
+    let stale = Some(Stored { age: 30, life: 0 });
+    Ok(choose("GET", &head, stale) == Ok(Mode::Private))
+}
+
 #[test]
 fn modes_of_requests(rt: HostRuntime) -> Result<(), Fail> {
-    let stored = Some(Stored { age: 10, life: 20 });
-    for (method, lines, with, without) in MODES {
-        let head = head_of(rt.alloc(), lines)?;
-        assert_eq!(rt;
-            choose(method, &head, stored),
-            with,
-            "{method} {lines}, stored"
-        );
-        assert_eq!(rt; choose(method, &head, None), without, "{method} {lines}");
-    }
-    let head = head_of(rt.alloc(), "Host: a")?;
-    let stale = Some(Stored { age: 30, life: 0 });
-    assert_eq!(rt; choose("GET", &head, stale), Ok(Mode::Private), "stale");
+    all_hold(rt.alloc(), &MODES, &ModesOf)?;
+    assert!(rt; is_private_where_stale(rt.alloc(), "Host: a")?);
     Ok(())
 }
 
 // RFC 9111, sections 5.2.1.1 (max-age), 5.2.1.2 (max-stale) and 5.2.1.3 (min-fresh), of a response of 10 seconds that stays fresh for
 // 20 more.
+type Limit = (&'static str, bool);
+
+const LIMITS: [Limit; 13] = [
+    ("Host: a", true),
+    ("Cache-Control: max-age=10", true),
+    ("Cache-Control: max-age=9", false),
+    ("Cache-Control: max-age=0", false),
+    ("Cache-Control: max-age=x", false),
+    ("Cache-Control: min-fresh=20", true),
+    ("Cache-Control: min-fresh=21", false),
+    ("Cache-Control: min-fresh", false),
+    ("Cache-Control: max-age=10, min-fresh=20", true),
+    (
+        "Cache-Control: max-age=10\nCache-Control: min-fresh=21",
+        false,
+    ),
+    ("Cache-Control: max-age=9, max-stale", false),
+    ("Cache-Control: max-stale=100", true),
+    ("Cache-Control: MAX-AGE=\"10\"", true),
+];
+
+// Whether a request takes a response of 10 seconds that stays fresh for so many more.
+#[derive(Clone, Copy)]
+struct Accepts {
+    life: u32,
+}
+
+impl Question<Limit> for Accepts {
+    fn holds(&self, alloc: Global, row: &Limit) -> Result<bool, Fail> {
+        Ok(accepts(&head_of(alloc, row.0)?, 10, self.life) == row.1)
+    }
+}
+
 #[test]
 fn limits_of_requests(rt: HostRuntime) -> Result<(), Fail> {
-    let table: [(&str, bool); 13] = [
-        ("Host: a", true),
-        ("Cache-Control: max-age=10", true),
-        ("Cache-Control: max-age=9", false),
-        ("Cache-Control: max-age=0", false),
-        ("Cache-Control: max-age=x", false),
-        ("Cache-Control: min-fresh=20", true),
-        ("Cache-Control: min-fresh=21", false),
-        ("Cache-Control: min-fresh", false),
-        ("Cache-Control: max-age=10, min-fresh=20", true),
-        (
-            "Cache-Control: max-age=10\nCache-Control: min-fresh=21",
-            false,
-        ),
-        ("Cache-Control: max-age=9, max-stale", false),
-        ("Cache-Control: max-stale=100", true),
-        ("Cache-Control: MAX-AGE=\"10\"", true),
-    ];
-    for (lines, wanted) in table {
-        let head = head_of(rt.alloc(), lines)?;
-        assert_eq!(rt; accepts(&head, 10, 20), wanted, "{lines}");
-    }
-    let head = head_of(rt.alloc(), "Cache-Control: max-stale")?;
-    assert_eq!(rt; accepts(&head, 10, 0), false);
-    Ok(())
+    let any_age = [("Cache-Control: max-stale", false)];
+    all_hold(rt.alloc(), &LIMITS, &Accepts { life: 20 })?;
+    all_hold(rt.alloc(), &any_age, &Accepts { life: 0 })
 }

@@ -1,6 +1,7 @@
 //! The keys `log_level`, `freshness`, `refresh` and `serve_stale` of a configuration of `serve`, and own ports that are in each other's way.
-use crate::settings::{GOOD, told, told_with};
-use serve_config::{Freshness, LogLevel, Settings, UrlPart};
+use crate::rows::{Question, all_hold};
+use crate::settings::{Count, GOOD, ToldWith, times, told, told_with};
+use serve_config::{Freshness, LogLevel, RefreshRule, Settings, UrlPart};
 use std::alloc::Global;
 use std::test::Fail;
 
@@ -106,7 +107,9 @@ const RULES: [(&str, &str); 21] = [
 ];
 
 // The own address and the ports for ICP, HTCP, clients and administration, and the expected result.
-const PORTS: [(&str, [u16; 4], &str); 9] = [
+type Own = (&'static str, [u16; 4], &'static str);
+
+const PORTS: [Own; 9] = [
     ("127.0.0.1", [1, 2, 1, 2], "read"),
     ("127.0.0.1", [0, 0, 0, 0], "read"),
     (
@@ -140,11 +143,7 @@ const PORTS: [(&str, [u16; 4], &str); 9] = [
 
 #[test]
 fn words(rt: HostRuntime) -> Result<(), Fail> {
-    for (key, wanted) in WORDS {
-        let told = told_with(rt.alloc(), key)?;
-        assert_eq!(rt; told.as_str(), wanted, "{key}");
-    }
-    Ok(())
+    all_hold(rt.alloc(), &WORDS, &ToldWith)
 }
 
 // Parses the good configuration with these rules.
@@ -153,24 +152,34 @@ fn told_of_rules(alloc: Global, rules: &str) -> Result<String, Fail> {
     told_with(alloc, keys.as_str())
 }
 
-#[test]
-fn rules(rt: HostRuntime) -> Result<(), Fail> {
-    for (rules, wanted) in RULES {
-        let told = told_of_rules(rt.alloc(), rules)?;
-        assert_eq!(rt; told.as_str(), wanted, "{rules}");
+struct ToldOfRules;
+
+impl Question<(&'static str, &'static str)> for ToldOfRules {
+    fn holds(&self, alloc: Global, row: &(&'static str, &'static str)) -> Result<bool, Fail> {
+        Ok(told_of_rules(alloc, row.0)?.as_str() == row.1)
     }
-    Ok(())
 }
 
 #[test]
+fn rules(rt: HostRuntime) -> Result<(), Fail> {
+    all_hold(rt.alloc(), &RULES, &ToldOfRules)
+}
+
+const RULES_OF_PUBLISHED: [(&str, &str); 3] = [
+    (
+        r#""refresh": [{"suffix": "a", "seconds": 1}]"#,
+        "config fault 3\nrefresh: there are rules, but freshness is not rfc9111",
+    ),
+    (
+        r#""freshness": "published", "refresh": [{"suffix": "a", "seconds": 1}]"#,
+        "config fault 3\nrefresh: there are rules, but freshness is not rfc9111",
+    ),
+    (r#""refresh": []"#, "read"),
+];
+
+#[test]
 fn rules_need_rfc_9111(rt: HostRuntime) -> Result<(), Fail> {
-    let wanted = "config fault 3\nrefresh: there are rules, but freshness is not rfc9111";
-    let rule = r#""refresh": [{"suffix": "a", "seconds": 1}]"#;
-    let published = r#""freshness": "published", "refresh": [{"suffix": "a", "seconds": 1}]"#;
-    assert_eq!(rt; told_with(rt.alloc(), rule)?.as_str(), wanted);
-    assert_eq!(rt; told_with(rt.alloc(), published)?.as_str(), wanted);
-    assert_eq!(rt; told_with(rt.alloc(), r#""refresh": []"#)?.as_str(), "read");
-    Ok(())
+    all_hold(rt.alloc(), &RULES_OF_PUBLISHED, &ToldWith)
 }
 
 // A value of `serve_stale`, and the expected result.
@@ -186,85 +195,120 @@ const STALE: [(&str, &str); 6] = [
     ("true", "config fault 2\nserve_stale: not a whole number"),
 ];
 
-#[test]
-fn stale_seconds(rt: HostRuntime) -> Result<(), Fail> {
-    for (seconds, wanted) in STALE {
-        let keys = format!(in rt.alloc();
-            "\"freshness\": \"rfc9111\", \"serve_stale\": {seconds}"
-        )?;
-        let told = told_with(rt.alloc(), keys.as_str())?;
-        assert_eq!(rt; told.as_str(), wanted, "{seconds}");
+fn told_of_seconds(alloc: Global, seconds: &str) -> Result<String, Fail> {
+    let keys = format!(in alloc; "\"freshness\": \"rfc9111\", \"serve_stale\": {seconds}")?;
+    told_with(alloc, keys.as_str())
+}
+
+struct ToldOfSeconds;
+
+impl Question<(&'static str, &'static str)> for ToldOfSeconds {
+    fn holds(&self, alloc: Global, row: &(&'static str, &'static str)) -> Result<bool, Fail> {
+        Ok(told_of_seconds(alloc, row.0)?.as_str() == row.1)
     }
-    Ok(())
 }
 
 #[test]
+fn stale_seconds(rt: HostRuntime) -> Result<(), Fail> {
+    all_hold(rt.alloc(), &STALE, &ToldOfSeconds)
+}
+
+const STALE_OF_PUBLISHED: [(&str, &str); 3] = [
+    (
+        r#""serve_stale": 1"#,
+        "config fault 3\nserve_stale: above 0, but freshness is not rfc9111",
+    ),
+    (
+        r#""freshness": "published", "serve_stale": 1"#,
+        "config fault 3\nserve_stale: above 0, but freshness is not rfc9111",
+    ),
+    (r#""serve_stale": 0"#, "read"),
+];
+
+#[test]
 fn stale_seconds_need_rfc_9111(rt: HostRuntime) -> Result<(), Fail> {
-    let wanted = "config fault 3\nserve_stale: above 0, but freshness is not rfc9111";
-    let published = r#""freshness": "published", "serve_stale": 1"#;
-    assert_eq!(rt;
-        told_with(rt.alloc(), r#""serve_stale": 1"#)?.as_str(),
-        wanted
-    );
-    assert_eq!(rt; told_with(rt.alloc(), published)?.as_str(), wanted);
-    assert_eq!(rt;
-        told_with(rt.alloc(), r#""serve_stale": 0"#)?.as_str(),
-        "read"
-    );
-    Ok(())
+    all_hold(rt.alloc(), &STALE_OF_PUBLISHED, &ToldWith)
 }
 
 // This many rules.
 fn told_of_count(alloc: Global, count: usize) -> Result<String, Fail> {
-    let mut rules = String::from_str(alloc, r#"{"suffix": "a", "seconds": 1}"#)?;
-    for _ in 1..count {
-        rules.push_str(r#", {"suffix": "a", "seconds": 1}"#)?;
-    }
+    let more = times(
+        alloc,
+        r#", {"suffix": "a", "seconds": 1}"#,
+        count.saturating_sub(1),
+    )?;
+    let rules = format!(in alloc; "{{\"suffix\": \"a\", \"seconds\": 1}}{more}")?;
     told_of_rules(alloc, rules.as_str())
+}
+
+const MANY_RULES: [Count; 2] = [
+    (64, "read"),
+    (65, "config fault 3\nrefresh: over 64 of them"),
+];
+
+struct ToldOfCount;
+
+impl Question<Count> for ToldOfCount {
+    fn holds(&self, alloc: Global, row: &Count) -> Result<bool, Fail> {
+        Ok(told_of_count(alloc, row.0)?.as_str() == row.1)
+    }
 }
 
 #[test]
 fn many_rules(rt: HostRuntime) -> Result<(), Fail> {
-    assert_eq!(rt; told_of_count(rt.alloc(), 64)?.as_str(), "read");
-    assert_eq!(rt;
-        told_of_count(rt.alloc(), 65)?.as_str(),
-        "config fault 3\nrefresh: over 64 of them"
-    );
-    Ok(())
+    all_hold(rt.alloc(), &MANY_RULES, &ToldOfCount)
 }
 
 // A rule for a text of this many octets.
 fn told_of_text(alloc: Global, key: &str, octets: usize) -> Result<String, Fail> {
-    let mut text = String::new(alloc);
-    for _ in 0..octets {
-        text.push_str("a")?;
-    }
+    let text = times(alloc, "a", octets)?;
     let rule = format!(in alloc; "{{\"{key}\": \"{text}\", \"seconds\": 1}}")?;
     told_of_rules(alloc, rule.as_str())
 }
 
+type LongText = (&'static str, usize, &'static str);
+
+const LONG_TEXTS: [LongText; 4] = [
+    ("suffix", 8192, "read"),
+    ("prefix", 8192, "read"),
+    (
+        "suffix",
+        8193,
+        "config fault 3\nrefresh[0].suffix: over 8192 octets",
+    ),
+    (
+        "prefix",
+        8193,
+        "config fault 3\nrefresh[0].prefix: over 8192 octets",
+    ),
+];
+
+struct ToldOfText;
+
+impl Question<LongText> for ToldOfText {
+    fn holds(&self, alloc: Global, row: &LongText) -> Result<bool, Fail> {
+        Ok(told_of_text(alloc, row.0, row.1)?.as_str() == row.2)
+    }
+}
+
 #[test]
 fn long_texts(rt: HostRuntime) -> Result<(), Fail> {
-    assert_eq!(rt; told_of_text(rt.alloc(), "suffix", 8192)?.as_str(), "read");
-    assert_eq!(rt; told_of_text(rt.alloc(), "prefix", 8192)?.as_str(), "read");
-    assert_eq!(rt;
-        told_of_text(rt.alloc(), "suffix", 8193)?.as_str(),
-        "config fault 3\nrefresh[0].suffix: over 8192 octets"
-    );
-    assert_eq!(rt;
-        told_of_text(rt.alloc(), "prefix", 8193)?.as_str(),
-        "config fault 3\nrefresh[0].prefix: over 8192 octets"
-    );
-    Ok(())
+    all_hold(rt.alloc(), &LONG_TEXTS, &ToldOfText)
+}
+
+fn is_usual(settings: &Settings) -> bool {
+    settings.log_level == LogLevel::Quiet
+        && settings.freshness == Freshness::Published
+        && settings.refresh.is_empty()
+        && settings.serve_stale == 0
 }
 
 #[test]
 fn what_is_left_out_is_usual(rt: HostRuntime) -> Result<(), Fail> {
     let settings = Settings::read(rt.alloc(), GOOD.as_bytes())?;
-    assert!(rt; settings.log_level == LogLevel::Quiet);
-    assert!(rt; settings.freshness == Freshness::Published);
-    assert!(rt; settings.refresh.is_empty());
-    assert!(rt; settings.serve_stale == 0);
+    let holds = is_usual(&settings);
+    drop(settings);
+    assert!(rt; holds);
     Ok(())
 }
 
@@ -276,34 +320,60 @@ fn with_rules(alloc: Global) -> Result<Settings, Fail> {
     Ok(Settings::read(alloc, text.as_bytes())?)
 }
 
+fn has_words(settings: &Settings) -> bool {
+    settings.log_level == LogLevel::Info
+        && settings.freshness == Freshness::Rfc9111
+        && settings.serve_stale == 3600
+}
+
+fn is_for_packages(rule: &RefreshRule) -> bool {
+    matches!(&rule.place, UrlPart::Suffix(text) if text.as_str() == ".deb")
+        && rule.seconds == 2_592_000
+        && !rule.overrides
+}
+
+fn is_for_site(rule: &RefreshRule) -> bool {
+    matches!(&rule.place, UrlPart::Prefix(text) if text.as_str() == "http://deb.example/")
+        && rule.seconds == 0
+        && rule.overrides
+}
+
+fn has_rules(settings: &Settings) -> bool {
+    let rules = settings.refresh.as_slice();
+    rules.len() == 2 && is_for_packages(&rules[0]) && is_for_site(&rules[1])
+}
+
 #[test]
 fn rules_in_their_order(rt: HostRuntime) -> Result<(), Fail> {
     let settings = with_rules(rt.alloc())?;
-    assert!(rt; settings.log_level == LogLevel::Info);
-    assert!(rt; settings.freshness == Freshness::Rfc9111);
-    assert!(rt; settings.serve_stale == 3600);
-    assert_eq!(rt; settings.refresh.len(), 2);
-    let deb = &settings.refresh[0];
-    assert!(rt; matches!(&deb.place, UrlPart::Suffix(text) if text.as_str() == ".deb"));
-    assert!(rt; deb.seconds == 2_592_000 && !deb.overrides);
-    let site = &settings.refresh[1];
-    assert!(rt;
-        matches!(&site.place, UrlPart::Prefix(text) if text.as_str() == "http://deb.example/")
-    );
-    assert!(rt; site.seconds == 0 && site.overrides);
+    let words = has_words(&settings);
+    let rules = has_rules(&settings);
+    drop(settings);
+    assert!(rt; words);
+    assert!(rt; rules);
     Ok(())
+}
+
+const USUAL_PORTS: &str =
+    r#""127.0.0.1", "icp_port": 3130, "htcp_port": 4827, "http_port": 3128, "admin_port": 3129"#;
+
+fn told_of_own(alloc: Global, address: &str, ports: &[u16; 4]) -> Result<String, Fail> {
+    let [icp, htcp, http, admin] = *ports;
+    let new = format!(in alloc;
+        "\"{address}\", \"icp_port\": {icp}, \"htcp_port\": {htcp}, \"http_port\": {http}, \"admin_port\": {admin}"
+    )?;
+    told(alloc, USUAL_PORTS, new.as_str())
+}
+
+struct ToldOfOwn;
+
+impl Question<Own> for ToldOfOwn {
+    fn holds(&self, alloc: Global, row: &Own) -> Result<bool, Fail> {
+        Ok(told_of_own(alloc, row.0, &row.1)?.as_str() == row.2)
+    }
 }
 
 #[test]
 fn own_ports(rt: HostRuntime) -> Result<(), Fail> {
-    for (address, [icp, htcp, http, admin], wanted) in PORTS {
-        let old =
-            r#""127.0.0.1", "icp_port": 3130, "htcp_port": 4827, "http_port": 3128, "admin_port": 3129"#;
-        let new = format!(in rt.alloc();
-            "\"{address}\", \"icp_port\": {icp}, \"htcp_port\": {htcp}, \"http_port\": {http}, \"admin_port\": {admin}"
-        )?;
-        let told = told(rt.alloc(), old, new.as_str())?;
-        assert_eq!(rt; told.as_str(), wanted, "{new}");
-    }
-    Ok(())
+    all_hold(rt.alloc(), &PORTS, &ToldOfOwn)
 }

@@ -24,6 +24,8 @@ mod plain;
 #[cfg(test)]
 mod retrying;
 #[cfg(test)]
+mod rows;
+#[cfg(test)]
 mod rules;
 #[cfg(test)]
 mod settings;

@@ -2,11 +2,15 @@
 //! 5.2.1, by hand.
 
 use crate::heads::head_of;
+use crate::rows::{Question, all_hold};
 use http_rules::{PartRequests, complete_length, is_for_a_part};
+use std::alloc::Global;
 use std::test::Fail;
 
 // The fields of a GET, and whether nothing but a single range keeps it from sharing a fetch.
-const REQUESTS: [(&str, bool); 19] = [
+type Request = (&'static str, bool);
+
+const REQUESTS: [Request; 19] = [
     ("Range: bytes=0-499", true),
     ("Range: bytes=500-", true),
     ("Range: bytes=-500", true),
@@ -28,17 +32,23 @@ const REQUESTS: [(&str, bool); 19] = [
     ("Range: bytes=0-499\nIf-Match: \"a\"", false),
 ];
 
+struct ForPart;
+
+impl Question<Request> for ForPart {
+    fn holds(&self, alloc: Global, row: &Request) -> Result<bool, Fail> {
+        Ok(is_for_a_part(&head_of(alloc, row.0)?) == row.1)
+    }
+}
+
 #[test]
 fn requests_for_parts(rt: HostRuntime) -> Result<(), Fail> {
-    for (lines, wanted) in REQUESTS {
-        let head = head_of(rt.alloc(), lines)?;
-        assert_eq!(rt; is_for_a_part(&head), wanted, "{lines}");
-    }
-    Ok(())
+    all_hold(rt.alloc(), &REQUESTS, &ForPart)
 }
 
 // The fields of a response with a part, and the length of the whole.
-const LENGTHS: [(&str, Option<u32>); 13] = [
+type Length = (&'static str, Option<u32>);
+
+const LENGTHS: [Length; 13] = [
     ("Content-Range: bytes 42-1233/1234", Some(1234)),
     ("Content-Range: bytes 0-0/1", Some(1)),
     ("Content-Range: bytes 0-0/2147483648", Some(2_147_483_648)),
@@ -57,17 +67,23 @@ const LENGTHS: [(&str, Option<u32>); 13] = [
     ("Content-Length: 1234", None),
 ];
 
+struct WholeLength;
+
+impl Question<Length> for WholeLength {
+    fn holds(&self, alloc: Global, row: &Length) -> Result<bool, Fail> {
+        Ok(complete_length(&head_of(alloc, row.0)?) == row.1)
+    }
+}
+
 #[test]
 fn lengths_of_wholes(rt: HostRuntime) -> Result<(), Fail> {
-    for (lines, wanted) in LENGTHS {
-        let head = head_of(rt.alloc(), lines)?;
-        assert_eq!(rt; complete_length(&head), wanted, "{lines}");
-    }
-    Ok(())
+    all_hold(rt.alloc(), &LENGTHS, &WholeLength)
 }
 
 // When the requests before came, in milliseconds, the length of the whole, and whether one more at 100,000 has the whole fetched.
-const THIRDS: [(&[u64], Option<u32>, bool); 10] = [
+type Third = (&'static [u64], Option<u32>, bool);
+
+const THIRDS: [Third; 10] = [
     (&[], Some(10), false),
     (&[99_999], Some(10), false),
     (&[99_998, 99_999], Some(10), true),
@@ -80,18 +96,26 @@ const THIRDS: [(&[u64], Option<u32>, bool); 10] = [
     (&[99_998, 99_999], Some(1001), false),
 ];
 
+fn requests_at(times: &[u64], length: Option<u32>) -> PartRequests {
+    let mut requests = PartRequests::none();
+    for time in times {
+        requests = requests.with_request(*time);
+    }
+    match length {
+        Some(length) => requests.with_length(length),
+        None => requests,
+    }
+}
+
+struct IsThird;
+
+impl Question<Third> for IsThird {
+    fn holds(&self, _alloc: Global, row: &Third) -> Result<bool, Fail> {
+        Ok(requests_at(row.0, row.1).is_third(100_000, 1000) == row.2)
+    }
+}
+
 #[test]
 fn third_parts(rt: HostRuntime) -> Result<(), Fail> {
-    for (times, length, wanted) in THIRDS {
-        let mut requests = PartRequests::none();
-        for time in times {
-            requests = requests.with_request(*time);
-        }
-        if let Some(length) = length {
-            requests = requests.with_length(length);
-        }
-        let found = requests.is_third(100_000, 1000);
-        assert_eq!(rt; found, wanted, "{length:?}");
-    }
-    Ok(())
+    all_hold(rt.alloc(), &THIRDS, &IsThird)
 }

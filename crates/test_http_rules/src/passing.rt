@@ -1,12 +1,16 @@
 //! What is passed on beside the node: where a tunnel leads, which fields go along, and what becomes stale.
-use crate::heads::head_of;
+use crate::heads::{Field, head_of};
+use crate::rows::{Question, all_hold};
 use http_rules::{Onward, authority_of, changed_keys, is_unsafe, key_of, onward};
+use object_store::CacheKey;
 use std::alloc::Global;
 use std::test::Fail;
 
 // Targets of CONNECT, and the host and port that they name: examples of RFC 9110, section 9.3.6, RFC 9112, section 3.2.3, and
 // RFC 3986, section 1.1.2, and what their grammars leave out.
-const TARGETS: [(&str, Option<(&str, u16)>); 25] = [
+type Target = (&'static str, Option<(&'static str, u16)>);
+
+const TARGETS: [Target; 25] = [
     ("server.example.com:80", Some(("server.example.com", 80))),
     ("www.example.com:80", Some(("www.example.com", 80))),
     ("192.0.2.16:80", Some(("192.0.2.16", 80))),
@@ -34,33 +38,51 @@ const TARGETS: [(&str, Option<(&str, u16)>); 25] = [
     ("b\u{fc}cher.example:443", None),
 ];
 
-#[test]
-fn targets_of_tunnels(rt: HostRuntime) -> Result<(), Fail> {
-    for (target, wanted) in TARGETS {
-        let told = match authority_of(target) {
+struct AuthorityOf;
+
+impl Question<Target> for AuthorityOf {
+    fn holds(&self, _alloc: Global, row: &Target) -> Result<bool, Fail> {
+        let told = match authority_of(row.0) {
             Some(end) => Some((end.host, end.port)),
             None => None,
         };
-        assert!(rt; told == wanted, "{target}");
+        Ok(told == row.1)
     }
-    Ok(())
+}
+
+#[test]
+fn targets_of_tunnels(rt: HostRuntime) -> Result<(), Fail> {
+    all_hold(rt.alloc(), &TARGETS, &AuthorityOf)
+}
+
+const SAFE: [&str; 4] = ["GET", "HEAD", "OPTIONS", "TRACE"];
+
+const UNSAFE: [&str; 8] = [
+    "POST", "PUT", "DELETE", "CONNECT", "PATCH", "M-SEARCH", "get", "",
+];
+
+// Whether a method is unsafe as wanted.
+#[derive(Clone, Copy)]
+struct IsUnsafe {
+    wanted: bool,
+}
+
+impl Question<&'static str> for IsUnsafe {
+    fn holds(&self, _alloc: Global, row: &&'static str) -> Result<bool, Fail> {
+        Ok(is_unsafe(*row) == self.wanted)
+    }
 }
 
 #[test]
 fn safe_methods(rt: HostRuntime) -> Result<(), Fail> {
-    for method in ["GET", "HEAD", "OPTIONS", "TRACE"] {
-        assert!(rt; !is_unsafe(method), "{method}");
-    }
-    for method in [
-        "POST", "PUT", "DELETE", "CONNECT", "PATCH", "M-SEARCH", "get", "",
-    ] {
-        assert!(rt; is_unsafe(method), "{method}");
-    }
-    Ok(())
+    all_hold(rt.alloc(), &SAFE, &IsUnsafe { wanted: false })?;
+    all_hold(rt.alloc(), &UNSAFE, &IsUnsafe { wanted: true })
 }
 
 // A method and the fields of a request, and what is forwarded of them; `None` where this proxy is the last recipient.
-const REQUESTS: [(&str, &str, Option<&str>); 13] = [
+type Request = (&'static str, &'static str, Option<&'static str>);
+
+const REQUESTS: [Request; 13] = [
     (
         "POST",
         "Host: a\nContent-Length: 3\nExpect: 100-continue",
@@ -92,35 +114,54 @@ const REQUESTS: [(&str, &str, Option<&str>); 13] = [
     ("POST", "Max-Forwards: 7", Some("max-forwards: 7\n")),
 ];
 
-// The fields that a request is forwarded with, a line each.
-fn forwarded(alloc: Global, method: &str, lines: &str) -> Result<Option<String>, Fail> {
-    let head = head_of(alloc, lines)?;
-    let Onward::Pass(fields) = onward(alloc, method, &head)? else {
-        return Ok(None);
-    };
-    let mut text = String::new(alloc);
-    for (name, value) in fields.iter() {
-        text.push_str(str::from_utf8(name.as_slice())?)?;
-        text.push_str(": ")?;
-        text.push_str(str::from_utf8(value.as_slice())?)?;
-        text.push_str("\n")?;
-    }
-    Ok(Some(text))
+fn add_line(text: &mut String, field: &Field) -> Result<(), Fail> {
+    text.push_str(str::from_utf8(field.0.as_slice())?)?;
+    text.push_str(": ")?;
+    text.push_str(str::from_utf8(field.1.as_slice())?)?;
+    Ok(text.push_str("\n")?)
 }
 
-#[test]
-fn requests_that_are_passed_on(rt: HostRuntime) -> Result<(), Fail> {
-    for (method, lines, wanted) in REQUESTS {
-        let told = forwarded(rt.alloc(), method, lines)?;
-        let told = told.as_ref().map(|text| text.as_str());
-        assert!(rt; told == wanted, "{method} {lines}");
+fn add_lines(text: &mut String, fields: &[Field]) -> Result<(), Fail> {
+    for field in fields {
+        add_line(text, field)?;
     }
     Ok(())
 }
 
+fn lines_of(alloc: Global, fields: &[Field]) -> Result<String, Fail> {
+    let mut text = String::new(alloc);
+    add_lines(&mut text, fields)?;
+    Ok(text)
+}
+
+// The fields that a request is forwarded with, a line each.
+fn forwarded(alloc: Global, method: &str, lines: &str) -> Result<Option<String>, Fail> {
+    let head = head_of(alloc, lines)?;
+    Ok(match onward(alloc, method, &head)? {
+        Onward::Pass(fields) => Some(lines_of(alloc, fields.as_slice())?),
+        _ => None,
+    })
+}
+
+struct PassedOn;
+
+impl Question<Request> for PassedOn {
+    fn holds(&self, alloc: Global, row: &Request) -> Result<bool, Fail> {
+        let told = forwarded(alloc, row.0, row.1)?;
+        Ok(told.as_ref().map(|text| text.as_str()) == row.2)
+    }
+}
+
+#[test]
+fn requests_that_are_passed_on(rt: HostRuntime) -> Result<(), Fail> {
+    all_hold(rt.alloc(), &REQUESTS, &PassedOn)
+}
+
 // What was asked for, by which method, the answer's status and fields, and the keys that become stale. The references are those of
 // RFC 3986, section 5.4, whose base is `http://a/b/c/d;p?q`.
-const CHANGES: [(&str, &str, u16, &str, &str); 27] = [
+type Change = (&'static str, &'static str, u16, &'static str, &'static str);
+
+const CHANGES: [Change; 27] = [
     ("http://a/b/c/d;p?q", "POST", 200, "", "http://a/b/c/d;p?q "),
     ("http://a/b/c/d;p?q", "PUT", 204, "", "http://a/b/c/d;p?q "),
     (
@@ -264,23 +305,37 @@ const CHANGES: [(&str, &str, u16, &str, &str); 27] = [
     ),
 ];
 
-// The keys that become stale, with a blank behind each.
-fn stale(alloc: Global, key: &str, method: &str, status: u16, lines: &str) -> Result<String, Fail> {
-    let key = key_of(alloc, key)?;
-    let head = head_of(alloc, lines)?;
-    let mut text = String::new(alloc);
-    for key in changed_keys(alloc, &key, method, status, &head)?.iter() {
+fn add_keys(text: &mut String, keys: &[CacheKey]) -> Result<(), Fail> {
+    for key in keys {
         text.push_str(str::from_utf8(key.as_slice())?)?;
         text.push_str(" ")?;
     }
+    Ok(())
+}
+
+fn text_of(alloc: Global, keys: &[CacheKey]) -> Result<String, Fail> {
+    let mut text = String::new(alloc);
+    add_keys(&mut text, keys)?;
     Ok(text)
+}
+
+// The keys that become stale, with a blank behind each.
+fn stale(alloc: Global, row: &Change) -> Result<String, Fail> {
+    let key = key_of(alloc, row.0)?;
+    let head = head_of(alloc, row.3)?;
+    let keys = changed_keys(alloc, &key, row.1, row.2, &head)?;
+    text_of(alloc, keys.as_slice())
+}
+
+struct StaleKeys;
+
+impl Question<Change> for StaleKeys {
+    fn holds(&self, alloc: Global, row: &Change) -> Result<bool, Fail> {
+        Ok(stale(alloc, row)?.as_str() == row.4)
+    }
 }
 
 #[test]
 fn changes(rt: HostRuntime) -> Result<(), Fail> {
-    for (key, method, status, lines, wanted) in CHANGES {
-        let told = stale(rt.alloc(), key, method, status, lines)?;
-        assert_eq!(rt; told.as_str(), wanted, "{method} {key} {status} {lines}");
-    }
-    Ok(())
+    all_hold(rt.alloc(), &CHANGES, &StaleKeys)
 }

@@ -1,5 +1,6 @@
 //! The keys of a configuration of `serve` about what is passed on beside the node, and about the fields that shared fetches send.
-use crate::settings::{GOOD, told_with};
+use crate::rows::{Question, all_hold};
+use crate::settings::{Count, GOOD, ToldWith, times, told_with};
 use serve_config::{Large, PassedMethod, Settings};
 use std::alloc::Global;
 use std::test::Fail;
@@ -129,63 +130,88 @@ const KEYS: [(&str, &str); 41] = [
 
 #[test]
 fn keys(rt: HostRuntime) -> Result<(), Fail> {
-    for (key, wanted) in KEYS {
-        let told = told_with(rt.alloc(), key)?;
-        assert_eq!(rt; told.as_str(), wanted, "{key}");
-    }
-    Ok(())
+    all_hold(rt.alloc(), &KEYS, &ToldWith)
 }
 
 // This many times the port 443.
 fn told_of_ports(alloc: Global, count: usize) -> Result<String, Fail> {
-    let mut key = String::from_str(alloc, r#""connect_ports": [443"#)?;
-    for _ in 1..count {
-        key.push_str(", 443")?;
-    }
-    key.push_str("]")?;
+    let more = times(alloc, ", 443", count.saturating_sub(1))?;
+    let key = format!(in alloc; "\"connect_ports\": [443{more}]")?;
     told_with(alloc, key.as_str())
+}
+
+const MANY_PORTS: [Count; 2] = [
+    (64, "read"),
+    (65, "config fault 3\nconnect_ports: over 64 of them"),
+];
+
+struct ToldOfPorts;
+
+impl Question<Count> for ToldOfPorts {
+    fn holds(&self, alloc: Global, row: &Count) -> Result<bool, Fail> {
+        Ok(told_of_ports(alloc, row.0)?.as_str() == row.1)
+    }
 }
 
 #[test]
 fn many_ports(rt: HostRuntime) -> Result<(), Fail> {
-    assert_eq!(rt; told_of_ports(rt.alloc(), 64)?.as_str(), "read");
-    assert_eq!(rt;
-        told_of_ports(rt.alloc(), 65)?.as_str(),
-        "config fault 3\nconnect_ports: over 64 of them"
-    );
-    Ok(())
+    all_hold(rt.alloc(), &MANY_PORTS, &ToldOfPorts)
 }
 
 // A User-Agent of this many octets.
 fn told_of_agent(alloc: Global, octets: usize) -> Result<String, Fail> {
-    let mut key = String::from_str(alloc, r#""shared_fields": {"user-agent": ""#)?;
-    for _ in 0..octets {
-        key.push_str("a")?;
+    let agent = times(alloc, "a", octets)?;
+    let key = format!(in alloc; "\"shared_fields\": {{\"user-agent\": \"{agent}\"}}")?;
+    told_with(alloc, key.as_str())
+}
+
+// The text before its first quotation mark.
+fn before_quote(text: &str) -> &str {
+    text.split('"').next().unwrap_or("")
+}
+
+const LONG_VALUES: [Count; 2] = [
+    (255, "read"),
+    (256, "config fault 3\nshared_fields.user-agent: "),
+];
+
+struct ToldOfAgent;
+
+impl Question<Count> for ToldOfAgent {
+    fn holds(&self, alloc: Global, row: &Count) -> Result<bool, Fail> {
+        let told = told_of_agent(alloc, row.0)?;
+        Ok(before_quote(told.as_str()) == row.1)
     }
-    key.push_str("\"}")?;
-    let told = told_with(alloc, key.as_str())?;
-    Ok(String::from_str(alloc, told.split('"').next().unwrap_or(""))?)
 }
 
 #[test]
 fn long_values(rt: HostRuntime) -> Result<(), Fail> {
-    assert_eq!(rt; told_of_agent(rt.alloc(), 255)?.as_str(), "read");
-    assert_eq!(rt;
-        told_of_agent(rt.alloc(), 256)?.as_str(),
-        "config fault 3\nshared_fields.user-agent: "
-    );
-    Ok(())
+    all_hold(rt.alloc(), &LONG_VALUES, &ToldOfAgent)
+}
+
+fn has_usual_lists(settings: &Settings) -> bool {
+    settings.methods.is_empty()
+        && settings.connect_ports.is_empty()
+        && settings.shared_fields.is_empty()
+}
+
+fn has_usual_numbers(settings: &Settings) -> bool {
+    settings.large == Large::Refuse
+        && settings.streams == 256
+        && settings.tunnels == 1024
+        && settings.fetch_seconds == 30
+        && settings.fetch_idle == None
+        && settings.keep_alive == 0
 }
 
 #[test]
 fn what_is_left_out_is_usual(rt: HostRuntime) -> Result<(), Fail> {
     let settings = Settings::read(rt.alloc(), GOOD.as_bytes())?;
-    assert!(rt; settings.methods.is_empty() && settings.connect_ports.is_empty());
-    assert!(rt; settings.large == Large::Refuse);
-    assert!(rt; settings.streams == 256 && settings.tunnels == 1024);
-    assert!(rt; settings.fetch_seconds == 30 && settings.fetch_idle == None);
-    assert!(rt; settings.keep_alive == 0);
-    assert!(rt; settings.shared_fields.is_empty());
+    let has_lists = has_usual_lists(&settings);
+    let has_numbers = has_usual_numbers(&settings);
+    drop(settings);
+    assert!(rt; has_lists);
+    assert!(rt; has_numbers);
     Ok(())
 }
 
@@ -197,19 +223,42 @@ fn with_all(alloc: Global) -> Result<Settings, Fail> {
     Ok(Settings::read(alloc, text.as_bytes())?)
 }
 
+fn has_lists(settings: &Settings) -> bool {
+    settings.methods.as_slice() == [PassedMethod::Post, PassedMethod::Head].as_slice()
+        && settings.connect_ports.as_slice() == [443, 8443].as_slice()
+}
+
+fn has_numbers(settings: &Settings) -> bool {
+    settings.large == Large::Stream
+        && settings.streams == 2
+        && settings.tunnels == 3
+        && settings.fetch_seconds == 4
+        && settings.fetch_idle == Some(5)
+        && settings.keep_alive == 6
+}
+
+fn is_field(settings: &Settings, place: usize, name: &str, value: &str) -> bool {
+    match settings.shared_fields.get(place) {
+        Some(field) => field.name.as_str() == name && field.value.as_str() == value,
+        None => false,
+    }
+}
+
+fn has_fields(settings: &Settings) -> bool {
+    settings.shared_fields.len() == 2
+        && is_field(settings, 0, "accept", "*/*")
+        && is_field(settings, 1, "user-agent", "Wabretos 1")
+}
+
 #[test]
 fn what_is_said(rt: HostRuntime) -> Result<(), Fail> {
     let settings = with_all(rt.alloc())?;
-    assert!(rt; settings.methods.as_slice() == [PassedMethod::Post, PassedMethod::Head].as_slice());
-    assert!(rt; settings.connect_ports.as_slice() == [443, 8443].as_slice());
-    assert!(rt; settings.large == Large::Stream);
-    assert!(rt; settings.streams == 2 && settings.tunnels == 3);
-    assert!(rt; settings.fetch_seconds == 4 && settings.fetch_idle == Some(5));
-    assert!(rt; settings.keep_alive == 6);
-    assert_eq!(rt; settings.shared_fields.len(), 2);
-    let first = &settings.shared_fields[0];
-    assert!(rt; first.name.as_str() == "accept" && first.value.as_str() == "*/*");
-    let second = &settings.shared_fields[1];
-    assert!(rt; second.name.as_str() == "user-agent" && second.value.as_str() == "Wabretos 1");
+    let lists = has_lists(&settings);
+    let numbers = has_numbers(&settings);
+    let fields = has_fields(&settings);
+    drop(settings);
+    assert!(rt; lists);
+    assert!(rt; numbers);
+    assert!(rt; fields);
     Ok(())
 }

@@ -2,6 +2,8 @@
 //! `choose`, `answer_to` and `has_come_back` read.
 
 use crate::heads::head_of;
+use crate::rows::{Question, all_hold};
+use http_header::HeaderMap;
 use http_rules::{StoredAnswer, answer_to, choose, classify, has_come_back, is_plain_request};
 use node_core::Mode;
 use std::alloc::Global;
@@ -44,29 +46,52 @@ fn is_plain_among(alloc: Global, lines: &str) -> Result<bool, Fail> {
     Ok(is_plain_request(&head_of(alloc, lines.as_str())?))
 }
 
+// Whether a request with these fields is plain as wanted.
+#[derive(Clone, Copy)]
+struct IsPlain {
+    wanted: bool,
+}
+
+impl Question<&'static str> for IsPlain {
+    fn holds(&self, alloc: Global, row: &&'static str) -> Result<bool, Fail> {
+        Ok(is_plain_request(&head_of(alloc, *row)?) == self.wanted)
+    }
+}
+
+struct NotPlainAmong;
+
+impl Question<&'static str> for NotPlainAmong {
+    fn holds(&self, alloc: Global, row: &&'static str) -> Result<bool, Fail> {
+        Ok(!is_plain_among(alloc, *row)?)
+    }
+}
+
 #[test]
 fn plain_requests(rt: HostRuntime) -> Result<(), Fail> {
-    for lines in PLAIN {
-        assert!(rt; is_plain_request(&head_of(rt.alloc(), lines)?), "{lines}");
-    }
-    for lines in OTHERS {
-        assert!(rt; !is_plain_request(&head_of(rt.alloc(), lines)?), "{lines}");
-        assert!(rt; !is_plain_among(rt.alloc(), lines)?, "{lines}");
-    }
-    Ok(())
+    all_hold(rt.alloc(), &PLAIN, &IsPlain { wanted: true })?;
+    all_hold(rt.alloc(), &OTHERS, &IsPlain { wanted: false })?;
+    all_hold(rt.alloc(), &OTHERS, &NotPlainAmong)
 }
 
 // What is said of plain requests.
+struct SharedAndWhole;
+
+fn is_shared(head: &HeaderMap) -> bool {
+    classify("GET", head) == Ok(Mode::Shared) && choose("GET", head, None) == Ok(Mode::Shared)
+}
+
+fn is_whole(alloc: Global, head: &HeaderMap) -> bool {
+    answer_to("GET", head, &Vec::new(alloc), 10) == StoredAnswer::Whole
+}
+
+impl Question<&'static str> for SharedAndWhole {
+    fn holds(&self, alloc: Global, row: &&'static str) -> Result<bool, Fail> {
+        let head = head_of(alloc, *row)?;
+        Ok(is_shared(&head) && is_whole(alloc, &head) && !has_come_back(&head, b"a"))
+    }
+}
+
 #[test]
 fn answers_to_plain_requests(rt: HostRuntime) -> Result<(), Fail> {
-    let object = Vec::new(rt.alloc());
-    for lines in PLAIN {
-        let head = head_of(rt.alloc(), lines)?;
-        assert_eq!(rt; classify("GET", &head), Ok(Mode::Shared), "{lines}");
-        assert_eq!(rt; choose("GET", &head, None), Ok(Mode::Shared), "{lines}");
-        let answer = answer_to("GET", &head, &object, 10);
-        assert_eq!(rt; answer, StoredAnswer::Whole, "{lines}");
-        assert!(rt; !has_come_back(&head, b"a"), "{lines}");
-    }
-    Ok(())
+    all_hold(rt.alloc(), &PLAIN, &SharedAndWhole)
 }

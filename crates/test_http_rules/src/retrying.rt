@@ -1,11 +1,15 @@
 //! Whether a connection lasts beyond an answer, and whether a request may be sent once more.
 use crate::heads::head_of;
+use crate::rows::{Question, all_hold};
 use http_rules::{lasts, may_retry};
+use std::alloc::Global;
 use std::test::Fail;
 
 // Answers to GET: whether they are of HTTP/1.1, their status and their fields, and whether their connection carries another request by
 // RFC 9112, section 9.3, with the lengths of section 6.3.
-const ANSWERS: [(bool, u16, &str, bool); 17] = [
+type Answer = (bool, u16, &'static str, bool);
+
+const ANSWERS: [Answer; 17] = [
     (true, 200, "Content-Length: 5", true),
     (true, 200, "Content-Length: 0", true),
     (true, 200, "Transfer-Encoding: chunked", true),
@@ -45,25 +49,47 @@ const ANSWERS: [(bool, u16, &str, bool); 17] = [
     (false, 304, "Server: a", false),
 ];
 
+struct Lasts;
+
+impl Question<Answer> for Lasts {
+    fn holds(&self, alloc: Global, row: &Answer) -> Result<bool, Fail> {
+        let head = head_of(alloc, row.2)?;
+        Ok(lasts(alloc, row.0, row.1, &head)? == row.3)
+    }
+}
+
 #[test]
 fn connections_that_last(rt: HostRuntime) -> Result<(), Fail> {
-    for (is_newest, status, lines, wanted) in &ANSWERS {
-        let head = head_of(rt.alloc(), *lines)?;
-        let told = lasts(rt.alloc(), *is_newest, *status, &head)?;
-        assert!(rt; told == *wanted, "{status} {lines}");
+    all_hold(rt.alloc(), &ANSWERS, &Lasts)
+}
+
+const SENT_AGAIN: [&str; 4] = ["GET", "HEAD", "OPTIONS", "TRACE"];
+
+const SENT_ONCE: [&str; 6] = ["POST", "PUT", "DELETE", "PATCH", "CONNECT", "get"];
+
+// Whether a method's requests are sent once more, at most once, and only on a connection that was used before.
+struct SentAgain;
+
+impl Question<&'static str> for SentAgain {
+    fn holds(&self, _alloc: Global, row: &&'static str) -> Result<bool, Fail> {
+        Ok(
+            may_retry(*row, true, false)
+                && !may_retry(*row, true, true)
+                && !may_retry(*row, false, false),
+        )
     }
-    Ok(())
+}
+
+struct SentOnce;
+
+impl Question<&'static str> for SentOnce {
+    fn holds(&self, _alloc: Global, row: &&'static str) -> Result<bool, Fail> {
+        Ok(!may_retry(*row, true, false))
+    }
 }
 
 #[test]
 fn requests_that_are_sent_once_more(rt: HostRuntime) -> Result<(), Fail> {
-    for method in ["GET", "HEAD", "OPTIONS", "TRACE"] {
-        assert!(rt; may_retry(method, true, false), "{method}");
-        assert!(rt; !may_retry(method, true, true), "{method}");
-        assert!(rt; !may_retry(method, false, false), "{method}");
-    }
-    for method in ["POST", "PUT", "DELETE", "PATCH", "CONNECT", "get"] {
-        assert!(rt; !may_retry(method, true, false), "{method}");
-    }
-    Ok(())
+    all_hold(rt.alloc(), &SENT_AGAIN, &SentAgain)?;
+    all_hold(rt.alloc(), &SENT_ONCE, &SentOnce)
 }

@@ -1,5 +1,6 @@
 //! Configurations of `serve` that are accepted and that are rejected.
 
+use crate::rows::{Question, all_hold};
 use serve_config::Settings;
 use std::alloc::Global;
 use std::test::Fail;
@@ -16,20 +17,30 @@ pub(crate) fn told(alloc: Global, old: &str, new: &str) -> Result<String, Fail> 
     })
 }
 
+fn is_the_good_one(settings: &Settings) -> bool {
+    settings.address == [127, 0, 0, 1]
+        && settings.node.htcp.port == 4827
+        && settings.stop_after == 2
+        && settings.node.allowed.len() == 1
+        && settings.node.neighbours.len() == 1
+}
+
 #[test]
 fn a_good_one(rt: HostRuntime) -> Result<(), Fail> {
     let settings = Settings::read(rt.alloc(), GOOD.as_bytes())?;
-    assert_eq!(rt; settings.address, [127, 0, 0, 1]);
-    assert_eq!(rt; settings.node.htcp.port, 4827);
-    assert_eq!(rt; settings.stop_after, 2);
-    assert_eq!(rt; settings.node.allowed.len(), 1);
-    assert_eq!(rt; settings.node.neighbours.len(), 1);
+    let holds = is_the_good_one(&settings);
+    drop(settings);
+    assert!(rt; holds);
     Ok(())
 }
 
 // Text of the good configuration, its replacement, and the expected result.
 const REPLACEMENTS: [(&str, &str, &str); 26] = [
-    ("1024,", "1024", "config fault 1\nline 1, column 253"),
+    (
+        "1024,",
+        "1024",
+        "config fault 1\nline 1, column 253: expected , or }",
+    ),
     (GOOD, "[]", "config fault 2\nconfiguration: not an object"),
     (
         r#""icp_port": 3130, "#,
@@ -206,7 +217,7 @@ const UNREACHABLE: [(&str, &str, &str); 12] = [
 ];
 
 // The same, for the keys that bound and guard what clients and strangers can do.
-const GUARDS: [(&str, &str); 28] = [
+const GUARDS: [(&str, &str); 33] = [
     (r#""fetch_octets": 1"#, "read"),
     (r#""fetch_octets": 1073741824"#, "read"),
     (
@@ -232,6 +243,20 @@ const GUARDS: [(&str, &str); 28] = [
     (
         r#""address_connections": 0"#,
         "config fault 3\naddress_connections: 0 is below 1",
+    ),
+    (r#""client_threads": 1"#, "read"),
+    (r#""client_threads": 16"#, "read"),
+    (
+        r#""client_threads": 17"#,
+        "config fault 3\nclient_threads: 17 is above 16",
+    ),
+    (
+        r#""client_threads": 0"#,
+        "config fault 3\nclient_threads: 0 is below 1",
+    ),
+    (
+        r#""client_threads": "4""#,
+        "config fault 2\nclient_threads: not a whole number",
     ),
     (r#""deny_origins": []"#, "read"),
     (r#""deny_origins": ["192.168.0.0/16", "0.0.0.0/0"]"#, "read"),
@@ -291,58 +316,100 @@ pub(crate) fn told_with(alloc: Global, key: &str) -> Result<String, Fail> {
     told(alloc, r#""volume""#, new.as_str())
 }
 
+/// What is told of the good configuration with one more key.
+pub(crate) struct ToldWith;
+
+impl Question<(&'static str, &'static str)> for ToldWith {
+    fn holds(&self, alloc: Global, row: &(&'static str, &'static str)) -> Result<bool, Fail> {
+        Ok(told_with(alloc, row.0)?.as_str() == row.1)
+    }
+}
+
 #[test]
 fn guards(rt: HostRuntime) -> Result<(), Fail> {
-    for (key, wanted) in GUARDS {
-        let told = told_with(rt.alloc(), key)?;
-        assert_eq!(rt; told.as_str(), wanted, "{key}");
+    all_hold(rt.alloc(), &GUARDS, &ToldWith)
+}
+
+fn add_times(text: &mut String, part: &str, count: usize) -> Result<(), Fail> {
+    for _ in 0..count {
+        text.push_str(part)?;
     }
     Ok(())
 }
 
+/// This many times the part.
+pub(crate) fn times(alloc: Global, part: &str, count: usize) -> Result<String, Fail> {
+    let mut text = String::new(alloc);
+    add_times(&mut text, part, count)?;
+    Ok(text)
+}
+
+/// A number, and what is told of that many.
+pub(crate) type Count = (usize, &'static str);
+
 // A token of this many octets.
 fn told_of_token(alloc: Global, octets: usize) -> Result<String, Fail> {
-    let mut key = String::from_str(alloc, r#""admin_token": ""#)?;
-    for _ in 0..octets {
-        key.push_str("a")?;
-    }
-    key.push_str(r#"""#)?;
+    let token = times(alloc, "a", octets)?;
+    let key = format!(in alloc; "\"admin_token\": \"{token}\"")?;
     told_with(alloc, key.as_str())
+}
+
+const TOKENS: [Count; 2] = [
+    (255, "read"),
+    (256, "config fault 3\nadmin_token: over 255 octets"),
+];
+
+struct ToldOfToken;
+
+impl Question<Count> for ToldOfToken {
+    fn holds(&self, alloc: Global, row: &Count) -> Result<bool, Fail> {
+        Ok(told_of_token(alloc, row.0)?.as_str() == row.1)
+    }
 }
 
 #[test]
 fn long_tokens(rt: HostRuntime) -> Result<(), Fail> {
-    assert_eq!(rt; told_of_token(rt.alloc(), 255)?.as_str(), "read");
-    assert_eq!(rt;
-        told_of_token(rt.alloc(), 256)?.as_str(),
-        "config fault 3\nadmin_token: over 255 octets"
-    );
-    Ok(())
+    all_hold(rt.alloc(), &TOKENS, &ToldOfToken)
+}
+
+fn has_none(settings: &Settings) -> bool {
+    settings.fetch_octets.is_none()
+        && settings.address_connections.is_none()
+        && settings.client_threads.is_none()
+        && settings.deny_origins.is_none()
+        && settings.origin_ports.is_none()
+        && settings.admin_token.is_none()
+        && settings.shelf_octets.is_none()
 }
 
 #[test]
 fn what_is_left_out_is_none(rt: HostRuntime) -> Result<(), Fail> {
     let settings = Settings::read(rt.alloc(), GOOD.as_bytes())?;
-    assert!(rt; settings.fetch_octets.is_none() && settings.address_connections.is_none());
-    assert!(rt; settings.deny_origins.is_none() && settings.origin_ports.is_none());
-    assert!(rt; settings.admin_token.is_none() && settings.shelf_octets.is_none());
+    let holds = has_none(&settings);
+    drop(settings);
+    assert!(rt; holds);
     Ok(())
+}
+
+// What is told of the good configuration with a text replaced.
+struct ToldReplaced;
+
+impl Question<(&'static str, &'static str, &'static str)> for ToldReplaced {
+    fn holds(
+        &self,
+        alloc: Global,
+        row: &(&'static str, &'static str, &'static str),
+    ) -> Result<bool, Fail> {
+        Ok(told(alloc, row.0, row.1)?.as_str() == row.2)
+    }
 }
 
 #[test]
 fn unreachable_neighbours(rt: HostRuntime) -> Result<(), Fail> {
-    for (old, new, wanted) in UNREACHABLE {
-        let told = told(rt.alloc(), old, new)?;
-        assert_eq!(rt; told.as_str(), wanted);
-    }
-    Ok(())
+    all_hold(rt.alloc(), &UNREACHABLE, &ToldReplaced)
 }
 
 #[test]
 fn faults(rt: HostRuntime) -> Result<(), Fail> {
-    for (old, new, wanted) in REPLACEMENTS {
-        let told = told(rt.alloc(), old, new)?;
-        assert_eq!(rt; told.as_str(), wanted);
-    }
-    Ok(())
+    all_hold(rt.alloc(), &REPLACEMENTS, &ToldReplaced)
 }

@@ -1,14 +1,20 @@
 //! When a stale object may be served. The cases follow from the text of RFC 5861, sections 3 and 4, and of RFC 9111, sections 4.2.1,
 //! 4.2.4, 5.2 and 5.2.2, by hand.
 
-use crate::heads::head_of;
+use crate::heads::{Field, head_of};
+use crate::rows::{Question, all_hold};
 use crate::validation::stored;
-use http_rules::{StaleUse, has_stale_use, is_error, may_serve_stale, supersedes, takes_stale};
+use http_rules::{
+    StaleUse, has_stale_use, is_error, may_serve_stale, stale_use, supersedes, takes_stale,
+};
+use std::alloc::Global;
 use std::test::Fail;
 
 // The Cache-Control of an object that is fresh for 600 s when it comes, for how many seconds it is here, and whether it may be served
 // in place of an error and while it is validated.
-const USES: [(&str, u32, bool, bool); 43] = [
+type Uses = (&'static str, u32, bool, bool);
+
+const USES: [Uses; 43] = [
     // It is fresh for 600 s: its age is below its lifetime (RFC 9111, section 4.2).
     (
         "max-age=600, stale-if-error=1200, stale-while-revalidate=1200",
@@ -149,28 +155,36 @@ const USES: [(&str, u32, bool, bool); 43] = [
     ("stale-if-error=60, x=\"a", 610, false, false),
 ];
 
+fn is_used(object: &[Field], row: &Uses) -> bool {
+    let in_error = may_serve_stale(object, StaleUse::InPlaceOfError, row.1, 600, 0);
+    let while_validated = may_serve_stale(object, StaleUse::WhileValidated, row.1, 600, 0);
+    in_error == row.2 && while_validated == row.3
+}
+
+struct UsesOf;
+
+impl Question<Uses> for UsesOf {
+    fn holds(&self, alloc: Global, row: &Uses) -> Result<bool, Fail> {
+        let line = format!(in alloc;
+            "Date: Sat, 29 Oct 1994 19:43:31 GMT\nCache-Control: {}",
+            row.0
+        )?;
+        let object = stored(alloc, line.as_str())?;
+        let has_use = has_stale_use(object.as_slice(), 0);
+        Ok(is_used(object.as_slice(), row) && (has_use || !(row.2 || row.3)))
+    }
+}
+
 #[test]
 fn uses(rt: HostRuntime) -> Result<(), Fail> {
-    for (value, stay, in_error, while_validated) in USES {
-        let line = format!(in rt.alloc();
-            "Date: Sat, 29 Oct 1994 19:43:31 GMT\nCache-Control: {value}"
-        )?;
-        let object = stored(rt.alloc(), line.as_str())?;
-        let found = may_serve_stale(&object, StaleUse::InPlaceOfError, stay, 600, 0);
-        assert_eq!(rt; found, in_error, "{value}, error after {stay} s");
-        let found = may_serve_stale(&object, StaleUse::WhileValidated, stay, 600, 0);
-        assert_eq!(rt; found, while_validated, "{value}, validated after {stay} s");
-        assert!(rt;
-            has_stale_use(&object, 0) || !(in_error || while_validated),
-            "{value}"
-        );
-    }
-    Ok(())
+    all_hold(rt.alloc(), &USES, &UsesOf)
 }
 
 // The fields of an object that is fresh for 10 s, the operator's seconds, for how many seconds it is here, and whether it may be served
 // in place of an error.
-const OPERATORS: [(&str, u32, u32, bool); 14] = [
+type Operators = (&'static str, u32, u32, bool);
+
+const OPERATORS: [Operators; 14] = [
     ("", 60, 9, false),
     ("", 60, 10, true),
     ("", 60, 70, true),
@@ -199,20 +213,35 @@ const OPERATORS: [(&str, u32, u32, bool); 14] = [
     ),
 ];
 
+// The operator's seconds are for errors alone.
+struct OperatorsUse;
+
+impl Question<Operators> for OperatorsUse {
+    fn holds(&self, alloc: Global, row: &Operators) -> Result<bool, Fail> {
+        let (lines, operators, stay, wanted) = *row;
+        let object = stored(alloc, lines)?;
+        let object = object.as_slice();
+        let in_error = may_serve_stale(object, StaleUse::InPlaceOfError, stay, 10, operators);
+        let while_validated = may_serve_stale(
+            object,
+            StaleUse::WhileValidated,
+            stay,
+            10,
+            operators,
+        );
+        Ok(in_error == wanted && !while_validated)
+    }
+}
+
 #[test]
 fn operators_seconds(rt: HostRuntime) -> Result<(), Fail> {
-    for (lines, operators, stay, wanted) in OPERATORS {
-        let object = stored(rt.alloc(), lines)?;
-        let found = may_serve_stale(&object, StaleUse::InPlaceOfError, stay, 10, operators);
-        assert_eq!(rt; found, wanted, "{lines}, {operators} s, after {stay} s");
-        let found = may_serve_stale(&object, StaleUse::WhileValidated, stay, 10, operators);
-        assert!(rt; !found, "{lines}: they are for errors alone");
-    }
-    Ok(())
+    all_hold(rt.alloc(), &OPERATORS, &OperatorsUse)
 }
 
 // The Cache-Control of an object, and whether there is a use for it without the operator's seconds, and with them.
-const WITH_USES: [(&str, bool, bool); 9] = [
+type WithUses = (&'static str, bool, bool);
+
+const WITH_USES: [WithUses; 9] = [
     ("max-age=10", false, true),
     ("stale-if-error=5", true, true),
     ("stale-while-revalidate=5", true, true),
@@ -224,41 +253,70 @@ const WITH_USES: [(&str, bool, bool); 9] = [
     ("x=\"", false, false),
 ];
 
+struct HasUse;
+
+impl Question<WithUses> for HasUse {
+    fn holds(&self, alloc: Global, row: &WithUses) -> Result<bool, Fail> {
+        let line = format!(in alloc; "Cache-Control: {}", row.0)?;
+        let object = stored(alloc, line.as_str())?;
+        let object = object.as_slice();
+        Ok(has_stale_use(object, 0) == row.1 && has_stale_use(object, 1) == row.2)
+    }
+}
+
 #[test]
 fn objects_with_a_use(rt: HostRuntime) -> Result<(), Fail> {
-    for (value, alone, by_operator) in WITH_USES {
-        let line = format!(in rt.alloc(); "Cache-Control: {value}")?;
-        let object = stored(rt.alloc(), line.as_str())?;
-        assert_eq!(rt; has_stale_use(&object, 0), alone, "{value}");
-        assert_eq!(rt; has_stale_use(&object, 1), by_operator, "{value}");
+    all_hold(rt.alloc(), &WITH_USES, &HasUse)
+}
+
+const ERRORS: [u16; 4] = [500, 502, 503, 504];
+
+const NO_ERRORS: [u16; 9] = [0, 200, 304, 404, 499, 501, 505, 508, 599];
+
+// Whether a status is an error as wanted.
+#[derive(Clone, Copy)]
+struct IsError {
+    wanted: bool,
+}
+
+impl Question<u16> for IsError {
+    fn holds(&self, _alloc: Global, row: &u16) -> Result<bool, Fail> {
+        Ok(is_error(*row) == self.wanted)
     }
-    Ok(())
 }
 
 #[test]
 fn errors(rt: HostRuntime) -> Result<(), Fail> {
-    for status in [500, 502, 503, 504] {
-        assert!(rt; is_error(status), "{status}");
+    all_hold(rt.alloc(), &ERRORS, &IsError { wanted: true })?;
+    all_hold(rt.alloc(), &NO_ERRORS, &IsError { wanted: false })
+}
+
+const SUPERSEDING: [u16; 10] = [200, 203, 204, 206, 301, 302, 307, 308, 404, 410];
+
+const NOT_SUPERSEDING: [u16; 10] = [0, 199, 304, 400, 401, 403, 405, 429, 500, 503];
+
+// Whether a response with a status supersedes as wanted.
+#[derive(Clone, Copy)]
+struct Supersedes {
+    wanted: bool,
+}
+
+impl Question<u16> for Supersedes {
+    fn holds(&self, _alloc: Global, row: &u16) -> Result<bool, Fail> {
+        Ok(supersedes(*row) == self.wanted)
     }
-    for status in [0, 200, 304, 404, 499, 501, 505, 508, 599] {
-        assert!(rt; !is_error(status), "{status}");
-    }
-    Ok(())
 }
 
 #[test]
 fn what_supersedes(rt: HostRuntime) -> Result<(), Fail> {
-    for status in [200, 203, 204, 206, 301, 302, 307, 308, 404, 410] {
-        assert!(rt; supersedes(status), "{status}");
-    }
-    for status in [0, 199, 304, 400, 401, 403, 405, 429, 500, 503] {
-        assert!(rt; !supersedes(status), "{status}");
-    }
-    Ok(())
+    all_hold(rt.alloc(), &SUPERSEDING, &Supersedes { wanted: true })?;
+    all_hold(rt.alloc(), &NOT_SUPERSEDING, &Supersedes { wanted: false })
 }
 
 // The fields of a request, and whether it takes what is stale.
-const REQUESTS: [(&str, bool); 8] = [
+type Taking = (&'static str, bool);
+
+const REQUESTS: [Taking; 8] = [
     ("", true),
     ("User-Agent: x", true),
     ("Cache-Control: max-stale", true),
@@ -269,11 +327,92 @@ const REQUESTS: [(&str, bool); 8] = [
     ("Cache-Control: x\nCache-Control: max-age", false),
 ];
 
+struct TakesStale;
+
+impl Question<Taking> for TakesStale {
+    fn holds(&self, alloc: Global, row: &Taking) -> Result<bool, Fail> {
+        Ok(takes_stale(&head_of(alloc, row.0)?) == row.1)
+    }
+}
+
 #[test]
 fn requests_that_take_it(rt: HostRuntime) -> Result<(), Fail> {
-    for (lines, wanted) in REQUESTS {
-        let head = head_of(rt.alloc(), lines)?;
-        assert_eq!(rt; takes_stale(&head), wanted, "{lines}");
+    all_hold(rt.alloc(), &REQUESTS, &TakesStale)
+}
+
+// The fields of a request, and what it accepts.
+type Acceptance = (&'static str, Option<StaleUse>);
+
+// What a request says of stale responses, and how long one may have been stale that is given to it (RFC 9111, sections 5.2.1.1 to
+// 5.2.1.3): `None` if it takes none but one that is validated meanwhile, or none at all.
+const ACCEPTED: [Acceptance; 11] = [
+    ("", Some(StaleUse::WhileValidated)),
+    ("Cache-Control: max-stale", Some(StaleUse::Accepted(None))),
+    (
+        "Cache-Control: x, Max-Stale=0",
+        Some(StaleUse::Accepted(Some(0))),
+    ),
+    (
+        "Cache-Control: max-stale=600",
+        Some(StaleUse::Accepted(Some(600))),
+    ),
+    (
+        "Cache-Control: max-stale=\"600\"",
+        Some(StaleUse::Accepted(Some(600))),
+    ),
+    // Around the equals sign there is no space (section 5.2).
+    ("Cache-Control: max-stale = 600", None),
+    ("Cache-Control: max-stale=x", None),
+    ("Cache-Control: max-stale=-1", None),
+    ("Cache-Control: max-stale=600, max-age=700", None),
+    ("Cache-Control: max-stale, min-fresh=1", None),
+    (
+        "Cache-Control: stale-while-revalidate=1",
+        Some(StaleUse::WhileValidated),
+    ),
+];
+
+struct Accepts;
+
+impl Question<Acceptance> for Accepts {
+    fn holds(&self, alloc: Global, row: &Acceptance) -> Result<bool, Fail> {
+        Ok(stale_use(&head_of(alloc, row.0)?) == row.1)
     }
-    Ok(())
+}
+
+#[test]
+fn what_requests_accept(rt: HostRuntime) -> Result<(), Fail> {
+    all_hold(rt.alloc(), &ACCEPTED, &Accepts)
+}
+
+// The Cache-Control of an object, what its client accepts, and whether it may have it.
+type Giving = (&'static str, Option<u32>, bool);
+
+// The Cache-Control of an object that came 610 s ago and was fresh for 600, what its client accepts, and whether it may have it.
+const GIVEN: [Giving; 8] = [
+    ("max-age=600", None, true),
+    ("max-age=600", Some(10), true),
+    ("max-age=600", Some(9), false),
+    ("max-age=600, must-revalidate", None, false),
+    ("max-age=600, proxy-revalidate", Some(60), false),
+    ("s-maxage=600", None, false),
+    ("max-age=600, no-cache", Some(60), false),
+    ("max-age=600, stale-while-revalidate=5", Some(10), true),
+];
+
+struct IsGiven;
+
+impl Question<Giving> for IsGiven {
+    fn holds(&self, alloc: Global, row: &Giving) -> Result<bool, Fail> {
+        let (control, most, wanted) = *row;
+        let line = format!(in alloc; "Cache-Control: {control}")?;
+        let object = stored(alloc, line.as_str())?;
+        let occasion = StaleUse::Accepted(most);
+        Ok(may_serve_stale(object.as_slice(), occasion, 610, 600, 0) == wanted)
+    }
+}
+
+#[test]
+fn what_may_be_given_to_who_accepts_it(rt: HostRuntime) -> Result<(), Fail> {
+    all_hold(rt.alloc(), &GIVEN, &IsGiven)
 }

@@ -1,35 +1,39 @@
 //! Validation of stored objects. The cases follow from the text of RFC 9111, sections 3.2 and 4.3, by hand.
 
-use crate::heads::head_of;
+pub(crate) use crate::heads::fields_of as stored;
+use crate::heads::{Field, head_of};
+use crate::rows::{Question, all_hold};
+use crate::settings::times;
 use http_rules::{PassFault, conditions_for, has_validator, is_about, may_validate, updated};
 use std::alloc::Global;
 use std::test::Fail;
 
-/// The fields of a stored object, from lines of the form `name: value`.
-pub(crate) fn stored(alloc: Global, lines: &str) -> Result<Vec<(Vec<u8>, Vec<u8>)>, Fail> {
-    let mut fields = Vec::new(alloc);
-    for line in lines.lines() {
-        let (name, value) = line.split_once(": ").ok_or("no field")?;
-        let name = name.as_bytes().to_ascii_lowercase(alloc)?;
-        fields.push((name, value.as_bytes().to_vec(alloc)?))?;
+fn add_line(alloc: Global, lines: &mut String, field: &Field) -> Result<(), Fail> {
+    let name = str::from_utf8(field.0.as_slice())?;
+    let value = str::from_utf8(field.1.as_slice())?;
+    let between = if lines.is_empty() { "" } else { "\n" };
+    let line = format!(in alloc; "{between}{name}: {value}")?;
+    Ok(lines.push_str(line.as_str())?)
+}
+
+fn add_lines(alloc: Global, lines: &mut String, fields: &[Field]) -> Result<(), Fail> {
+    for field in fields {
+        add_line(alloc, lines, field)?;
     }
-    Ok(fields)
+    Ok(())
 }
 
 // Fields as lines of the form `name: value`.
-fn lines_of(alloc: Global, fields: &[(Vec<u8>, Vec<u8>)]) -> Result<String, Fail> {
+fn lines_of(alloc: Global, fields: &[Field]) -> Result<String, Fail> {
     let mut lines = String::new(alloc);
-    for (name, value) in fields {
-        let (name, value) = (str::from_utf8(name.as_slice())?, value.as_slice());
-        let between = if lines.is_empty() { "" } else { "\n" };
-        let line = format!(in alloc; "{between}{name}: {}", str::from_utf8(value)?)?;
-        lines.push_str(line.as_str())?;
-    }
+    add_lines(alloc, &mut lines, fields)?;
     Ok(lines)
 }
 
 // The fields of an object, and those of a request that validates it.
-const CONDITIONS: [(&str, &str); 12] = [
+type Conditions = (&'static str, &'static str);
+
+const CONDITIONS: [Conditions; 12] = [
     ("ETag: \"a\"", "if-none-match: \"a\""),
     ("ETag: W/\"a\"", "if-none-match: W/\"a\""),
     (
@@ -62,16 +66,26 @@ const CONDITIONS: [(&str, &str); 12] = [
     ),
 ];
 
+fn has_conditions(alloc: Global, object: &[Field], wanted: &str) -> Result<bool, Fail> {
+    let fields = conditions_for(alloc, object)?;
+    Ok(lines_of(alloc, fields.as_slice())?.as_str() == wanted)
+}
+
+struct ConditionsOf;
+
+impl Question<Conditions> for ConditionsOf {
+    fn holds(&self, alloc: Global, row: &Conditions) -> Result<bool, Fail> {
+        let object = stored(alloc, row.0)?;
+        Ok(
+            has_conditions(alloc, object.as_slice(), row.1)?
+                && has_validator(object.as_slice()) != row.1.is_empty(),
+        )
+    }
+}
+
 #[test]
 fn conditions_of_an_object(rt: HostRuntime) -> Result<(), Fail> {
-    for (lines, wanted) in CONDITIONS {
-        let object = stored(rt.alloc(), lines)?;
-        let fields = conditions_for(rt.alloc(), &object)?;
-        let found = lines_of(rt.alloc(), &fields)?;
-        assert_eq!(rt; found.as_str(), wanted, "{lines}");
-        assert_eq!(rt; has_validator(&object), !wanted.is_empty(), "{lines}");
-    }
-    Ok(())
+    all_hold(rt.alloc(), &CONDITIONS, &ConditionsOf)
 }
 
 const TAGGED: &str = "ETag: \"a\"\nLast-Modified: Sat, 29 Oct 1994 19:43:31 GMT";
@@ -81,7 +95,9 @@ const WEAK: &str = "ETag: W/\"a\"\nLast-Modified: Sat, 29 Oct 1994 19:43:31 GMT"
 const DATED: &str = "Last-Modified: Sat, 29 Oct 1994 19:43:31 GMT";
 
 // The fields of a 304, those of the object, and whether it is about the object.
-const ABOUT: [(&str, &str, bool); 24] = [
+type About = (&'static str, &'static str, bool);
+
+const ABOUT: [About; 24] = [
     // A strong entity tag.
     ("ETag: \"a\"", TAGGED, true),
     ("ETag: \"b\"", TAGGED, false),
@@ -138,18 +154,25 @@ const ABOUT: [(&str, &str, bool); 24] = [
     ("ETag: \"a\"\nETag: \"a\"", TAGGED, false),
 ];
 
+struct IsAbout;
+
+impl Question<About> for IsAbout {
+    fn holds(&self, alloc: Global, row: &About) -> Result<bool, Fail> {
+        let head = head_of(alloc, row.0)?;
+        let fields = stored(alloc, row.1)?;
+        Ok(is_about(&head, fields.as_slice()) == row.2)
+    }
+}
+
 #[test]
 fn what_a_304_is_about(rt: HostRuntime) -> Result<(), Fail> {
-    for (lines, object, wanted) in ABOUT {
-        let head = head_of(rt.alloc(), lines)?;
-        let fields = stored(rt.alloc(), object)?;
-        assert_eq!(rt; is_about(&head, &fields), wanted, "{lines} / {object}");
-    }
-    Ok(())
+    all_hold(rt.alloc(), &ABOUT, &IsAbout)
 }
 
 // The fields of an object, those of a 304, and what the object has then.
-const UPDATED: [(&str, &str, &str); 14] = [
+type Updated = (&'static str, &'static str, &'static str);
+
+const UPDATED: [Updated; 14] = [
     ("", "", ""),
     ("Server: a", "", "server: a"),
     ("", "Server: a", "server: a"),
@@ -200,40 +223,49 @@ fn has_lines(lines: &str, wanted: &str) -> bool {
             .all(|line| lines.lines().any(|other| other == line))
 }
 
+// What an object with these fields has after a 304 with those.
+fn after(alloc: Global, object: &str, lines: &str) -> Result<String, Fail> {
+    let head = head_of(alloc, lines)?;
+    let fields = stored(alloc, object)?;
+    let after = updated(alloc, &head, fields.as_slice())?;
+    lines_of(alloc, after.as_slice())
+}
+
+struct UpToDate;
+
+impl Question<Updated> for UpToDate {
+    fn holds(&self, alloc: Global, row: &Updated) -> Result<bool, Fail> {
+        Ok(has_lines(after(alloc, row.0, row.1)?.as_str(), row.2))
+    }
+}
+
 // Fields of different names may be in any order.
 #[test]
 fn fields_brought_up_to_date(rt: HostRuntime) -> Result<(), Fail> {
-    for (object, lines, wanted) in UPDATED {
-        let head = head_of(rt.alloc(), lines)?;
-        let fields = stored(rt.alloc(), object)?;
-        let after = updated(rt.alloc(), &head, &fields)?;
-        let found = lines_of(rt.alloc(), &after)?;
-        assert!(rt;
-            has_lines(found.as_str(), wanted),
-            "{object} / {lines}: {found}"
-        );
-    }
-    Ok(())
+    all_hold(rt.alloc(), &UPDATED, &UpToDate)
+}
+
+// The fault of bringing an object up to date by a Connection that names this many fields.
+fn fault_of_names(alloc: Global, count: usize) -> Result<Option<PassFault>, Fail> {
+    let more = times(alloc, ", a", count.saturating_sub(1))?;
+    let lines = format!(in alloc; "Connection: a{more}")?;
+    let head = head_of(alloc, lines.as_str())?;
+    Ok(updated(alloc, &head, &Vec::new(alloc)).err())
 }
 
 // The 65th name is too many.
 #[test]
 fn names_in_connection(rt: HostRuntime) -> Result<(), Fail> {
-    let mut lines = "Connection: a".to_string(rt.alloc())?;
-    for _ in 1..64 {
-        lines.push_str(", a")?;
-    }
-    let head = head_of(rt.alloc(), lines.as_str())?;
-    assert!(rt; updated(rt.alloc(), &head, &Vec::new(rt.alloc())).is_ok());
-    lines.push_str(", a")?;
-    let head = head_of(rt.alloc(), lines.as_str())?;
-    let refused = updated(rt.alloc(), &head, &Vec::new(rt.alloc()));
-    assert!(rt; matches!(refused, Err(PassFault::TooManyNames)));
+    assert!(rt; fault_of_names(rt.alloc(), 64)?.is_none());
+    let refused = fault_of_names(rt.alloc(), 65)?;
+    assert!(rt; matches!(refused, Some(PassFault::TooManyNames)));
     Ok(())
 }
 
 // Requests, and whether the fetch for one may validate.
-const VALIDATING: [(&str, bool); 16] = [
+type Validating = (&'static str, bool);
+
+const VALIDATING: [Validating; 16] = [
     ("", true),
     ("Cache-Control: max-age=0", true),
     ("Cache-Control: no-cache", true),
@@ -252,11 +284,15 @@ const VALIDATING: [(&str, bool); 16] = [
     ("If-Unmodified-Since: Sat, 29 Oct 1994 19:43:31 GMT", false),
 ];
 
+struct MayValidate;
+
+impl Question<Validating> for MayValidate {
+    fn holds(&self, alloc: Global, row: &Validating) -> Result<bool, Fail> {
+        Ok(may_validate(&head_of(alloc, row.0)?) == row.1)
+    }
+}
+
 #[test]
 fn requests_that_validate(rt: HostRuntime) -> Result<(), Fail> {
-    for (lines, wanted) in VALIDATING {
-        let head = head_of(rt.alloc(), lines)?;
-        assert_eq!(rt; may_validate(&head), wanted, "{lines}");
-    }
-    Ok(())
+    all_hold(rt.alloc(), &VALIDATING, &MayValidate)
 }

@@ -446,3 +446,53 @@ fn copied(rt: HostRuntime) -> Result<(), Fail> {
     }
     Ok(())
 }
+
+// An object with a body of so many octets, the place of each modulo 251.
+fn long_object(alloc: Global, count: usize) -> Result<Object, Fail> {
+    let mut body = Vec::with_capacity(alloc, count)?;
+    for place in 0..count {
+        body.push((place % 251) as u8)?;
+    }
+    Ok(Object::new(203, Vec::new(alloc), body, 4, 5))
+}
+
+// Whether a part of the body is shared, and has these octets.
+fn shares(object: &Object, first: usize, end: usize) -> bool {
+    match object.share_body(first, end) {
+        Some(part) => part.as_slice() == &object.body()[first..end],
+        None => false,
+    }
+}
+
+#[test]
+fn bodies_of_128_kib_are_shared(rt: HostRuntime) -> Result<(), Fail> {
+    let object = long_object(rt.alloc(), 131_072)?;
+    assert!(rt; shares(&object, 0, 131_072));
+    assert!(rt; shares(&object, 131_071, 131_072));
+    assert!(rt; shares(&object, 1_000, 1_000));
+    assert!(rt; object.share_body(1, 0).is_none());
+    assert!(rt; object.share_body(0, 131_073).is_none());
+    Ok(())
+}
+
+#[test]
+fn shorter_bodies_are_not_shared(rt: HostRuntime) -> Result<(), Fail> {
+    let object = long_object(rt.alloc(), 131_071)?;
+    assert!(rt; object.share_body(0, 131_071).is_none());
+    Ok(())
+}
+
+// Whether an object with another head has the same status and body, and the digest that a new one has.
+fn keeps_body(alloc: Global, count: usize) -> Result<bool, Fail> {
+    let object = long_object(alloc, count)?;
+    let other = object.with_head(alloc, Vec::new(alloc), 6, 7)?;
+    let new = Object::new(203, Vec::new(alloc), object.body().to_vec(alloc)?, 6, 7);
+    Ok(other.body() == object.body() && other.digest() == new.digest() && other.life() == 7)
+}
+
+#[test]
+fn another_head_leaves_the_body(rt: HostRuntime) -> Result<(), Fail> {
+    assert!(rt; keeps_body(rt.alloc(), 131_072)?);
+    assert!(rt; keeps_body(rt.alloc(), 3)?);
+    Ok(())
+}

@@ -10,6 +10,7 @@ use neighbours::{End, Moment, Neighbour, Role, Socket, Table};
 use object_store::CacheKey;
 use peer_select::Round;
 use std::alloc::{AllocError, Global};
+use std::ops::Range;
 
 // A table of one parent, which is up.
 fn table(alloc: Global) -> Result<Table, AllocError> {
@@ -82,74 +83,179 @@ fn open_at(alloc: Global, pending: &mut Pending, client: u64, round: Round) -> O
     pending.open(alloc, key, client, false, round).ok()
 }
 
+// The moment so many milliseconds after the clock's start.
+fn moment(millis: u64) -> Result<Moment, AllocError> {
+    Moment::new(millis).ok_or(AllocError)
+}
+
+// Each test makes what it asks, lends it to functions that say whether all holds, and drops it: so no way out has to.
+
+// Whether these clients join one after the other.
+fn join_all(pending: &mut Pending, key: &CacheKey, clients: Range<u64>) -> bool {
+    for client in clients {
+        if !matches!(pending.join(key, client), Some(Ok(()))) {
+            return false;
+        }
+    }
+    true
+}
+
+// Whether none of these clients finds room among the waiters.
+fn are_all_refused(pending: &mut Pending, key: &CacheKey, clients: &[u64]) -> bool {
+    for client in clients {
+        if !matches!(pending.join(key, *client), Some(Err(JoinFault::Full))) {
+            return false;
+        }
+    }
+    true
+}
+
+// Whether these clients wait for the fetch at these places.
+fn wait_at(pending: &Pending, waiters: &[(usize, Option<u64>)]) -> bool {
+    for (place, client) in waiters {
+        if pending.waiters(1).get(*place).copied() != *client {
+            return false;
+        }
+    }
+    true
+}
+
+const WAITERS: [(usize, Option<u64>); 4] = [
+    (0, Some(1)),
+    (1, Some(2)),
+    (1023, Some(1024)),
+    (1024, None),
+];
+
+// Whether clients join a fetch until 1,024 wait.
+fn fills(pending: &mut Pending, key: &CacheKey) -> bool {
+    matches!(pending.join(key, 1), Some(Err(JoinFault::Double)))
+        && join_all(pending, key, 2..1025)
+        && are_all_refused(pending, key, &[1, 1024, 1025])
+        && wait_at(pending, &WAITERS)
+}
+
+// Whether client 2 leaves the others where they are, and the fetch all when it is closed.
+fn empties(pending: &mut Pending, key: &CacheKey) -> bool {
+    pending.leave(2);
+    let leaves = !pending.waits(2) && pending.waiters(1).get(1) == Some(&3);
+    pending.close(1);
+    leaves && !pending.waits(1) && pending.join(key, 7).is_none() && pending.next_number() == 2
+}
+
 #[test]
 fn joining(rt: HostRuntime) -> Result<(), AllocError> {
     let key = key(rt.alloc())?;
     let mut pending = first(rt.alloc())?;
-    assert!(rt; matches!(pending.join(&key, 1), Some(Err(JoinFault::Double))));
-    for client in 2..1025 {
-        assert!(rt;
-            matches!(pending.join(&key, client), Some(Ok(()))),
-            "{client}"
-        );
-    }
-    for client in [1, 1024, 1025] {
-        assert!(rt;
-            matches!(pending.join(&key, client), Some(Err(JoinFault::Full))),
-            "{client}"
-        );
-    }
-    let waiters = [
-        (0, Some(&1)),
-        (1, Some(&2)),
-        (1023, Some(&1024)),
-        (1024, None),
-    ];
-    for (i, client) in waiters {
-        assert!(rt; pending.waiters(1).get(i) == client, "{i}");
-    }
-    pending.leave(2);
-    assert!(rt; !pending.waits(2) && pending.waiters(1).get(1) == Some(&3));
-    pending.close(1);
-    assert!(rt; !pending.waits(1) && pending.join(&key, 7).is_none());
-    assert!(rt; pending.next_number() == 2);
+    let found = (fills(&mut pending, &key), empties(&mut pending, &key));
+    drop(pending);
+    assert!(rt; found.0);
+    assert!(rt; found.1);
     Ok(())
+}
+
+// Whether the fetch is due 2,000 ms after its start, and not once its round has ended.
+fn expires(pending: &mut Pending) -> Result<bool, AllocError> {
+    let (before, after) = (moment(2_999)?, moment(3_000)?);
+    let is_due = pending.due(before).is_none() && pending.due(after) == Some(1);
+    let has_ended = pending.expire(1) && !pending.expire(2);
+    Ok(is_due && has_ended && pending.due(after).is_none())
+}
+
+// Whether the fetch takes its second attempt, and there is no other.
+fn attempts(pending: &mut Pending) -> bool {
+    let goes_on = pending.next_attempt(1) && !pending.next_attempt(2);
+    let is_so = match pending.fetch(1) {
+        Some(fetch) => {
+            fetch.shared && fetch.attempt == 1 && fetch.key.as_slice() == b"http://a/".as_slice()
+        }
+        None => false,
+    };
+    goes_on && is_so && pending.fetch(2).is_none()
 }
 
 #[test]
 fn expiring(rt: HostRuntime) -> Result<(), AllocError> {
     let mut pending = first(rt.alloc())?;
-    for (millis, due) in [(2_999, None), (3_000, Some(1))] {
-        if let Some(now) = Moment::new(millis) {
-            assert!(rt; pending.due(now) == due, "{millis}");
-        }
-    }
-    assert!(rt; pending.expire(1) && !pending.expire(2));
-    if let Some(now) = Moment::new(3_000) {
-        assert!(rt; pending.due(now).is_none());
-    }
-    assert!(rt; pending.next_attempt(1) && !pending.next_attempt(2));
-    if let Some(fetch) = pending.fetch(1) {
-        assert!(rt;
-            fetch.shared && fetch.attempt == 1 && fetch.key.as_slice() == b"http://a/".as_slice()
-        );
-    }
-    assert!(rt; pending.fetch(1).is_some() && pending.fetch(2).is_none());
+    let found = (expires(&mut pending), attempts(&mut pending));
+    drop(pending);
+    assert!(rt; found.0?);
+    assert!(rt; found.1);
     Ok(())
 }
 
-// A copy has the fetch with its waiters, and changes independently of the original.
+// Whether a copy has the fetch with its waiters, and changes independently of the original, whose fetch is closed.
+fn is_independent(pending: &mut Pending, copy: &mut Pending, key: &CacheKey) -> bool {
+    pending.close(1);
+    pending.fetch(1).is_none()
+        && copy.waiters(1).get(1) == Some(&2)
+        && matches!(copy.join(key, 3), Some(Ok(())))
+        && !pending.waits(3)
+        && copy.next_number() == 2
+        && copy.expire(1)
+}
+
+// Whether a second client joins, and what is copied then is independent.
+fn is_copied(alloc: Global, pending: &mut Pending) -> Result<bool, AllocError> {
+    let key = key(alloc)?;
+    let joins = matches!(pending.join(&key, 2), Some(Ok(())));
+    let mut copy = pending.copy(alloc)?;
+    let found = is_independent(pending, &mut copy, &key);
+    drop(copy);
+    Ok(joins && found)
+}
+
 #[test]
 fn copied(rt: HostRuntime) -> Result<(), AllocError> {
-    let key = key(rt.alloc())?;
     let mut pending = first(rt.alloc())?;
-    assert!(rt; matches!(pending.join(&key, 2), Some(Ok(()))));
-    let mut copy = pending.copy(rt.alloc())?;
-    pending.close(1);
-    assert!(rt; pending.fetch(1).is_none() && copy.waiters(1).get(1) == Some(&2));
-    assert!(rt; matches!(copy.join(&key, 3), Some(Ok(()))) && !pending.waits(3));
-    assert!(rt; copy.next_number() == 2 && copy.expire(1));
+    let found = is_copied(rt.alloc(), &mut pending);
+    drop(pending);
+    assert!(rt; found?);
     Ok(())
+}
+
+// Whether fetches of these numbers are opened for clients of the same.
+fn open_all(alloc: Global, pending: &mut Pending, table: &Table, numbers: Range<u32>) -> bool {
+    let Some(start) = Moment::new(1000) else {
+        return false;
+    };
+    for number in numbers {
+        let round = Round::start(table, start);
+        if open_at(alloc, pending, u64::from(number), round) != Some(number) {
+            return false;
+        }
+    }
+    true
+}
+
+// Whether no further fetch is opened.
+fn is_full(alloc: Global, pending: &mut Pending, table: &Table) -> bool {
+    match Moment::new(1000) {
+        Some(start) => {
+            let round = Round::start(table, start);
+            pending.is_full() && open_at(alloc, pending, 999, round).is_none()
+        }
+        None => false,
+    }
+}
+
+fn close_all(pending: &mut Pending, numbers: Range<u32>) {
+    for number in numbers {
+        pending.close(number);
+    }
+}
+
+// Whether these fetches, and no others, are due one after the other.
+fn are_due(pending: &mut Pending, numbers: &[u32]) -> bool {
+    let Some(now) = Moment::new(3000) else {
+        return false;
+    };
+    for number in numbers {
+        if pending.due(now) != Some(*number) || !pending.expire(*number) {
+            return false;
+        }
+    }
+    pending.due(now).is_none()
 }
 
 // Opens fetches 1 to 256, closes 2 to 255 and opens two more, numbered 257 and 258. The remaining four are due in the order
@@ -158,32 +264,14 @@ fn copied(rt: HostRuntime) -> Result<(), AllocError> {
 fn numbers_and_the_order_of_opening(rt: HostRuntime) -> Result<(), AllocError> {
     let table = table(rt.alloc())?;
     let mut pending = Pending::new(rt.alloc())?;
-    let Some(start) = Moment::new(1000) else {
-        return Err(AllocError);
-    };
-    for client in 1..257u32 {
-        let round = Round::start(&table, start);
-        assert!(rt; !pending.waits(u64::from(client)));
-        let opened = open_at(rt.alloc(), &mut pending, u64::from(client), round);
-        assert!(rt; opened == Some(client), "{client}");
-    }
-    let round = Round::start(&table, start);
-    assert!(rt; pending.is_full() && open_at(rt.alloc(), &mut pending, 999, round).is_none());
-    for number in 2..256 {
-        pending.close(number);
-    }
-    for client in [257, 258] {
-        let round = Round::start(&table, start);
-        let opened = open_at(rt.alloc(), &mut pending, client, round);
-        assert!(rt; opened == Some(client as u32), "{client}");
-    }
-    let Some(now) = Moment::new(3000) else {
-        return Err(AllocError);
-    };
-    for number in [1, 256, 257, 258] {
-        assert!(rt; pending.due(now) == Some(number), "{number}");
-        assert!(rt; pending.expire(number));
-    }
-    assert!(rt; pending.due(now).is_none());
+    let fills = open_all(rt.alloc(), &mut pending, &table, 1..257)
+        && is_full(rt.alloc(), &mut pending, &table);
+    close_all(&mut pending, 2..256);
+    let goes_on = open_all(rt.alloc(), &mut pending, &table, 257..259);
+    let is_in_order = are_due(&mut pending, &[1, 256, 257, 258]);
+    drop(pending);
+    assert!(rt; fills);
+    assert!(rt; goes_on);
+    assert!(rt; is_in_order);
     Ok(())
 }
