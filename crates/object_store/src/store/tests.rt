@@ -458,9 +458,9 @@ fn long_object(alloc: Global, count: usize) -> Result<Object, Fail> {
 
 // Whether a part of the body is shared, and has these octets.
 fn shares(object: &Object, first: usize, end: usize) -> bool {
-    match object.share_body(first, end) {
-        Some(part) => part.as_slice() == &object.body()[first..end],
-        None => false,
+    match (object.share_body(first, end), object.body().get(first..end)) {
+        (Some(part), Some(octets)) => part.as_slice() == octets,
+        _ => false,
     }
 }
 
