@@ -23,7 +23,7 @@ use std::mem;
 use std::random::RandomSource;
 use std::sync::atomic::{AtomicBool, AtomicU16, AtomicU64, AtomicUsize};
 use std::sync::ledger::{Blank, Ledger};
-use std::sync::{Arc, Mutex};
+use std::sync::{Arc, Mutex, RwLock};
 use std::time::{Clock, Duration, Instant};
 use traffic_figures::Figures;
 
@@ -270,6 +270,7 @@ fn state_of<L: Ledger>(
         mailbox: Mutex::new(Mailbox::new(alloc)),
         lanes: Mutex::new(None),
         failed,
+        changes: Arc::new(alloc, RwLock::new(()))?,
         timeline: run.timeline,
         name: kept.name,
         loop_mark: run.loop_mark,

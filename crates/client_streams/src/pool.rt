@@ -208,6 +208,13 @@ impl SeatShare {
         self.pool.counts.lock(rt).leave(self.thread, address);
     }
 
+    /// Has the connection of some thread give way that has been idle for longest, and the other threads look for it anew.
+    pub(crate) fn want<R: Wait>(&self, rt: &R) {
+        let mut counts = self.pool.counts.lock(rt);
+        self.pool.is_wanted.store(true, Ordering::SeqCst);
+        counts.ring_others(self.thread);
+    }
+
     /// Whether a client of any thread waits for a seat to which no connection gives way yet.
     pub(crate) fn is_wanted(&self) -> bool {
         self.pool.is_wanted.load(Ordering::SeqCst)

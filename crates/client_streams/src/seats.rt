@@ -11,9 +11,13 @@ use std::cell::RefCell;
 use std::net::IpAddr;
 use std::rc::Rc;
 use std::sync::Wait;
+use std::time::{Clock, Duration, Instant};
 
 // The most clients that are refused concurrently. Further ones are closed without an answer.
 const MOST_REFUSALS: usize = 64;
+
+// For how long a connection does not give way after it came, in milliseconds: its first request is on its way.
+const NEW_MILLIS: u64 = 250;
 
 // The seat that nobody takes. Its neighbours are the ends of the order of idle seats.
 const NO_SEAT: usize = 0;
@@ -45,7 +49,7 @@ pub(crate) struct Seats<R> {
     taker: Option<Waker>,
 }
 
-impl<R: Wait + Copy> Seats<R> {
+impl<R: Wait + Clock + Copy> Seats<R> {
     // Seats for so many clients that are served, and for those that are refused.
     fn new(rt: R, alloc: Global, share: SeatShare, most: usize) -> Result<Seats<R>, AllocError> {
         let all = most.saturating_add(MOST_REFUSALS);
@@ -167,13 +171,31 @@ impl<R: Wait + Copy> Seats<R> {
         is_ahead
     }
 
-    // Notes that the connection of a seat is idle. Returns whether it has to close.
-    fn rest(&mut self, number: usize, cx: &mut Context<'_>) -> bool
+    // Has the connection that has been idle for longest closed, or one of another thread.
+    fn want(&mut self) {
+        self.share.want(&self.rt);
+        self.wake_longest_idle();
+    }
+
+    // Whether a connection that came at this moment is new.
+    fn is_new(&self, came: Option<Instant>) -> bool {
+        match (came, Instant::now(&self.rt)) {
+            (Some(came), Ok(now)) => {
+                now.saturating_duration_since(came) < Duration::from_millis(NEW_MILLIS)
+            }
+            _ => false,
+        }
+    }
+
+    // Notes that the connection of a seat is idle, which came at this moment. Returns whether it has to close. One that is new does not:
+    // what has been idle for less long was not idle before it came either.
+    fn rest(&mut self, number: usize, came: Option<Instant>, cx: &mut Context<'_>) -> bool
         ensures { Keeps cx.old cx.new }
     {
         self.put_last(number);
         let is_longest = self.after(NO_SEAT) == number;
-        if is_longest && self.share.is_wanted() && self.share.gives_way() {
+        let is_next = is_longest && self.share.is_wanted();
+        if is_next && !self.is_new(came) && self.share.gives_way() {
             return true;
         }
         if let Some(seat) = self.seats.get_mut(number) {
@@ -238,7 +260,7 @@ fn numbers(alloc: Global, first: usize, last: usize) -> Result<Vec<usize>, Alloc
 #[derive(Drop)]
 pub(crate) struct SharedSeats<R: Drop>(Rc<RefCell<Seats<R>>>);
 
-impl<R: Wait + Copy> SharedSeats<R> {
+impl<R: Wait + Clock + Copy> SharedSeats<R> {
     /// Seats for `most` clients, which is what all threads have together, and for 64 that are refused.
     pub fn new(
         rt: R,
@@ -277,6 +299,7 @@ impl<R: Wait + Copy> SharedSeats<R> {
             seats: shared,
             number,
             address: Some(address),
+            came: Instant::now(&seats.rt).ok(),
         }))
     }
 
@@ -291,7 +314,15 @@ impl<R: Wait + Copy> SharedSeats<R> {
             seats: shared,
             number,
             address: None,
+            came: None,
         })
+    }
+
+    /// Has the connection that has been idle for longest closed, or one of another thread.
+    pub fn want(&self) {
+        if let Ok(mut seats) = self.0.try_borrow_mut() {
+            seats.want();
+        }
     }
 
     /// Any seat, for nobody. `None` if there is no free one, or if out of memory.
@@ -308,6 +339,7 @@ impl<R: Wait + Copy> SharedSeats<R> {
             seats: shared,
             number,
             address: None,
+            came: None,
         })
     }
 
@@ -343,14 +375,16 @@ impl<R: Wait + Copy> SharedSeats<R> {
 }
 
 /// A seat that is taken, until this is dropped.
-pub(crate) struct TakenSeat<R: Wait + Copy> {
+pub(crate) struct TakenSeat<R: Wait + Clock + Copy> {
     seats: Rc<RefCell<Seats<R>>>,
     number: usize,
     // The address of a client that is served.
     address: Option<IpAddr>,
+    // When it came. `None` if the clock could not be read.
+    came: Option<Instant>,
 }
 
-impl<R: Wait + Copy> TakenSeat<R> {
+impl<R: Wait + Clock + Copy> TakenSeat<R> {
     /// Waits until the server is open.
     pub fn wait_for_opening(&self, cx: &mut Context<'_>) -> Poll<()>
         ensures armed { OnPending result (IsArmed cx.new) }
@@ -363,7 +397,7 @@ impl<R: Wait + Copy> TakenSeat<R> {
     }
 
     /// Notes whether the connection is idle, and whether it has been used since the last call. Returns whether it has to close: it
-    /// has been idle for longer than all others, and a client waits for a seat. The seat of a client that is refused never has to.
+    /// has been idle for longer than all others, came 250 ms ago or earlier, and a client waits for a seat. The seat of a client that is refused never has to.
     pub fn must_close(&self, stage: &SharedStage, cx: &mut Context<'_>) -> bool
         ensures { Keeps cx.old cx.new }
     {
@@ -377,16 +411,17 @@ impl<R: Wait + Copy> TakenSeat<R> {
         if stage.take_set() || !is_idle {
             seats.work(self.number);
         }
-        is_idle && seats.rest(self.number, cx)
+        is_idle && seats.rest(self.number, self.came, cx)
     }
 }
 
-impl<R: Wait + Copy> Drop for TakenSeat<R> {
+impl<R: Wait + Clock + Copy> Drop for TakenSeat<R> {
     fn drop(self) {
         let TakenSeat {
             seats,
             number,
             address,
+            came: _came,
         } = self;
         if let Ok(mut seats) = seats.try_borrow_mut() {
             seats.leave(number, address);

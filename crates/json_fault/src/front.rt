@@ -134,6 +134,7 @@ impl Front {
         let is_name = matches!(self.wants, Expected::Name | Expected::NameOrEnd);
         let is_value = matches!(self.wants, Expected::Value | Expected::ValueOrEnd);
         match octet {
+            _ if MOST_NESTED < self.depth => Expected::Shallower,
             Some(b'"') if is_name || is_value => Expected::Text,
             Some(b'{' | b'[') if is_value && MOST_NESTED <= self.depth => Expected::Shallower,
             Some(octet) if is_value && is_in_word(octet) => Expected::Word,

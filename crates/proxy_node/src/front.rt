@@ -1,14 +1,14 @@
 //! Client requests on their way to the node.
 use crate::clock::{micros_since, now};
 use crate::handing::{Call, Returned, TakeCalls, hand_over};
-use crate::node_handle::NodeHandle;
+use crate::node_handle::{Given, NodeHandle};
 use crate::proxy_state::{ProxyState, Stale, end_at};
 use crate::storage::Purger;
 use crossbeam_channel::Sender;
 use forwarding::{Field, KnownKeys, Profile, Waiting, end_in_digits};
 use futures::channel::oneshot;
 use http_rules::{
-    Mirror, PassFault, Stored, StoredAnswer, TargetFault, answer_to, choose, classify,
+    Mirror, PassFault, StaleUse, Stored, StoredAnswer, TargetFault, answer_to, choose, classify,
     content_range, end_to_end, has_come_back, is_for_a_part, is_in_not_modified, is_plain_request,
     may_validate, mirrored, stale_use, unsatisfied_range,
 };
@@ -78,8 +78,8 @@ struct Request {
 struct Taken {
     /// How many actions it caused.
     actions: usize,
-    /// Whether one of them answered a client.
-    has_answered: bool,
+    /// What they have given the client.
+    given: Given,
 }
 
 /// The key of what a request asks for: its target, or the URL that stands for it at one of these mirrors. Errors: the HTTP status to
@@ -182,6 +182,23 @@ fn passed_on(alloc: Global, asked: &Asked) -> Result<Vec<Field>, PassFault> {
     Ok(fields)
 }
 
+/// The answer with an object that is stale.
+fn outcome_of(stale: Stale) -> Outcome {
+    let Stale { object, age } = stale;
+    Outcome::Got {
+        object,
+        supplier: Some(Supplier::Stale(age)),
+        is_stored: false,
+    }
+}
+
+/// What receives an answer with an object that is stale. `None` if out of memory.
+fn given_stale(alloc: Global, stale: Stale) -> Option<oneshot::Receiver<Outcome>> {
+    let (reply, answer) = oneshot::channel(alloc).ok()?;
+    let _ = reply.send(outcome_of(stale));
+    Some(answer)
+}
+
 /// How a request that is not a hit is forwarded, by its mode and the number of actions it caused: a shared request without an
 /// action joined a pending fetch.
 fn forward_of(mode: Mode, actions: usize) -> Forward {
@@ -237,7 +254,7 @@ impl<R: Wait + Clock + Drop, L: Ledger> NodeFront<R, L> {
         let actions = node.take(event).ok()?;
         Some(Taken {
             actions,
-            has_answered: node.has_answered(),
+            given: node.given(),
         })
     }
 
@@ -271,6 +288,79 @@ impl<R: Wait + Clock + Drop, L: Ledger> NodeFront<R, L> {
         let _ = self.take(Event::Gone { client });
     }
 
+    /// A request for all clients that the node has given this, with what is on the shelf where that may be given now.
+    fn with_stale(&mut self, asked: &Asked, given: Given, asking: Asking) -> Asking {
+        match given {
+            Given::Nothing => {
+                self.give_stale(asked, asking.client);
+                asking
+            }
+            Given::Refusal => self.instead(asked, asking),
+            Given::Object => asking,
+        }
+    }
+
+    /// A request that the node has refused since there is no room for a fetch, with what is on the shelf in place of that answer, if it may
+    /// be given.
+    fn instead(&mut self, asked: &Asked, asking: Asking) -> Asking {
+        let stale = self.stale_instead(asked);
+        match stale.and_then(|stale| given_stale(self.alloc, stale)) {
+            Some(answer) => Asking { answer, ..asking },
+            None => asking,
+        }
+    }
+
+    /// What is on the shelf for a request that the node has refused: what may be given while its origin is asked, as well as what may be
+    /// in place of an error, since that is what the lack of room is (RFC 5861, section 4).
+    fn stale_instead(&mut self, asked: &Asked) -> Option<Stale> {
+        if self.proxy.shelf.is_none() {
+            return None;
+        }
+        let occasion = stale_use(&asked.head)?;
+        let key = self.key(asked).ok()?;
+        let found = self.proxy.stale(&self.rt, key.as_slice(), occasion);
+        if found.is_some() {
+            return found;
+        }
+        let occasion = StaleUse::InPlaceOfError;
+        self.proxy.stale(&self.rt, key.as_slice(), occasion)
+    }
+
+    /// The answer to a request that is refused with this status since it wants nothing fetched: what is on the shelf, if the client accepts
+    /// that (RFC 9111, sections 5.2.1.2 and 5.2.1.7). Errors: the status, 508 or 403 as `check` says, or 503 if out of memory.
+    fn without_fetch(
+        &mut self,
+        asked: &Asked,
+        key: &CacheKey,
+        status: u16,
+    ) -> Result<Asking, u16> {
+        let stale = self.accepted_stale(asked, key).ok_or(status)?;
+        self.check(asked, key, has_marks(asked))?;
+        let answer = given_stale(self.alloc, stale).ok_or(503u16)?;
+        Ok(Asking {
+            client: self.next_client(),
+            forward: Forward::Miss,
+            began: Instant::now(&self.rt).ok(),
+            answer,
+        })
+    }
+
+    /// What is on the shelf under a key, if this request would be answered by it were it fresh, and accepts that it is not.
+    fn accepted_stale(&self, asked: &Asked, key: &CacheKey) -> Option<Stale> {
+        let fresh = Some(Stored {
+            age: 0,
+            life: u32::MAX,
+        });
+        if choose(asked.method.as_str(), &asked.head, fresh) != Ok(Mode::Cached) {
+            return None;
+        }
+        let occasion = stale_use(&asked.head)?;
+        match occasion {
+            StaleUse::Accepted(_) => self.proxy.stale(&self.rt, key.as_slice(), occasion),
+            _ => None,
+        }
+    }
+
     /// Gives a client that waits for a fetch for all clients what is on the shelf, if it may have that while its origin is asked about it
     /// (RFC 5861, section 3), or if it accepts that (RFC 9111, section 5.2.1.2). The fetch goes on without it, and it takes no place of
     /// those who wait any more.
@@ -286,13 +376,8 @@ impl<R: Wait + Clock + Drop, L: Ledger> NodeFront<R, L> {
         };
         let key = key.as_slice();
         let found = self.proxy.stale(&self.rt, key, occasion);
-        if let Some(Stale { object, age }) = found {
-            let supplier = Some(Supplier::Stale(age));
-            let answer = Outcome::Got {
-                object,
-                supplier,
-                is_stored: false,
-            };
+        if let Some(stale) = found {
+            let answer = outcome_of(stale);
             self.proxy.mailbox.lock(&self.rt).answer(client, answer);
             let _ = self.take(Event::Gone { client });
         }
@@ -417,15 +502,16 @@ impl<R: Wait + Clock + Drop, L: Ledger> NodeFront<R, L> {
             self.forget(client);
             return Err(503);
         };
-        if mode == Mode::Shared && !taken.has_answered && !is_marked {
-            self.give_stale(asked, client);
-        }
-        Ok(Asking {
+        let asking = Asking {
             client,
             forward: forward_of(mode, taken.actions),
             began,
             answer,
-        })
+        };
+        if mode == Mode::Shared && !is_marked {
+            return Ok(self.with_stale(asked, taken.given, asking));
+        }
+        Ok(asking)
     }
 }
 
@@ -470,7 +556,10 @@ impl<R: Wait + Clock + Drop, L: Ledger> NodeFront<R, L> {
         let key = self.key(asked)?;
         let mode = match published {
             Some(mode) => mode,
-            None => self.counted_mode(asked, &key)?,
+            None => match self.counted_mode(asked, &key) {
+                Ok(mode) => mode,
+                Err(status) => return self.without_fetch(asked, &key, status),
+            },
         };
         self.request(asked, key, mode, has_marks(asked))
     }

@@ -30,7 +30,7 @@ use std::alloc::{AllocError, Global};
 use std::net::{IpAddr, SocketAddr};
 use std::sync::atomic::{AtomicBool, AtomicU16, AtomicU64, AtomicUsize, Ordering};
 use std::sync::ledger::Ledger;
-use std::sync::{Arc, Mutex, Wait};
+use std::sync::{Arc, Mutex, RwLock, Wait};
 use std::time::{Clock, Duration, Instant};
 use traffic_figures::Figures;
 
@@ -53,7 +53,8 @@ pub struct Attempt {
 /// The most keys whose objects are to be fetched anew, at a time.
 const CHANGED_KEYS: usize = 64;
 
-/// State shared by the threads of a proxy. No thread holds two of these locks at once.
+/// State shared by the threads of a proxy. No thread holds two of these locks at once, but for `changes`, which a fetch thread holds while
+/// it uses others to hand a result in.
 #[derive(Drop)]
 pub struct ProxyState<L: Ledger> {
     /// The node and its event log, behind a lock of its own that is held for one event or one question at a time.
@@ -65,6 +66,9 @@ pub struct ProxyState<L: Ledger> {
     pub lanes: Mutex<Option<Lanes>>,
     /// Attempts that could not be started and that no thread has reported to the node yet. Locked to add or remove one.
     pub failed: Mutex<Vec<Attempt>>,
+    /// Held by each fetch thread from when it looks whether what it fetched was changed meanwhile until the node has the result, and by
+    /// one that notes such a change, alone: no change is missed between the two.
+    pub changes: Arc<RwLock<()>>,
     /// The moments of all threads.
     pub timeline: Timeline,
     /// The name of this cache.
@@ -474,8 +478,10 @@ impl<L: Ledger> ProxyState<L> {
     }
 
     /// Notes that what is stored under a key was changed: takes what is on the shelf away, and has what is being fetched given only to
-    /// those who wait for it, as it may be what was there before.
+    /// those who wait for it, as it may be what was there before. Waits for results that are being handed in, so what these store is
+    /// stored when this returns, and later ones of what is being fetched now are not.
     pub fn withdraw<R: Wait>(&self, rt: &R, key: &CacheKey) {
+        let _alone = self.changes.write(rt);
         self.unshelve(rt, key);
         self.mailbox.lock(rt).outdate(key.as_slice());
     }

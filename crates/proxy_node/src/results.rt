@@ -15,8 +15,8 @@ use httpdate::HttpDate;
 use node_core::{Event, Mode, Outcome};
 use object_store::{CacheKey, SharedObject};
 use std::alloc::Global;
-use std::sync::Wait;
 use std::sync::ledger::Ledger;
+use std::sync::{Arc, RwLock, Wait};
 use std::thread;
 use std::time::{Clock, Duration};
 use traffic_figures::{FetchNote, FetchOutcome, FetchedFrom};
@@ -104,12 +104,32 @@ pub struct Results<R, L: Ledger> {
     pub rt: R,
     pub alloc: Global,
     pub node: NodeHandle<R, L>,
+    /// The lock by which changes of what is stored wait for results that are being handed in: the proxy's own.
+    pub changes: Arc<RwLock<()>>,
     /// Whether a result could not be submitted even after all retries.
     pub has_given_up: bool,
     /// Receives a message when that happens: the clients of the fetch would wait forever, so the proxy shuts down.
     pub end: Sender<(), Global>,
     /// Receives a message once the thread takes fetches; `None` from then on.
     pub opened: Option<Sender<(), Global>>,
+}
+
+// Hands in the outcome of an attempt. Returns whether the node has taken it.
+fn take<R: Wait + Clock + Drop, L: Ledger>(
+    rt: &R,
+    node: &mut NodeHandle<R, L>,
+    fetch: u32,
+    attempt: u16,
+    supplier: Option<Supplier>,
+    outcome: Outcome,
+) -> bool {
+    let event = Event::Fetched {
+        fetch,
+        attempt,
+        result: outcome,
+        now: now(rt, &node.proxy().timeline),
+    };
+    node.take_fetched(event, supplier).is_ok()
 }
 
 impl<R: Wait + Clock + Drop, L: Ledger> Results<R, L> {
@@ -375,20 +395,32 @@ impl<R: Wait + Clock + Drop, L: Ledger> Results<R, L> {
         }
     }
 
-    fn take(
-        &mut self,
-        fetch: u32,
-        attempt: u16,
-        supplier: Option<Supplier>,
-        outcome: Outcome,
-    ) -> bool {
-        let event = Event::Fetched {
+    // Hands in that an attempt has failed.
+    fn fail(&mut self, fetch: u32, attempt: u16) -> bool {
+        take(&self.rt, &mut self.node, fetch, attempt, None, Outcome::Failed)
+    }
+
+    // Hands in how an attempt has ended. What was changed meanwhile is noted until the attempt is taken out of the mailbox, and changes
+    // wait from then until the event was taken: so what is stored after all is there when the change takes it out of the store.
+    fn land(&mut self, done: Fetched) -> bool {
+        let Fetched {
             fetch,
             attempt,
-            result: outcome,
-            now: now(&self.rt, &self.node.proxy().timeline),
-        };
-        self.node.take_fetched(event, supplier).is_ok()
+            end,
+        } = done;
+        let landing = self.changes.read(&self.rt);
+        let landed = self.node.proxy().mailbox.lock(&self.rt).end(fetch);
+        let flight = landed.flight;
+        self.note(flight, &end);
+        if let FetchEnd::Failed(fault) = &end {
+            self.tell(fetch, flight.supplier, *fault);
+            self.note_large(fetch, *fault);
+        }
+        self.note_part(fetch, flight, &end);
+        let Delivery { outcome, supplier } = self.delivery(fetch, landed, end);
+        let is_taken = take(&self.rt, &mut self.node, fetch, attempt, supplier, outcome);
+        drop(landing);
+        is_taken
     }
 
     fn give_up(&mut self) {
@@ -407,26 +439,13 @@ impl<R: Wait + Clock + Drop, L: Ledger> Submit<Fetched> for Results<R, L> {
     }
 
     fn submit(&mut self, done: Fetched) {
-        let Fetched {
-            fetch,
-            attempt,
-            end,
-        } = done;
-        let landed = self.node.proxy().mailbox.lock(&self.rt).end(fetch);
-        let flight = landed.flight;
-        self.note(flight, &end);
-        if let FetchEnd::Failed(fault) = &end {
-            self.tell(fetch, flight.supplier, *fault);
-            self.note_large(fetch, *fault);
-        }
-        self.note_part(fetch, flight, &end);
-        let Delivery { outcome, supplier } = self.delivery(fetch, landed, end);
-        if self.take(fetch, attempt, supplier, outcome) {
+        let (fetch, attempt) = (done.fetch, done.attempt);
+        if self.land(done) {
             return;
         }
         for _ in 0..RETRIES {
             thread::sleep(&self.rt, Duration::from_millis(RETRY_MILLIS));
-            if self.take(fetch, attempt, supplier, Outcome::Failed) {
+            if self.fail(fetch, attempt) {
                 return;
             }
         }

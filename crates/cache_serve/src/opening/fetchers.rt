@@ -105,11 +105,13 @@ where
         opened: Sender<(), Global>,
     ) -> Result<(), ServeFault> {
         let proxy = self.proxy()?;
+        let changes = Arc::try_clone(&proxy.changes).map_err(no_memory)?;
         let end = self.end()?;
         let fetches = FetchTask {
             seat: self.seat()?,
             jobs,
             proxy,
+            changes,
             budget,
             octets: self.config.body_limit,
             limits: self.config.limits,
