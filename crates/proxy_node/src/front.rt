@@ -215,6 +215,7 @@ impl<R: Wait + Clock + Drop, L: Ledger> NodeFront<R, L> {
             looped,
             validates,
             fetch: None,
+            leads: None,
         };
         let mut mailbox = self.proxy.mailbox.lock(&self.rt);
         mailbox.add(self.alloc, client, waiting)?;
@@ -419,6 +420,9 @@ impl<R: Wait + Clock + Drop, L: Ledger> NodeFront<R, L> {
         };
         if mode == Mode::Shared && !taken.has_answered && !is_marked {
             self.give_stale(asked, client);
+            if taken.actions > 0 {
+                self.expect_early(asked, client);
+            }
         }
         Ok(Asking {
             client,
