@@ -15,6 +15,6 @@ mod validating;
 pub use addressing::{Destination, Peer, end_in_digits, origin_of, peer_of};
 pub use keeping::{Exchange, Life, Profile};
 pub use known_keys::KnownKeys;
-pub use mailbox::{Field, Flight, Landed, Mailbox, Waiting};
-pub use objects::{object_of, refusal, stale_object, unasked_object, via};
+pub use mailbox::{Field, Flight, Landed, Led, Mailbox, Waiting};
+pub use objects::{add_ours, object_of, refusal, stale_object, unasked_object, via};
 pub use validating::{confirmed, hides_rules};

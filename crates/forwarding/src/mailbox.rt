@@ -24,6 +24,17 @@ pub struct Waiting {
     pub validates: bool,
     /// The client's private fetch, once it has started.
     pub fetch: Option<u32>,
+    /// The key whose shared fetch the client began, if it may have the answer while that is collected.
+    pub leads: Option<CacheKey>,
+}
+
+/// A client that is given the answer of a fetch while it is collected.
+#[derive(Drop)]
+pub struct Led {
+    /// Sends the client its answer.
+    pub reply: oneshot::Sender<Outcome>,
+    /// Whom the answer comes from.
+    pub supplier: Supplier,
 }
 
 /// What is known of an in-flight fetch.
@@ -74,6 +85,8 @@ pub struct Mailbox {
     fetches: BTreeMap<u32, Fetching>,
     // Clients whose shared requests have CDN-Loop fields, by key.
     looped: BTreeMap<Vec<u8>, BTreeSet<u64>>,
+    // Clients that may have the answer of the shared fetch which they began while it is collected, by key.
+    leaders: BTreeMap<Vec<u8>, u64>,
 }
 
 impl Mailbox {
@@ -83,6 +96,7 @@ impl Mailbox {
             clients: BTreeMap::new(alloc),
             fetches: BTreeMap::new(alloc),
             looped: BTreeMap::new(alloc),
+            leaders: BTreeMap::new(alloc),
         }
     }
 
@@ -126,7 +140,38 @@ impl Mailbox {
         if let Some(key) = &waiting.looped {
             self.remove_looped(key.as_slice(), client);
         }
+        if let Some(key) = &waiting.leads
+            && self.leaders.get(key.as_slice()) == Some(&client)
+        {
+            let _ = self.leaders.remove(key.as_slice());
+        }
         Some(waiting)
+    }
+
+    /// Notes that this client, if it waits, began the shared fetch of this key and may have the answer while it is collected. Errors:
+    /// out of memory.
+    pub fn lead(&mut self, alloc: Global, client: u64, key: CacheKey) -> Result<(), AllocError> {
+        let Some(waiting) = self.clients.get_mut(&client) else {
+            return Ok(());
+        };
+        let octets = key.as_slice().to_vec(alloc)?;
+        if self.leaders.insert(octets, client).is_err() {
+            return Err(AllocError);
+        }
+        waiting.leads = Some(key);
+        Ok(())
+    }
+
+    /// Removes the client that may have the answer of this fetch while it is collected. `None` if none waits for it.
+    pub fn take_leader(&mut self, fetch: u32) -> Option<Led> {
+        let Fetching { key, flight, .. } = self.fetches.get(&fetch)?;
+        if flight.mode != Mode::Shared {
+            return None;
+        }
+        let supplier = flight.supplier;
+        let client = *self.leaders.get(key.as_slice())?;
+        let Waiting { reply, .. } = self.take(client)?;
+        Some(Led { reply, supplier })
     }
 
     /// Notes that this client's shared request for a key has CDN-Loop fields. Errors: out of memory.
@@ -259,6 +304,7 @@ impl Mailbox {
         self.fetches.clear();
         self.clients.clear();
         self.looped.clear();
+        self.leaders.clear();
     }
 }
 

@@ -88,8 +88,8 @@ impl<R: Wait + Net + Clock + Copy, A: Admit> Getter<R, A> {
     fn timed(
         &self,
         deadline: Instant,
-        visit: Visit<R, A, Get<R>>,
-    ) -> Option<Box<Timeout<Visit<R, A, Get<R>>>>>
+        visit: Visit<R, A, Get<R, A>>,
+    ) -> Option<Box<Timeout<Visit<R, A, Get<R, A>>>>>
         ensures { IfSome result (λ b. timeout_future (box_value b) ≡ visit) }
     {
         match self.handle.time().timeout_at(deadline, visit) {
@@ -124,10 +124,12 @@ impl<R: Wait + Net + Clock + Copy, A: Admit> Begin for Getter<R, A> {
                     target,
                     fields,
                     is_origin,
+                    is_early,
                     deadline,
                     wanted,
                 } = order;
-                let get = self.get(host, target, fields);
+                let early = self.early(is_early);
+                let get = self.get(fetch, host, target, fields, early);
                 let visit = Visit::new(server, self.dialer(is_origin), get);
                 let fetch = Fetch {
                     fetch,
@@ -153,14 +155,14 @@ impl<R: Wait + Net + Clock + Copy, A: Admit> Begin for Getter<R, A> {
 
 // A job in progress. A type of its own, since its parts have large ones that are elaborated anew wherever they are named.
 #[derive(Drop)]
-struct Doing<R: Wait + Clock + Copy, A> {
-    doing: Either<Fetch<R, A, Get<R>>, Pass<R, A, Post>>,
+struct Doing<R: Wait + Clock + Copy, A: Admit> {
+    doing: Either<Fetch<R, A, Get<R, A>>, Pass<R, A, Post>>,
 }
 
 impl<R: Wait + Net + Clock + Copy, A: Admit> Future for Doing<R, A> {
     type Output = Done<Share<R>>;
 
-    ghost can_poll = { λ d. ⟦<Either<Fetch<R, A, Get<R>>, Pass<R, A, Post>> as Future>⟧.can_poll d.doing };
+    ghost can_poll = { λ d. ⟦<Either<Fetch<R, A, Get<R, A>>, Pass<R, A, Post>> as Future>⟧.can_poll d.doing };
 
     fn poll(&mut self, cx: &mut Context<'_>) -> Poll<Done<Share<R>>> {
         self.doing.poll(cx)
@@ -192,8 +194,24 @@ impl<R: Wait + Net + Clock + Copy, A: Admit> Getter<R, A> {
         }
     }
 
-    // The exchange of a fetch.
-    fn get(&self, host: String, target: String, fields: Vec<(Vec<u8>, Vec<u8>)>) -> Get<R> {
+    // Who gives the answer of a fetch to the client that began it, if that may have it. `None` also if there are too many handles.
+    fn early(&self, is_early: bool) -> Option<Rc<FetchRules<A>>> {
+        if is_early {
+            self.rules.clone().ok()
+        } else {
+            None
+        }
+    }
+
+    // The exchange of a fetch, whose answer `early` gives to the client that began it.
+    fn get(
+        &self,
+        fetch: u32,
+        host: String,
+        target: String,
+        fields: Vec<(Vec<u8>, Vec<u8>)>,
+        early: Option<Rc<FetchRules<A>>>,
+    ) -> Get<R, A> {
         Get {
             rt: self.rt,
             alloc: self.alloc,
@@ -208,6 +226,8 @@ impl<R: Wait + Net + Clock + Copy, A: Admit> Getter<R, A> {
             budget: Arc::try_clone(&self.rules.budget).ok(),
             kept: self.kept(),
             used: None,
+            fetch,
+            early,
         }
     }
 }

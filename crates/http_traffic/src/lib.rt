@@ -15,5 +15,5 @@ pub use asking::{
 pub use orders::{Admit, FetchEnd, FetchFault, Fetched, Job, Order, Page, Server, Work};
 pub use panel::{CaptureFault, Figures, Panel, PutFault, StoreFault, StoreOrder};
 pub use passing::{
-    Coming, PassFault, Passage, PassedHead, Passing, Piece, Road, Ticket, TunnelEnd,
+    Coming, Early, PassFault, Passage, PassedHead, Passing, Piece, Road, Ticket, TunnelEnd,
 };

@@ -1,7 +1,8 @@
 //! Fetches and their results.
-use crate::passing::Passage;
+use crate::passing::{Early, Passage};
 use futures::channel::oneshot;
 use http_header::HeaderMap;
+use std::alloc::Global;
 use std::net::SocketAddr;
 use std::time::Instant;
 
@@ -20,6 +21,8 @@ pub struct Order {
     pub fields: Vec<(Vec<u8>, Vec<u8>)>,
     /// Whether the server is an origin server, and so has to be admitted; a neighbour is configured.
     pub is_origin: bool,
+    /// Whether the client that began the fetch may have the answer while it is collected.
+    pub is_early: bool,
     /// When the fetch times out.
     pub deadline: Instant,
     /// Cancels the fetch when its sender is dropped.
@@ -107,8 +110,14 @@ pub struct Fetched {
     pub end: FetchEnd,
 }
 
-/// Knows which servers may be fetched from as origin servers.
+/// Knows which servers may be fetched from as origin servers, and who began a fetch.
 pub trait Admit: Drop {
     /// Whether this server may be.
     fn admits(&self, server: SocketAddr) -> bool;
+
+    /// Gives the answer of this fetch, which has its end-to-end fields alone as yet, to the client that began it, while it is collected.
+    /// Returns whether there is such a client that takes it.
+    fn give_early(&self, _alloc: Global, _fetch: u32, _early: Early) -> bool {
+        false
+    }
 }

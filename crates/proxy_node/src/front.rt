@@ -232,6 +232,7 @@ impl<R: Wait + Clock + Drop, L: Ledger> NodeFront<R, L> {
             looped,
             validates,
             fetch: None,
+            leads: None,
         };
         let mut mailbox = self.proxy.mailbox.lock(&self.rt);
         mailbox.add(self.alloc, client, waiting)?;
@@ -293,6 +294,9 @@ impl<R: Wait + Clock + Drop, L: Ledger> NodeFront<R, L> {
         match given {
             Given::Nothing => {
                 self.give_stale(asked, asking.client);
+                if asking.forward == Forward::Miss {
+                    self.expect_early(asked, asking.client);
+                }
                 asking
             }
             Given::Refusal => self.instead(asked, asking),

@@ -17,7 +17,7 @@ use http_rules::{
     OriginRules, StaleUse, conditions_for, has_stale_use, has_validator, may_serve_stale,
 };
 use http_traffic as serving;
-use http_traffic::{Admit, Job, Order, Passage, Server, Supplier};
+use http_traffic::{Admit, Early, Job, Order, Passage, Server, Supplier};
 use mio_queries::Timeline;
 use name_lookup::{NameDesk, hand_over, pass_over, server_of};
 use node_book::Desk;
@@ -280,6 +280,7 @@ impl<L: Ledger> ProxyState<L> {
             target,
             fields,
             is_origin: flight.is_origin(),
+            is_early: flight.mode == Mode::Shared && self.gives_early(),
             deadline,
             wanted: receiver,
         };
@@ -539,12 +540,16 @@ pub struct Origins<R, L: Ledger> {
     pub proxy: Arc<ProxyState<L>>,
 }
 
-impl<R: Wait + Drop, L: Ledger> Admit for Origins<R, L> {
+impl<R: Wait + Clock + Drop, L: Ledger> Admit for Origins<R, L> {
     fn admits(&self, server: SocketAddr) -> bool {
         match end_at(server) {
             Some(end) => self.proxy.admits(&self.rt, end),
             None => false,
         }
+    }
+
+    fn give_early(&self, alloc: Global, fetch: u32, early: Early) -> bool {
+        self.proxy.give_early(&self.rt, alloc, fetch, early)
     }
 }
 

@@ -55,6 +55,7 @@ impl<R: Wait + Clock + Copy> Asks<R> {
             target: String::from_str(self.alloc, "/minute").ok()?,
             fields: Vec::new(self.alloc),
             is_origin: true,
+            is_early: false,
             deadline: Instant::now(&self.rt)
                 .ok()?
                 .checked_add(Duration::from_secs(30))?,
