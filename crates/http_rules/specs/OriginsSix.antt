@@ -1,7 +1,12 @@
 -- Which servers with an address of IPv6 may be fetched from as origins. An address is a number of 128 bits here.
-use Rattle.std.specs.Prelude.{ℕ, ◌-◌, ◌*◌, ◌/◌, ◌%◌, ◌^◌, nat_le, not, ◌==◌, ◌&&◌, ◌||◌, Bool, true, Vec, Option, Some, None, if◌then◌else◌}
+use Rattle.std.specs.Prelude.{ℕ, ◌-◌, ◌*◌, ◌/◌, ◌%◌, ◌^◌, nat_le, not, ◌==◌, ◌&&◌, ◌||◌, Bool, true, Vec, Option, Some, None, is_some, if◌then◌else◌}
 use Rattle.std.specs.List.{list_any}
 use Rattle.std.specs.Int.{to_be_bytes, w32}
+use Rattle.std.specs.declared.net.ip_addr.IpAddr.{IpAddr}
+use Rattle.std.specs.declared.net.ip_addr.IpAddr.TheVariants.{V4, V6}
+use Rattle.std.specs.declared.net.socket_addr.SocketAddr.{SocketAddr}
+use Rattle.std.specs.Net.Addr.{is_ipv4, ipv4_octets, ipv6_bits}
+use Rattle.std.specs.Net.Socket.{socket_ip, socket_port}
 use Rattle.http_rules.specs.Origins.{admits, is_port}
 use Rattle.http_rules.specs.declared.origins.OriginRules.{OriginRules}
 use Rattle.http_rules.specs.declared.origins_six.SixNetwork.{SixNetwork}
@@ -51,3 +56,15 @@ abbrev pub admits_six : OriginRules → ℕ → ℕ → Bool
 admits_six rules address port =
     not (is_denied_six rules.denied_six address)
     && (is_port rules.ports port && is_as rules (stands_for address) port)
+
+-- whether a server may be fetched from, by the kind of its address
+abbrev pub admits_ip : OriginRules → IpAddr → ℕ → Bool
+admits_ip rules (V4 address) port = admits rules (record { addr = ipv4_octets address; port = port })
+admits_ip rules (V6 address) port = admits_six rules (ipv6_bits address) port
+
+abbrev pub admits_at : OriginRules → SocketAddr → Bool
+admits_at rules server = admits_ip rules (socket_ip server) (socket_port server)
+
+-- whether a server that a request names by its address is refused: one of IPv6 is taken for a name, where there are none
+abbrev pub refuses : OriginRules → SocketAddr → Bool
+refuses rules server = (is_ipv4 (socket_ip server) || is_some rules.denied_six) && not (admits_at rules server)

@@ -1,7 +1,17 @@
 //! Which servers with an address of IPv6 may be fetched from as origins.
 ghost use Rattle.std.specs.Prelude.{◌≡◌, ◌%◌, ◌^◌, ◌||◌};
 ghost use Rattle.std.specs.List.{list_any};
-ghost use Rattle.http_rules.specs.OriginsSix.{admits_six, first_bits, is_denied_six, is_inside_six, is_as, reached_six, stands_for};
+ghost use Rattle.http_rules.specs.OriginsSix.{
+  admits_at,
+  admits_six,
+  first_bits,
+  is_as,
+  is_denied_six,
+  is_inside_six,
+  reached_six,
+  refuses,
+  stands_for,
+};
 
 use crate::origins::OriginRules;
 use filter_slots::End;
@@ -100,7 +110,9 @@ impl OriginRules {
     }
 
     /// Whether a server may be fetched from as an origin: `admits` or `admits_six`, by the kind of its address.
-    pub fn admits_at(&self, server: SocketAddr) -> bool {
+    pub fn admits_at(&self, server: SocketAddr) -> bool
+        ensures { result ≡ admits_at self.now server }
+    {
         let port = server.port();
         match server.ip() {
             IpAddr::V4(address) => {
@@ -113,7 +125,9 @@ impl OriginRules {
 
     /// Whether a server that a request names by an address in digits is refused. Where servers of IPv6 are not fetched from at all, such an
     /// address is taken for a name, which is not found.
-    pub fn refuses(&self, server: SocketAddr) -> bool {
+    pub fn refuses(&self, server: SocketAddr) -> bool
+        ensures { result ≡ refuses self.now server }
+    {
         (server.is_ipv4() || self.denied_six.is_some()) && !self.admits_at(server)
     }
 }
