@@ -248,8 +248,8 @@ fn agrees(head: &[u8]) -> bool {
 }
 
 /// The way to the server of a tunnel: its addresses are awaited, admitted if they have to be, and connected, the second where the first
-/// cannot be; a parent is greeted. Each of these has the time to connect, which two addresses share. Errors: the status to answer: 403 if the server is not admitted, 504 if time runs out, 503 without
-/// memory, 502 if there is no way otherwise.
+/// cannot be; a parent is greeted. Each of these has the time to connect, which two addresses share. Errors: the status to answer: 403 if
+/// no address is admitted, 504 if time runs out, 503 without memory, 502 if there is no way otherwise.
 #[derive(Drop)]
 pub(crate) struct Opening<R, H> {
     dialer: Dialer<R>,

@@ -1,7 +1,8 @@
 //! Host names of servers. Look-ups block, so threads of their own make them, and a fetch waits for its address on its own thread,
 //! under its own deadline. What was found is kept for a while, and a name is looked up once at a time, for all that wait for it.
 //!
-//! Nothing is proved here but that it is free of panics and overflows. Tested by: crates/test_edge, tests/serve, tests/serve_slow.
+//! Nothing is proved here but that it is free of panics and overflows. Tested by: crates/test_edge, tests/serve, tests/serve_slow,
+//! tests/serve_six.
 #![tactic(auto)]
 
 mod table;
@@ -118,9 +119,8 @@ fn send(lane: &UnboundedSender<Job>, server: Server, work: Work) -> Result<(), N
     }
 }
 
-/// The server of this name: its address in digits, or one that is sought; digits of IPv6 are sought where it is not used, and not found.
-/// Returns `None` if too many names are sought, the clock
-/// cannot be read, or out of memory.
+/// The server of this name: its address in digits, or those that are sought; where IPv6 is not used, digits of it are sought, and not
+/// found. Returns `None` if too many names are sought, the clock cannot be read, or out of memory.
 pub fn server_of<R: Wait + Clock>(
     rt: &R,
     alloc: Global,
