@@ -32,7 +32,7 @@ CONFIG ?= examples/serve.json
 PREFIX ?= /usr/local
 DESTDIR ?=
 
-.PHONY: serve group feed build install deb package systemd page test format cases documents loopback attacks open hostile slow interop clients load large fuzz limits early kept edits bench sweep storm
+.PHONY: serve group feed build install deb package systemd page test format cases documents loopback attacks open hostile slow interop clients load large fuzz limits early kept six edits bench sweep storm
 
 feed:
 	@tools/feed $(SCRIPT)
@@ -112,6 +112,10 @@ early:
 # Which connections to servers are kept.
 kept:
 	@tests/serve_kept $(PROGRAM)
+
+# Servers with an address of IPv6.
+six:
+	@tests/serve_six $(PROGRAM)
 
 large:
 	@tests/large_answers $(PROGRAM)

@@ -10,7 +10,7 @@ use capture_tap::Tap;
 use crossbeam_channel::Sender;
 use forwarding::{Field, Mailbox, Peer, Profile};
 use futures::channel::oneshot;
-use http_rules::{OriginRules, RefreshRule, UrlPlace, loop_mark, usual_denials};
+use http_rules::{OriginRules, RefreshRule, SixNetwork, UrlPlace, loop_mark, usual_denials};
 use mio_queries::Timeline;
 use node_book::{BOOK_OCTETS, BookFault, Booked, Desk, RECEIPT_OCTETS, Seat};
 use node_core::{Config, Node};
@@ -376,7 +376,26 @@ fn origins_of(alloc: Global, settings: &mut Settings) -> Result<OriginRules, All
         own: Vec::new(alloc),
         denied,
         ports: settings.origin_ports.take(),
+        denied_six: match settings.origins6.take() {
+            Some(networks) => Some(six_networks(alloc, networks.as_slice())?),
+            None => None,
+        },
     })
+}
+
+/// The same networks for the rules of which servers are origins.
+fn six_networks(
+    alloc: Global,
+    networks: &[serve_config::SixNetwork],
+) -> Result<Vec<SixNetwork>, AllocError> {
+    let mut denied = Vec::with_capacity(alloc, networks.len())?;
+    for network in networks {
+        denied.push(SixNetwork {
+            address: network.address,
+            prefix: network.prefix,
+        })?;
+    }
+    Ok(denied)
 }
 
 fn peers_of(alloc: Global, config: &Config) -> Result<Vec<Peer>, AllocError> {

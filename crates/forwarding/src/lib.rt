@@ -12,7 +12,7 @@ mod mailbox;
 mod objects;
 mod validating;
 
-pub use addressing::{Destination, Peer, end_in_digits, origin_of, peer_of};
+pub use addressing::{Destination, Peer, origin_of, peer_of, server_in_digits};
 pub use keeping::{Exchange, Life, Profile};
 pub use known_keys::KnownKeys;
 pub use mailbox::{Field, Flight, Landed, Led, Mailbox, Waiting};

@@ -14,7 +14,7 @@ use futures::channel::oneshot;
 use futures::future::Either;
 use futures::task::{Context, Poll};
 use futures::{Future, ready};
-use http_traffic::{Admit, FetchEnd, FetchFault, Fetched, Job, Order, Server, Work};
+use http_traffic::{Addresses, Admit, FetchEnd, FetchFault, Fetched, Job, Order, Server, Work};
 use hyper::client::conn::http1;
 use std::alloc::{AllocGlobal, Global};
 use std::hash::RandomState;
@@ -267,12 +267,15 @@ pub enum Visited<P> {
     Failed(FetchFault),
 }
 
-/// Waits for the address of the server, then makes the call.
+/// Waits for the addresses of the server, then makes the call. Where the server cannot be connected to at the first, the other has its
+/// turn.
 #[derive(Drop)]
 pub struct Visit<R, A, T: Talk> {
     server: Server,
     dialer: Option<Dialer<R, A>>,
     talk: Option<T>,
+    // The address that has its turn where the server of the call is not connected to.
+    other: Option<SocketAddr>,
     // The call, once it has begun.
     call: Option<Call<T>>,
 }
@@ -286,38 +289,58 @@ impl<R: Net + Clock + Copy, A: Admit, T: Talk> Visit<R, A, T> {
             server,
             dialer,
             talk: Some(talk),
+            other: None,
             call: None,
         }
     }
 
-    // Waits for the address of the server. `None` if its name has none.
-    fn poll_server(&mut self, cx: &mut Context<'_>) -> Poll<Option<SocketAddr>>
+    // Waits for the addresses of the server. `None` if its name has none.
+    fn poll_server(&mut self, cx: &mut Context<'_>) -> Poll<Option<Addresses>>
         ensures same { self.new.call ≡ self.old.call }
         ensures registered { OnPending result (Covers cx.new (λ _. ⊥)) }
         ensures kept { Keeps cx.old cx.new }
     {
         match &mut self.server {
-            Server::At(server) => Poll::Ready(Some(*server)),
+            Server::At(server) => Poll::Ready(Some(Addresses::one(*server))),
             Server::Sought(sought) => Poll::Ready(ready!(sought.poll(cx)).ok()),
         }
     }
 
-    // Whether this server is known not to be admitted.
-    fn refuses(&self, server: SocketAddr) -> bool {
-        match &self.dialer {
-            Some(dialer) => !dialer.admits(server),
+    // Those of these addresses that are not known to be refused. `None` if there is none.
+    fn admitted(&self, servers: Addresses) -> Option<Addresses> {
+        let Some(dialer) = &self.dialer else {
+            return Some(servers);
+        };
+        let is_other = match servers.other {
+            Some(other) => dialer.admits(other),
             None => false,
-        }
+        };
+        servers.admitted(dialer.admits(servers.first), is_other)
     }
 
-    // The call to this address. Returns `None` if it has begun before, or if out of memory.
-    fn call(&mut self, server: SocketAddr) -> Option<Call<T>>
+    // The call to one of these addresses: over a connection to either that was kept, or to the first. Returns `None` if it has begun
+    // before, or if out of memory.
+    fn call(&mut self, servers: Addresses) -> Option<Call<T>>
         ensures { IfSome result (λ c. IfSome c.talking T.Talking.can_poll) }
     {
+        let Addresses { first, other } = servers;
+        if let Some(dialer) = &mut self.dialer {
+            dialer.connecting = servers.share(dialer.connecting);
+        }
         let mut talk = self.talk.take()?;
-        match talk.resume(server) {
-            Some(talking) => Some(Call::resumed(server, talk, talking)),
-            None => self.new_call(server, talk),
+        self.other = other;
+        if let Some(talking) = talk.resume(first) {
+            return Some(Call::resumed(first, talk, talking));
+        }
+        let Some(second) = other else {
+            return self.new_call(first, talk);
+        };
+        match talk.resume(second) {
+            Some(talking) => {
+                self.other = Some(first);
+                Some(Call::resumed(second, talk, talking))
+            }
+            None => self.new_call(first, talk),
         }
     }
 
@@ -341,6 +364,22 @@ impl<R: Net + Clock + Copy, A: Admit, T: Talk> Visit<R, A, T> {
         let (server, talk) = call.into_talk();
         self.call = self.new_call(server, talk);
     }
+
+    // Whether the other address has its turn, after the call has failed so.
+    fn turns(&self, fault: FetchFault) -> bool {
+        fault == FetchFault::Connect && self.other.is_some()
+    }
+
+    // Makes the call, whose server was not connected to, to the other address. It is gone if there is none, or if out of memory.
+    fn turn(&mut self)
+        ensures { IfSome self.new.call (λ c. IfSome c.talking T.Talking.can_poll) }
+    {
+        let (Some(call), Some(other)) = (self.call.take(), self.other.take()) else {
+            return;
+        };
+        let (_, talk) = call.into_talk();
+        self.call = self.new_call(other, talk);
+    }
 }
 
 impl<R: Net + Clock + Copy, A: Admit, T: Talk> Future for Visit<R, A, T> {
@@ -350,13 +389,13 @@ impl<R: Net + Clock + Copy, A: Admit, T: Talk> Future for Visit<R, A, T> {
 
     fn poll(&mut self, cx: &mut Context<'_>) -> Poll<Visited<T::Page>> {
         if self.call.is_none() {
-            let Some(server) = ready!(self.poll_server(cx)) else {
+            let Some(servers) = ready!(self.poll_server(cx)) else {
                 return Poll::Ready(Visited::Failed(FetchFault::Lookup));
             };
-            if self.refuses(server) {
+            let Some(servers) = self.admitted(servers) else {
                 return Poll::Ready(Visited::Refused);
-            }
-            self.call = self.call(server);
+            };
+            self.call = self.call(servers);
         }
         let Some(call) = &mut self.call else {
             return Poll::Ready(Visited::Failed(FetchFault::NoMemory));
@@ -369,6 +408,10 @@ impl<R: Net + Clock + Copy, A: Admit, T: Talk> Future for Visit<R, A, T> {
             }
             Err(fault) if call.may_retry(fault) => {
                 self.retry();
+                cx.yield_now()
+            }
+            Err(fault) if self.turns(fault) => {
+                self.turn();
                 cx.yield_now()
             }
             Err(fault) => Poll::Ready(Visited::Failed(fault)),

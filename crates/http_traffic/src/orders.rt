@@ -3,8 +3,8 @@ use crate::passing::{Early, Passage};
 use futures::channel::oneshot;
 use http_header::HeaderMap;
 use std::alloc::Global;
-use std::net::SocketAddr;
-use std::time::Instant;
+use std::net::{IpAddr, Ipv4Addr, Ipv6Addr, SocketAddr};
+use std::time::{Duration, Instant};
 
 /// A fetch to be made.
 #[derive(Drop)]
@@ -29,13 +29,57 @@ pub struct Order {
     pub wanted: oneshot::Receiver<()>,
 }
 
+/// The address that a host has in digits: one of IPv4, or in brackets one of IPv6 (RFC 3986, section 3.2.2).
+pub fn address_in_digits(host: &str) -> Option<IpAddr> {
+    if let Ok(address) = host.parse::<Ipv4Addr>() {
+        return Some(IpAddr::V4(address));
+    }
+    let address = host.strip_prefix("[")?.strip_suffix("]")?;
+    Some(IpAddr::V6(address.parse::<Ipv6Addr>().ok()?))
+}
+
+/// Where a server is connected to: at the first address, and where that cannot be, at the other one, if its name has one of each kind.
+#[derive(Clone, Copy, Debug, PartialEq, Eq)]
+pub struct Addresses {
+    pub first: SocketAddr,
+    pub other: Option<SocketAddr>,
+}
+
+impl Addresses {
+    /// This address alone.
+    pub fn one(first: SocketAddr) -> Addresses {
+        Addresses { first, other: None }
+    }
+
+    /// Those that are admitted, given whether the first is and whether the other is. `None` if none is.
+    pub fn admitted(self, is_first: bool, is_other: bool) -> Option<Addresses> {
+        let other = if is_other { self.other } else { None };
+        if is_first {
+            Some(Addresses {
+                first: self.first,
+                other,
+            })
+        } else {
+            Some(Addresses::one(other?))
+        }
+    }
+
+    /// The time that each of them has to be connected, of this time for all of them.
+    pub fn share(&self, connecting: Duration) -> Duration {
+        match self.other {
+            Some(_) => connecting.checked_div(2).unwrap_or(connecting),
+            None => connecting,
+        }
+    }
+}
+
 /// The server of an order.
 #[derive(Drop)]
 pub enum Server {
     /// Its address.
     At(SocketAddr),
-    /// Receives its address once its name has been looked up. The fetch fails if the sender is dropped.
-    Sought(oneshot::Receiver<SocketAddr>),
+    /// Receives its addresses once its name has been looked up. The fetch fails if the sender is dropped.
+    Sought(oneshot::Receiver<Addresses>),
 }
 
 /// What a fetch thread does.

@@ -2,10 +2,10 @@
 use crate::clock::{micros_since, now};
 use crate::handing::{Call, Returned, TakeCalls, hand_over};
 use crate::node_handle::{Given, NodeHandle};
-use crate::proxy_state::{ProxyState, Stale, end_at};
+use crate::proxy_state::{ProxyState, Stale};
 use crate::storage::Purger;
 use crossbeam_channel::Sender;
-use forwarding::{Field, KnownKeys, Profile, Waiting, end_in_digits};
+use forwarding::{Field, KnownKeys, Profile, Waiting, server_in_digits};
 use futures::channel::oneshot;
 use http_rules::{
     Mirror, PassFault, StaleUse, Stored, StoredAnswer, TargetFault, answer_to, choose, classify,
@@ -393,8 +393,8 @@ impl<R: Wait + Clock + Drop, L: Ledger> NodeFront<R, L> {
         if is_marked && has_come_back(&asked.head, self.proxy.loop_mark.as_slice()) {
             return Err(508);
         }
-        match end_in_digits(key.as_slice()) {
-            Some(end) if !self.proxy.admits(&self.rt, end) => Err(403),
+        match server_in_digits(key.as_slice()) {
+            Some(server) if self.proxy.refuses(&self.rt, server) => Err(403),
             _ => Ok(()),
         }
     }
@@ -581,10 +581,7 @@ impl<R: Wait + Clock + Drop, L: Ledger> NodeFront<R, L> {
     }
 
     fn admits(&mut self, server: SocketAddr) -> bool {
-        match end_at(server) {
-            Some(end) => self.proxy.passes.admits(&self.rt, end),
-            None => false,
-        }
+        self.proxy.passes.admits(&self.rt, server)
     }
 
     fn gone(&mut self, client: u64) -> Returned {

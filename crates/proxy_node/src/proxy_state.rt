@@ -27,7 +27,7 @@ use object_store::{CacheKey, Entry, Object, SharedObject};
 use peer_select::Source;
 use plain_node::MAX_PENDING_FETCHES;
 use std::alloc::{AllocError, Global};
-use std::net::{IpAddr, SocketAddr};
+use std::net::SocketAddr;
 use std::sync::atomic::{AtomicBool, AtomicU16, AtomicU64, AtomicUsize, Ordering};
 use std::sync::ledger::Ledger;
 use std::sync::{Arc, Mutex, RwLock, Wait};
@@ -445,8 +445,13 @@ impl<L: Ledger> ProxyState<L> {
     }
 
     /// Whether a server may be fetched from as an origin.
-    pub fn admits<R: Wait>(&self, rt: &R, server: End) -> bool {
-        self.origins.lock(rt).admits(server)
+    pub fn admits<R: Wait>(&self, rt: &R, server: SocketAddr) -> bool {
+        self.origins.lock(rt).admits_at(server)
+    }
+
+    /// Whether a server that a request names by its address is not fetched from as an origin.
+    pub fn refuses<R: Wait>(&self, rt: &R, server: SocketAddr) -> bool {
+        self.origins.lock(rt).refuses(server)
     }
 
     /// Adds a bound socket of this cache, which is never fetched from and which no tunnel leads to. Errors: out of memory.
@@ -542,25 +547,11 @@ pub struct Origins<R, L: Ledger> {
 
 impl<R: Wait + Clock + Drop, L: Ledger> Admit for Origins<R, L> {
     fn admits(&self, server: SocketAddr) -> bool {
-        match end_at(server) {
-            Some(end) => self.proxy.admits(&self.rt, end),
-            None => false,
-        }
+        self.proxy.admits(&self.rt, server)
     }
 
     fn give_early(&self, alloc: Global, fetch: u32, early: Early) -> bool {
         self.proxy.give_early(&self.rt, alloc, fetch, early)
-    }
-}
-
-/// An IPv4 address and its port; `None` for another address.
-pub(crate) fn end_at(server: SocketAddr) -> Option<End> {
-    match server.ip() {
-        IpAddr::V4(address) => Some(End {
-            addr: address.octets(),
-            port: server.port(),
-        }),
-        IpAddr::V6(_) => None,
     }
 }
 

@@ -177,7 +177,7 @@ fn a_miss_and_a_hit(rt: HostRuntime) -> Result<(), Fail> {
     let (bound, told) = unbounded(alloc)?;
     let (stop, _hurry, stopped) = new_stops(alloc)?;
     let open = uncounted(alloc)?;
-    let (names, _clerk) = open_names(alloc, NameLimits::usual())?;
+    let (names, _clerk) = open_names(alloc, NameLimits::usual(), false)?;
     let rules = fetch_rules(alloc, 1000)?;
     let (jobs, work) = mpsc::unbounded(alloc)?;
     let mut lanes = Vec::new(alloc);
