@@ -60,7 +60,7 @@ pub struct ProxyState<L: Ledger> {
     /// The node and its event log, behind a lock of its own that is held for one event or one question at a time.
     pub desk: Desk<L>,
     /// Waiting clients and in-flight fetches. Locked by a thread that serves clients when one comes or leaves, by a thread whose action
-    /// starts a fetch or answers a client, and by a fetch thread when a fetch ends.
+    /// starts a fetch or answers a client, and by a fetch thread when a fetch ends or a long answer of one begins.
     pub mailbox: Mutex<Mailbox>,
     /// Senders to the threads that fetch; `None` before they start and after `close`. Locked while an order is sent.
     pub lanes: Mutex<Option<Lanes>>,
