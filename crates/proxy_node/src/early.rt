@@ -2,7 +2,7 @@
 use crate::clock::date_seconds;
 use crate::front::NodeFront;
 use crate::proxy_state::ProxyState;
-use forwarding::{Led, Profile, add_ours};
+use forwarding::{Led, add_ours};
 use http_rules::is_plain_request;
 use http_traffic::{Asked, Early, Outcome};
 use httpdate::HttpDate;
@@ -27,12 +27,9 @@ impl<R: Wait + Clock + Drop, L: Ledger> NodeFront<R, L> {
 }
 
 impl<L: Ledger> ProxyState<L> {
-    /// Whether the client that began a shared fetch has the answer while it is collected: where long answers are passed on, by RFC 9111.
+    /// Whether the client that began a shared fetch has the answer while it is collected: where long answers are passed on.
     pub(crate) fn gives_early(&self) -> bool {
-        match self.profile {
-            Profile::Published => false,
-            Profile::Rfc9111(_) => self.passes.large.is_some(),
-        }
+        self.passes.large.is_some()
     }
 
     /// Gives an answer to the client that began its fetch. Returns whether there is one that takes it.
