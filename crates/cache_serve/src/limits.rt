@@ -38,8 +38,11 @@ pub const SENDS_A_TURN: u32 = 64;
 /// The most connections of clients of one address, unless the configuration says another number.
 pub const ADDRESS_CONNECTIONS: u32 = 256;
 
-/// Open files of the program itself: its sockets, event loops, logs, and connections of administrators.
-pub const OWN_FILES: usize = 48;
+/// Open files of the program itself: its sockets, event loops and logs, and some connections of administrators.
+pub const OWN_FILES: usize = 36;
+
+/// Open files of each thread that serves clients: its event loop, and a client that waits for a seat.
+pub const THREAD_FILES: usize = 6;
 
 /// Open files that are left for connections to servers where there are enough: those of all fetches, and a quarter as many.
 pub const SERVER_FILES: usize = 320;

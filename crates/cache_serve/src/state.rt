@@ -271,6 +271,7 @@ fn state_of<L: Ledger>(
         lanes: Mutex::new(None),
         failed,
         changes: Arc::new(alloc, RwLock::new(()))?,
+        has_changed: AtomicBool::new(false),
         timeline: run.timeline,
         name: kept.name,
         loop_mark: run.loop_mark,

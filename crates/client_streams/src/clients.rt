@@ -120,9 +120,10 @@ pub struct Stops {
 /// sender is dropped, and ends when all clients are gone, when the grace has passed, or when `hurry` is ready, whichever comes first;
 /// whoever runs the futures then drops those that are left. Each future holds a seat. A client of an address that has as many seats as
 /// it may is closed. While all seats are taken, the connection that has been idle for longest is closed in favour of the next client,
-/// or one that has been so for longest among another thread's; while none is idle, that client waits, and further ones wait in the
-/// listener's queue. A client that takes no seat holds one of 64 others of its thread, and is closed where none of these is free. Where an
-/// accept fails, as for want of descriptors, a connection that is idle is closed too. A thread that serves more clients than another lets that accept the next one, for a millisecond.
+/// or one that has been so for longest among another thread's, unless it came less than 250 ms ago and few of its address are served; while
+/// none is idle, that client waits, and further ones wait in the listener's queue. A client that takes no seat holds one of 64 others of its
+/// thread, and is closed where none of these is free. Where an accept fails, as for want of descriptors, a connection that is idle is closed
+/// too. A thread that serves more clients than another lets that accept the next one, for a millisecond.
 ///
 /// The first futures serve nobody, and end together: one for each seat, so that whoever runs the futures has room for as many as
 /// there may be, and no client is refused for want of memory for that room. `Accept::opened` is called after that.

@@ -16,7 +16,8 @@ use std::time::{Clock, Duration, Instant};
 // The most clients that are refused concurrently. Further ones are closed without an answer.
 const MOST_REFUSALS: usize = 64;
 
-// For how long a connection does not give way after it came, in milliseconds: its first request is on its way.
+// For how long a connection of an address with few of them does not give way after it came, in milliseconds: its first request is on its
+// way.
 const NEW_MILLIS: u64 = 250;
 
 // The seat that nobody takes. Its neighbours are the ends of the order of idle seats.
@@ -177,25 +178,27 @@ impl<R: Wait + Clock + Copy> Seats<R> {
         self.wake_longest_idle();
     }
 
-    // Whether a connection that came at this moment is new.
-    fn is_new(&self, came: Option<Instant>) -> bool {
-        match (came, Instant::now(&self.rt)) {
-            (Some(came), Ok(now)) => {
-                now.saturating_duration_since(came) < Duration::from_millis(NEW_MILLIS)
-            }
-            _ => false,
-        }
+    // Whether a connection came a moment ago, and few others of its address are served: a request may be on its way.
+    fn is_new(&self, arrival: Arrived) -> bool {
+        let Ok(now) = Instant::now(&self.rt) else {
+            return false;
+        };
+        let Some(came) = arrival.at else {
+            return false;
+        };
+        now.saturating_duration_since(came) < Duration::from_millis(NEW_MILLIS)
+            && self.share.has_few(&self.rt, arrival.address)
     }
 
-    // Notes that the connection of a seat is idle, which came at this moment. Returns whether it has to close. One that is new does not:
-    // what has been idle for less long was not idle before it came either.
-    fn rest(&mut self, number: usize, came: Option<Instant>, cx: &mut Context<'_>) -> bool
+    // Notes that the connection of a seat is idle, which has arrived so. Returns whether it has to close. One that is new does not: what has
+    // been idle for less long was not idle before it came either.
+    fn rest(&mut self, number: usize, arrival: Arrived, cx: &mut Context<'_>) -> bool
         ensures { Keeps cx.old cx.new }
     {
         self.put_last(number);
         let is_longest = self.after(NO_SEAT) == number;
         let is_next = is_longest && self.share.is_wanted();
-        if is_next && !self.is_new(came) && self.share.gives_way() {
+        if is_next && !self.is_new(arrival) && self.share.gives_way() {
             return true;
         }
         if let Some(seat) = self.seats.get_mut(number) {
@@ -298,8 +301,10 @@ impl<R: Wait + Clock + Copy> SharedSeats<R> {
         Ok(Some(TakenSeat {
             seats: shared,
             number,
-            address: Some(address),
-            came: Instant::now(&seats.rt).ok(),
+            arrival: Some(Arrived {
+                address,
+                at: Instant::now(&seats.rt).ok(),
+            }),
         }))
     }
 
@@ -313,8 +318,7 @@ impl<R: Wait + Clock + Copy> SharedSeats<R> {
         Some(TakenSeat {
             seats: shared,
             number,
-            address: None,
-            came: None,
+            arrival: None,
         })
     }
 
@@ -338,8 +342,7 @@ impl<R: Wait + Clock + Copy> SharedSeats<R> {
         Some(TakenSeat {
             seats: shared,
             number,
-            address: None,
-            came: None,
+            arrival: None,
         })
     }
 
@@ -378,10 +381,16 @@ impl<R: Wait + Clock + Copy> SharedSeats<R> {
 pub(crate) struct TakenSeat<R: Wait + Clock + Copy> {
     seats: Rc<RefCell<Seats<R>>>,
     number: usize,
-    // The address of a client that is served.
-    address: Option<IpAddr>,
-    // When it came. `None` if the clock could not be read.
-    came: Option<Instant>,
+    // None for a client that is refused.
+    arrival: Option<Arrived>,
+}
+
+// How a client has arrived that is served.
+#[derive(Clone, Copy)]
+struct Arrived {
+    address: IpAddr,
+    // `None` if the clock could not be read.
+    at: Option<Instant>,
 }
 
 impl<R: Wait + Clock + Copy> TakenSeat<R> {
@@ -397,13 +406,14 @@ impl<R: Wait + Clock + Copy> TakenSeat<R> {
     }
 
     /// Notes whether the connection is idle, and whether it has been used since the last call. Returns whether it has to close: it
-    /// has been idle for longer than all others, came 250 ms ago or earlier, and a client waits for a seat. The seat of a client that is refused never has to.
+    /// has been idle for longer than all others, came 250 ms ago or earlier unless few of its address are served, and a client waits for a
+    /// seat. The seat of a client that is refused never has to.
     pub fn must_close(&self, stage: &SharedStage, cx: &mut Context<'_>) -> bool
         ensures { Keeps cx.old cx.new }
     {
-        if self.address.is_none() {
+        let Some(arrival) = self.arrival else {
             return false;
-        }
+        };
         let Ok(mut seats) = self.seats.try_borrow_mut() else {
             return false;
         };
@@ -411,7 +421,7 @@ impl<R: Wait + Clock + Copy> TakenSeat<R> {
         if stage.take_set() || !is_idle {
             seats.work(self.number);
         }
-        is_idle && seats.rest(self.number, self.came, cx)
+        is_idle && seats.rest(self.number, arrival, cx)
     }
 }
 
@@ -420,9 +430,12 @@ impl<R: Wait + Clock + Copy> Drop for TakenSeat<R> {
         let TakenSeat {
             seats,
             number,
-            address,
-            came: _came,
+            arrival,
         } = self;
+        let address = match arrival {
+            Some(arrival) => Some(arrival.address),
+            None => None,
+        };
         if let Ok(mut seats) = seats.try_borrow_mut() {
             seats.leave(number, address);
         }

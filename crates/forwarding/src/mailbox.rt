@@ -230,26 +230,32 @@ impl Mailbox {
         }
     }
 
-    /// Adds an in-flight fetch of this key, which is cancelled when `wanted` is dropped. Its request has the validators of `asked`. It
-    /// replaces, and so cancels, an earlier attempt of the same fetch. Errors: out of memory.
+    /// Adds an in-flight fetch of this key, which is cancelled when `wanted` is dropped. It replaces, and so cancels, an earlier attempt of
+    /// the same fetch. Errors: out of memory.
     pub fn begin(
         &mut self,
         fetch: u32,
         key: CacheKey,
         flight: Flight,
-        asked: Option<SharedObject>,
         wanted: oneshot::Sender<()>,
     ) -> Result<(), AllocError> {
         let fetching = Fetching {
             key,
             flight,
-            asked,
+            asked: None,
             is_outdated: false,
             _wanted: wanted,
         };
         match self.fetches.insert(fetch, fetching) {
             Ok(_) => Ok(()),
             Err(_) => Err(AllocError),
+        }
+    }
+
+    /// Notes that the request of a fetch in flight has the validators of this object.
+    pub fn ask(&mut self, fetch: u32, object: SharedObject) {
+        if let Some(fetching) = self.fetches.get_mut(&fetch) {
+            fetching.asked = Some(object);
         }
     }
 

@@ -128,11 +128,13 @@ impl<H: Answers> Door<H> {
         ensures { (result.content ≡ None) × (result.answering ≡ None) }
     {
         let is_coded = parts.headers.contains_key(header::TRANSFER_ENCODING);
+        // (RFC 9112, section 9.3, for a proxy's clients)
+        let is_old = parts.version != Version::HTTP_11;
         self.stage.set(Stage::Content);
         Serving {
             alloc: self.alloc,
             stage: self.stage.share().ok(),
-            is_last: is_coded,
+            is_last: is_coded || is_old,
             telling: Telling::new(&self.answers, &self.facts, self.keep(parts)),
             refusal: 503,
             tunnel: None,

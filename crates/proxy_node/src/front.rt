@@ -265,16 +265,21 @@ impl<R: Wait + Clock + Drop, L: Ledger> NodeFront<R, L> {
         self.last
     }
 
-    /// Has what a reload has found changed fetched anew for all: what is stored is taken out, as the administration does, and a request of
-    /// the cache's own, whose answer nobody waits for, asks for it. Without a key for the first it stays.
+    /// Has what reloads have found changed fetched anew for all.
     fn renew_changed(&mut self) {
-        let Some(key) = self.proxy.next_changed(&self.rt) else {
-            return;
-        };
+        for key in self.proxy.take_changed(&self.rt, self.alloc) {
+            self.renew(key);
+        }
+    }
+
+    /// Has what is stored under a key fetched anew for all: it is taken out, as the administration does, and what is on its way of it is not
+    /// stored; a request of the cache's own, whose answer nobody waits for, asks for it. Without a key to sign with it stays.
+    fn renew(&mut self, key: CacheKey) {
         let now = now(&self.rt, &self.proxy.timeline);
         let Ok(event) = self.rules.purger.event(self.alloc, &key, now) else {
             return;
         };
+        self.proxy.withdraw(&self.rt, &key);
         if self.take(event).is_none() {
             return;
         }
@@ -332,12 +337,7 @@ impl<R: Wait + Clock + Drop, L: Ledger> NodeFront<R, L> {
 
     /// The answer to a request that is refused with this status since it wants nothing fetched: what is on the shelf, if the client accepts
     /// that (RFC 9111, sections 5.2.1.2 and 5.2.1.7). Errors: the status, 508 or 403 as `check` says, or 503 if out of memory.
-    fn without_fetch(
-        &mut self,
-        asked: &Asked,
-        key: &CacheKey,
-        status: u16,
-    ) -> Result<Asking, u16> {
+    fn without_fetch(&mut self, asked: &Asked, key: &CacheKey, status: u16) -> Result<Asking, u16> {
         let stale = self.accepted_stale(asked, key).ok_or(status)?;
         self.check(asked, key, has_marks(asked))?;
         let answer = given_stale(self.alloc, stale).ok_or(503u16)?;
@@ -591,6 +591,7 @@ impl<R: Wait + Clock + Drop, L: Ledger> NodeFront<R, L> {
     }
 
     fn answered(&mut self) -> Returned {
+        self.renew_changed();
         let before = self.proxy.answered.fetch_add(1, Ordering::SeqCst);
         if self.stop_after != 0 && before == self.stop_after.saturating_sub(1) {
             let _ = self.stop.send(&self.rt, ());
@@ -600,8 +601,8 @@ impl<R: Wait + Clock + Drop, L: Ledger> NodeFront<R, L> {
 
     fn tell(&mut self, told: &Told<'_>) -> Returned {
         let how = how_of(told);
-        if how == How::Fetch(Forward::Bypass) {
-            self.renew_changed();
+        if told.how == How::Passed && matches!(told.status, None | Some(502 | 504)) {
+            self.clear_unanswered(told);
         }
         let micros = micros_since(&self.rt, told.began);
         self.proxy.figures.note_answer(note_of(told, how, micros));

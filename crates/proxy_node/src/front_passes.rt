@@ -5,10 +5,10 @@ use crate::passes::Onwards;
 use forwarding::{Destination, Field, Profile};
 use futures::channel::{mpsc, oneshot};
 use http_header::HeaderMap;
-use http_rules::{Authority, Onward, authority_of, changed_keys, has_come_back, onward};
+use http_rules::{Authority, Onward, authority_of, changed_keys, has_come_back, is_unsafe, onward};
 use http_traffic::{
-    Asked, Coming, PassFault, Passage, PassedHead, Passing, Piece, Road, Server, Ticket, TunnelEnd,
-    address_in_digits,
+    Asked, Coming, PassFault, Passage, PassedHead, Passing, Piece, Road, Server, Ticket, Told,
+    TunnelEnd, address_in_digits,
 };
 use node_core::Mode;
 use object_store::CacheKey;
@@ -229,6 +229,17 @@ impl<R: Wait + Clock + Drop, L: Ledger> NodeFront<R, L> {
             for key in &changed {
                 self.clear(key);
             }
+        }
+    }
+
+    /// Takes out of the store what a request may have changed that has no answer of its server: its client has left before, or the server
+    /// was lost. Nobody knows then whether the server has carried it out.
+    pub(crate) fn clear_unanswered(&mut self, told: &Told<'_>) {
+        if let Some(asked) = told.asked
+            && is_unsafe(asked.method.as_str())
+            && let Ok(key) = self.key(asked)
+        {
+            self.clear(&key);
         }
     }
 

@@ -27,6 +27,7 @@ use object_store::{CacheKey, Entry, Object, SharedObject};
 use peer_select::Source;
 use plain_node::MAX_PENDING_FETCHES;
 use std::alloc::{AllocError, Global};
+use std::mem;
 use std::net::SocketAddr;
 use std::sync::atomic::{AtomicBool, AtomicU16, AtomicU64, AtomicUsize, Ordering};
 use std::sync::ledger::Ledger;
@@ -90,6 +91,8 @@ pub struct ProxyState<L: Ledger> {
     pub serve_stale: u32,
     /// The keys of what reloads have found changed and has not been fetched anew for all yet. Locked to add or remove one.
     pub changed: Mutex<Vec<CacheKey>>,
+    /// Whether there are such keys.
+    pub has_changed: AtomicBool,
     /// The most octets of head and body of an object whose client is told that it was stored: one that has no more is within the limits
     /// of the store with any key. `None` by the published rules, which don't tell it.
     pub tells_stored: Option<u32>,
@@ -257,16 +260,12 @@ impl<L: Ledger> ProxyState<L> {
         };
         let destination = self.destination(alloc, wanted.source, key.as_slice());
         let destination = destination.ok_or(AllocError)?;
-        let asked = self.asked_about(rt, wanted, key.as_slice());
-        let fields = self.fields(rt, alloc, wanted, key.as_slice(), asked.as_ref())?;
         let (sender, receiver) = oneshot::channel(alloc)?;
         let now = Instant::now(rt).ok();
         let flight = wanted.flight(now);
         let deadline = now.and_then(|now| now.checked_add(self.fetching));
         let deadline = deadline.ok_or(AllocError)?;
-        self.mailbox
-            .lock(rt)
-            .begin(wanted.fetch, key, flight, asked, sender)?;
+        let fields = self.enter(rt, alloc, wanted, &key, flight, sender)?;
         let Destination {
             name,
             port,
@@ -285,6 +284,32 @@ impl<L: Ledger> ProxyState<L> {
             wanted: receiver,
         };
         self.send(rt, alloc, name, port, order)
+    }
+
+    /// Notes that a fetch of `key` is in flight, and then what it asks about: a change of what is stored that comes between is noted of the
+    /// fetch. Returns the fields of its request, as `fields` does. Errors: out of memory; the fetch is not in flight.
+    fn enter<R: Wait>(
+        &self,
+        rt: &R,
+        alloc: Global,
+        wanted: Wanted,
+        key: &CacheKey,
+        flight: Flight,
+        sender: oneshot::Sender<()>,
+    ) -> Result<Vec<Field>, AllocError> {
+        let own = key.share()?;
+        self.mailbox
+            .lock(rt)
+            .begin(wanted.fetch, own, flight, sender)?;
+        let asked = self.asked_about(rt, wanted, key.as_slice());
+        let fields = self.fields(rt, alloc, wanted, key.as_slice(), asked.as_ref());
+        let mut mailbox = self.mailbox.lock(rt);
+        if fields.is_err() {
+            let _ = mailbox.end(wanted.fetch);
+        } else if let Some(asked) = asked {
+            mailbox.ask(wanted.fetch, asked);
+        }
+        fields
     }
 
     /// Sends an order to a fetch thread. Errors: it was not accepted; the fetch is no longer in flight.
@@ -476,11 +501,17 @@ impl<L: Ledger> ProxyState<L> {
         if changed.len() < CHANGED_KEYS {
             let _ = changed.push(key);
         }
+        self.has_changed.store(true, Ordering::SeqCst);
     }
 
-    /// Removes the key of what a reload has found changed, which the caller has fetched anew.
-    pub fn next_changed<R: Wait>(&self, rt: &R) -> Option<CacheKey> {
-        self.changed.lock(rt).pop()
+    /// Removes the keys of what reloads have found changed, which the caller has fetched anew.
+    pub fn take_changed<R: Wait>(&self, rt: &R, alloc: Global) -> Vec<CacheKey> {
+        if !self.has_changed.load(Ordering::SeqCst) {
+            return Vec::new(alloc);
+        }
+        let mut changed = self.changed.lock(rt);
+        self.has_changed.store(false, Ordering::SeqCst);
+        mem::replace(&mut *changed, Vec::new(alloc))
     }
 
     /// Notes that what is stored under a key was changed: takes what is on the shelf away, and has what is being fetched given only to

@@ -6,8 +6,8 @@ use crate::proxy_state::Stale;
 use crossbeam_channel::Sender;
 use fetch_chain::Submit;
 use forwarding::{
-    Exchange, Flight, Landed, Life, Profile, confirmed, hides_rules, object_of, refusal,
-    stale_object,
+    Exchange, Flight, Landed, Life, Profile, confirmed, has_other_rules, hides_rules, object_of,
+    refusal, stale_object,
 };
 use http_rules::{StaleUse, complete_length, has_stale_use, has_validator, is_error, supersedes};
 use http_traffic::{FetchEnd, FetchFault, Fetched, Page, Supplier};
@@ -249,15 +249,21 @@ impl<R: Wait + Clock + Drop, L: Ledger> Results<R, L> {
         }
     }
 
-    // Notes that a client's reload has brought something else than was there, if that may be stored.
+    // Notes that a client's reload has brought something else than was there, if that may be stored, or a 304 with other rules for what was
+    // there.
     fn note_changed(&self, key: &CacheKey, landed: &Landed, page: &Page) {
-        let is_changed = landed.asked.is_some() && page.status == 200;
-        if !is_changed || landed.flight.mode != Mode::Private {
+        let Some(asked) = &landed.asked else {
             return;
-        }
+        };
         let proxy = self.node.proxy();
         let exchange = self.exchange(Some(key), landed.flight);
-        if proxy.profile.may_keep_whole(exchange, &page.head)
+        let is_changed = match page.status {
+            200 => proxy.profile.may_keep_whole(exchange, &page.head),
+            NOT_MODIFIED => has_other_rules(&page.head, asked.get()),
+            _ => false,
+        };
+        if is_changed
+            && landed.flight.mode == Mode::Private
             && let Ok(key) = key.share()
         {
             proxy.note_changed(&self.rt, key);
@@ -397,7 +403,14 @@ impl<R: Wait + Clock + Drop, L: Ledger> Results<R, L> {
 
     // Hands in that an attempt has failed.
     fn fail(&mut self, fetch: u32, attempt: u16) -> bool {
-        take(&self.rt, &mut self.node, fetch, attempt, None, Outcome::Failed)
+        take(
+            &self.rt,
+            &mut self.node,
+            fetch,
+            attempt,
+            None,
+            Outcome::Failed,
+        )
     }
 
     // Hands in how an attempt has ended. What was changed meanwhile is noted until the attempt is taken out of the mailbox, and changes

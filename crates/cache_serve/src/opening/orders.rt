@@ -163,9 +163,10 @@ pub(super) fn thread_config<R: Threads + Files + AllocGlobal>(
     let mut limits = limits;
     let an_address = settings.address_connections.unwrap_or(ADDRESS_CONNECTIONS);
     limits.clients.connections.an_address = an_address as usize;
+    let client_threads = client_threads(rt, settings);
     if let Some(files) = most_files(rt) {
         let most = limits.clients.connections.most;
-        limits.clients.connections.most = connections_within(files, most);
+        limits.clients.connections.most = connections_within(files, client_threads, most);
     }
     limits.fetching = Duration::from_secs(u64::from(settings.fetch_seconds));
     limits.idle = settings
@@ -176,7 +177,7 @@ pub(super) fn thread_config<R: Threads + Files + AllocGlobal>(
         icp: settings.node.icp,
         htcp: settings.node.htcp,
         clients: SocketAddr::V4(SocketAddrV4::new(address, settings.http_port)),
-        client_threads: client_threads(rt, settings),
+        client_threads,
         admin_port: settings.admin_port,
         body_limit: settings.body_limit as usize,
         fetch_octets: settings.fetch_octets.unwrap_or(FETCH_OCTETS) as usize,
