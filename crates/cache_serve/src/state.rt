@@ -272,6 +272,7 @@ fn state_of<L: Ledger>(
         failed,
         changes: Arc::new(alloc, RwLock::new(()))?,
         has_changed: AtomicBool::new(false),
+        has_outdated: AtomicBool::new(false),
         timeline: run.timeline,
         name: kept.name,
         loop_mark: run.loop_mark,

@@ -259,13 +259,27 @@ impl Mailbox {
         }
     }
 
-    /// Notes that what is stored under a key was changed: what is being fetched of it may be what was there before.
-    pub fn outdate(&mut self, key: &[u8]) {
+    /// Notes that what is stored under a key was changed: what is being fetched of it may be what was there before. Returns whether
+    /// something is.
+    pub fn outdate(&mut self, key: &[u8]) -> bool {
+        let mut is_one = false;
         for fetching in self.fetches.values_mut() {
             if fetching.key.as_slice() == key {
                 fetching.is_outdated = true;
+                is_one = true;
             }
         }
+        is_one
+    }
+
+    /// Whether something is being fetched of this key that was changed meanwhile.
+    pub fn is_outdated(&self, key: &[u8]) -> bool {
+        self.fetches.values().any(|fetching| fetching.is_outdated && fetching.key.as_slice() == key)
+    }
+
+    /// Whether anything is being fetched that was changed meanwhile.
+    pub fn has_outdated(&self) -> bool {
+        self.fetches.values().any(|fetching| fetching.is_outdated)
     }
 
     /// Removes a fetch whose attempt has ended. One that is not in flight counts as private, so that nothing is stored.

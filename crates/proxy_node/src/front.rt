@@ -475,8 +475,16 @@ impl<R: Wait + Clock + Drop, L: Ledger> NodeFront<R, L> {
         })
     }
 
-    /// Submits a request for this key in this mode, as a new client. It has CDN-Loop fields only if `is_marked`. Errors: the HTTP
-    /// status to answer.
+    /// How a request for this key in this mode is taken beside what is being fetched: alone where that was changed meanwhile.
+    fn mode_beside(&self, mode: Mode, key: &CacheKey) -> Mode {
+        match mode {
+            Mode::Shared if self.proxy.is_outdated(&self.rt, key) => Mode::Private,
+            _ => mode,
+        }
+    }
+
+    /// Submits a request for this key in this mode, as a new client; alone where it would join what was changed since it is being fetched.
+    /// It has CDN-Loop fields only if `is_marked`. Errors: the HTTP status to answer.
     fn request(
         &mut self,
         asked: &Asked,
@@ -484,6 +492,7 @@ impl<R: Wait + Clock + Drop, L: Ledger> NodeFront<R, L> {
         mode: Mode,
         is_marked: bool,
     ) -> Result<Asking, u16> {
+        let mode = self.mode_beside(mode, &key);
         let Request {
             key,
             fields,
@@ -512,10 +521,10 @@ impl<R: Wait + Clock + Drop, L: Ledger> NodeFront<R, L> {
             began,
             answer,
         };
-        if mode == Mode::Shared && !is_marked {
-            return Ok(self.with_stale(asked, taken.given, asking));
+        match mode {
+            Mode::Shared if !is_marked => Ok(self.with_stale(asked, taken.given, asking)),
+            _ => Ok(asking),
         }
-        Ok(asking)
     }
 }
 

@@ -70,6 +70,8 @@ pub struct ProxyState<L: Ledger> {
     /// Held by each fetch thread from when it looks whether what it fetched was changed meanwhile until the node has the result, and by
     /// one that notes such a change, alone: no change is missed between the two.
     pub changes: Arc<RwLock<()>>,
+    /// Whether something may be in flight that was changed meanwhile. Set and unset while `mailbox` is locked.
+    pub has_outdated: AtomicBool,
     /// The moments of all threads.
     pub timeline: Timeline,
     /// The name of this cache.
@@ -520,7 +522,23 @@ impl<L: Ledger> ProxyState<L> {
     pub fn withdraw<R: Wait>(&self, rt: &R, key: &CacheKey) {
         let _alone = self.changes.write(rt);
         self.unshelve(rt, key);
-        self.mailbox.lock(rt).outdate(key.as_slice());
+        let mut mailbox = self.mailbox.lock(rt);
+        if mailbox.outdate(key.as_slice()) {
+            self.has_outdated.store(true, Ordering::SeqCst);
+        }
+    }
+
+    /// Whether what is being fetched of a key was changed meanwhile, so that nobody who comes now may have it.
+    pub fn is_outdated<R: Wait>(&self, rt: &R, key: &CacheKey) -> bool {
+        if !self.has_outdated.load(Ordering::SeqCst) {
+            return false;
+        }
+        let mailbox = self.mailbox.lock(rt);
+        if !mailbox.has_outdated() {
+            self.has_outdated.store(false, Ordering::SeqCst);
+            return false;
+        }
+        mailbox.is_outdated(key.as_slice())
     }
 
     /// Takes what is on the shelf under a key away.
