@@ -283,13 +283,17 @@ impl<R: Wait + Clock + Drop, L: Ledger> NodeFront<R, L> {
         if self.take(event).is_none() {
             return;
         }
+        self.fetch_for_all(key);
+    }
+
+    /// Fetches what is under a key for all, by a request of the cache's own, whose answer nobody waits for.
+    fn fetch_for_all(&mut self, key: CacheKey) {
         let client = self.next_client();
-        let mode = Mode::Shared;
         let _ = self.take(Event::Request {
             client,
             key,
-            mode,
-            now,
+            mode: Mode::Shared,
+            now: now(&self.rt, &self.proxy.timeline),
         });
         let _ = self.take(Event::Gone { client });
     }
@@ -427,18 +431,22 @@ impl<R: Wait + Clock + Drop, L: Ledger> NodeFront<R, L> {
         choose(asked.method.as_str(), &asked.head, stored)
     }
 
-    /// How a request for this key that has come now is answered by RFC 9111: as `fresh_mode` says, but for the third one within a minute
-    /// for a part of what is not stored and may be, which has the whole fetched for all. Errors: the HTTP status to answer.
-    fn counted_mode(&self, asked: &Asked, key: &CacheKey) -> Result<Mode, u16> {
+    /// How a request for this key that has come now is answered by RFC 9111, as `fresh_mode` says. The third one within a minute for a part
+    /// of what is not stored and may be has the whole fetched for all beside it. Errors: the HTTP status to answer.
+    fn counted_mode(&mut self, asked: &Asked, key: &CacheKey) -> Result<Mode, u16> {
         let stored = self.stored_for(asked, key);
         let mode = choose(asked.method.as_str(), &asked.head, stored)?;
-        if mode == Mode::Private && stored.is_none() && self.is_for_the_whole(asked, key) {
-            return Ok(Mode::Shared);
+        let is_alone = mode == Mode::Private && stored.is_none();
+        if is_alone
+            && self.is_for_the_whole(asked, key)
+            && let Ok(key) = key.share()
+        {
+            self.fetch_for_all(key);
         }
         Ok(mode)
     }
 
-    /// Whether a GET for which nothing is stored has the whole fetched although it asks for a part: it is counted.
+    /// Whether a GET for which nothing is stored and which asks for a part has the whole fetched: it is counted.
     fn is_for_the_whole(&self, asked: &Asked, key: &CacheKey) -> bool {
         let Some(parts) = &self.proxy.parts else {
             return false;
