@@ -78,6 +78,13 @@ struct Fetching {
     _wanted: oneshot::Sender<()>,
 }
 
+impl Fetching {
+    /// Whether who joined it would have what was changed meanwhile.
+    fn misleads(&self) -> bool {
+        self.is_outdated && self.flight.mode == Mode::Shared
+    }
+}
+
 /// Waiting clients by client number, and in-flight fetches by fetch number.
 #[derive(Drop)]
 pub struct Mailbox {
@@ -272,14 +279,14 @@ impl Mailbox {
         is_one
     }
 
-    /// Whether something is being fetched of this key that was changed meanwhile.
+    /// Whether something is being fetched of this key for all that was changed meanwhile.
     pub fn is_outdated(&self, key: &[u8]) -> bool {
-        self.fetches.values().any(|fetching| fetching.is_outdated && fetching.key.as_slice() == key)
+        self.fetches.values().any(|fetching| fetching.misleads() && fetching.key.as_slice() == key)
     }
 
-    /// Whether anything is being fetched that was changed meanwhile.
+    /// Whether anything is being fetched for all that was changed meanwhile.
     pub fn has_outdated(&self) -> bool {
-        self.fetches.values().any(|fetching| fetching.is_outdated)
+        self.fetches.values().any(|fetching| fetching.misleads())
     }
 
     /// Removes a fetch whose attempt has ended. One that is not in flight counts as private, so that nothing is stored.
