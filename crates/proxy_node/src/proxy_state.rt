@@ -305,13 +305,18 @@ impl<L: Ledger> ProxyState<L> {
             .begin(wanted.fetch, own, flight, sender)?;
         let asked = self.asked_about(rt, wanted, key.as_slice());
         let fields = self.fields(rt, alloc, wanted, key.as_slice(), asked.as_ref());
-        let mut mailbox = self.mailbox.lock(rt);
+        self.note_asked(rt, wanted.fetch, asked);
         if fields.is_err() {
-            let _ = mailbox.end(wanted.fetch);
-        } else if let Some(asked) = asked {
-            mailbox.ask(wanted.fetch, asked);
+            let _ = self.mailbox.lock(rt).end(wanted.fetch);
         }
         fields
+    }
+
+    /// Notes what a fetch in flight asks about, if it asks.
+    fn note_asked<R: Wait>(&self, rt: &R, fetch: u32, asked: Option<SharedObject>) {
+        if let Some(object) = asked {
+            self.mailbox.lock(rt).ask(fetch, object);
+        }
     }
 
     /// Sends an order to a fetch thread. Errors: it was not accepted; the fetch is no longer in flight.

@@ -414,14 +414,24 @@ impl<R: Wait + Clock + Drop, L: Ledger> Results<R, L> {
     }
 
     // Hands in how an attempt has ended. What was changed meanwhile is noted until the attempt is taken out of the mailbox, and changes
-    // wait from then until the event was taken: so what is stored after all is there when the change takes it out of the store.
+    // wait from then until the event was taken: so what is stored after all is there when the change takes it out of the store. `false` also
+    // where the lock for that cannot get one more owner.
     fn land(&mut self, done: Fetched) -> bool {
+        let Ok(changes) = Arc::try_clone(&self.changes) else {
+            return false;
+        };
+        let landing = changes.read(&self.rt);
+        let is_taken = self.hand_in(done);
+        drop(landing);
+        is_taken
+    }
+
+    fn hand_in(&mut self, done: Fetched) -> bool {
         let Fetched {
             fetch,
             attempt,
             end,
         } = done;
-        let landing = self.changes.read(&self.rt);
         let landed = self.node.proxy().mailbox.lock(&self.rt).end(fetch);
         let flight = landed.flight;
         self.note(flight, &end);
@@ -431,9 +441,7 @@ impl<R: Wait + Clock + Drop, L: Ledger> Results<R, L> {
         }
         self.note_part(fetch, flight, &end);
         let Delivery { outcome, supplier } = self.delivery(fetch, landed, end);
-        let is_taken = take(&self.rt, &mut self.node, fetch, attempt, supplier, outcome);
-        drop(landing);
-        is_taken
+        take(&self.rt, &mut self.node, fetch, attempt, supplier, outcome)
     }
 
     fn give_up(&mut self) {
