@@ -83,19 +83,19 @@ impl<R: Net + Clock + Copy, A: Admit> Getter<R, A> {
     }
 }
 
-impl<R: Wait + Net + Clock + Copy, A: Admit> Getter<R, A> {
-    // A visit with the time that it has. Returns `None` if out of memory.
-    fn timed(
-        &self,
-        deadline: Instant,
-        visit: Visit<R, A, Get<R, A>>,
-    ) -> Option<Box<Timeout<Visit<R, A, Get<R, A>>>>>
-        ensures { IfSome result (λ b. timeout_future (box_value b) ≡ visit) }
-    {
-        match self.handle.time().timeout_at(deadline, visit) {
-            Ok(timed) => boxed(self.alloc, timed),
-            Err(_) => None,
-        }
+// A future with the time that it has. Returns `None` if out of memory. Of the future no more is known here than that it can be dropped: the parts of
+// a visit are elaborated anew wherever it is named.
+fn timed<F: Drop>(
+    handle: &Handle,
+    alloc: Global,
+    deadline: Instant,
+    future: F,
+) -> Option<Box<Timeout<F>>>
+    ensures { IfSome result (λ b. timeout_future (box_value b) ≡ future) }
+{
+    match handle.time().timeout_at(deadline, future) {
+        Ok(timed) => boxed(alloc, timed),
+        Err(_) => None,
     }
 }
 
@@ -135,7 +135,7 @@ impl<R: Wait + Net + Clock + Copy, A: Admit> Begin for Getter<R, A> {
                     fetch,
                     attempt,
                     wanted,
-                    visit: self.timed(deadline, visit),
+                    visit: timed(&self.handle, self.alloc, deadline, visit),
                 };
                 Doing {
                     doing: Either::Left(fetch),
