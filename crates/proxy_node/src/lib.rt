@@ -6,7 +6,6 @@
 #![tactic(auto)]
 
 mod clock;
-mod early;
 mod front;
 mod front_passes;
 mod handing;

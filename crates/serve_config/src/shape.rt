@@ -38,7 +38,7 @@ const TOP: [Known; 16] = [
 ];
 
 /// The keys that a configuration may leave out.
-const OPTIONAL: [Known; 27] = [
+const OPTIONAL: [Known; 26] = [
     ("receipt_octets", Kind::Number),
     ("book_octets", Kind::Number),
     ("fetch_octets", Kind::Number),
@@ -47,7 +47,6 @@ const OPTIONAL: [Known; 27] = [
     ("client_threads", Kind::Number),
     ("deny_origins", Kind::List),
     ("origin_ports", Kind::List),
-    ("origins6", Kind::Truth),
     ("admin_token", Kind::Text),
     ("access_log", Kind::Text),
     ("access_log_format", Kind::Text),

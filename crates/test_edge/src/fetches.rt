@@ -42,7 +42,6 @@ pub(crate) fn order_of<R: Clock>(
         target: String::from_str(alloc, target)?,
         fields: Vec::new(alloc),
         is_origin: true,
-        is_early: false,
         deadline,
         wanted,
     };
