@@ -32,7 +32,7 @@ CONFIG ?= examples/serve.json
 PREFIX ?= /usr/local
 DESTDIR ?=
 
-.PHONY: serve group feed build install deb package systemd page test format cases documents loopback attacks open hostile slow interop clients load large fuzz limits kept edits bench sweep storm
+.PHONY: serve group feed build install deb package systemd page test format cases documents loopback attacks open hostile slow interop clients load large fuzz limits early kept six edits bench sweep storm
 
 feed:
 	@tools/feed $(SCRIPT)
@@ -105,9 +105,17 @@ fuzz:
 limits:
 	@tests/passage_limits $(PROGRAM)
 
+# What a client has while it is collected for the store.
+early:
+	@tests/serve_early $(PROGRAM)
+
 # Which connections to servers are kept.
 kept:
 	@tests/serve_kept $(PROGRAM)
+
+# Servers with an address of IPv6.
+six:
+	@tests/serve_six $(PROGRAM)
 
 large:
 	@tests/large_answers $(PROGRAM)

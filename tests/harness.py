@@ -337,9 +337,9 @@ def closed(s):
 class Server:
     """Calls a function with each connection that it accepts, on a thread of its own, and closes the connection then."""
 
-    def __init__(self, serve, address="127.0.0.1"):
-        self.serve, self.accepted = serve, 0
-        self.socket = socket.create_server((address, 0), backlog=512)
+    def __init__(self, serve, address="127.0.0.1", port=0):
+        self.serve, self.accepted, self.host = serve, 0, f"[{address}]" if ":" in address else "127.0.0.1"
+        self.socket = socket.create_server((address, port), family=socket.AF_INET6 if ":" in address else socket.AF_INET, backlog=512)
         self.port = self.socket.getsockname()[1]
         threading.Thread(target=self.run, daemon=True).start()
 
@@ -360,7 +360,7 @@ class Server:
                 pass
 
     def url(self, path):
-        return f"http://127.0.0.1:{self.port}{path}"
+        return f"http://{self.host}:{self.port}{path}"
 
 
 class Received:
@@ -429,9 +429,9 @@ class Recorder(Server):
     answered by itself. It reads on behind its answer, so a second request on the connection is seen. With `is_early` the answer is
     asked for before the content is read."""
 
-    def __init__(self, answer, address="127.0.0.1", is_early=False):
+    def __init__(self, answer, address="127.0.0.1", is_early=False, port=0):
         self.answer, self.is_early, self.requests = answer, is_early, []
-        super().__init__(self.requests_of, address)
+        super().__init__(self.requests_of, address, port)
 
     def requests_of(self, connection):
         with connection.makefile("rb") as file:
@@ -554,15 +554,19 @@ def htcp_clr(source, target, url, secret, name=b"group", now=None, lasts=30):
 
 def with_silent_names(name):
     """Runs a test of the calling file where the only name server never answers, in a network and mount namespace of its own."""
+    with_names(name, "/etc/resolv.conf", "nameserver 127.0.0.1\noptions timeout:30 attempts:2\n")
+
+
+def with_names(name, path, text):
+    """Runs a test of the calling file in a network and mount namespace of its own, in which this text stands at the path."""
     tools = shutil.which("unshare") and shutil.which("ip") and shutil.which("mount")
+    mounted = f'ip link set lo up && mount --bind "$2" {path}'
     with tempfile.NamedTemporaryFile("w") as it:
-        it.write("nameserver 127.0.0.1\noptions timeout:30 attempts:2\n")
+        it.write(text)
         it.flush()
-        inside = ["sh", "-c", 'ip link set lo up && mount --bind "$2" /etc/resolv.conf && exec python3 "$0" "$1" "$3"',
-                  sys.argv[0], PROGRAM, it.name, name]
-        if not tools or subprocess.run(["unshare", "-rmn", *inside[:2], 'ip link set lo up && mount --bind "$2" /etc/resolv.conf',
-                                        *inside[3:]], capture_output=True).returncode:
-            raise Skipped("no namespace with its own name server can be made here (unshare -rmn, ip and mount are needed)")
+        inside = ["sh", "-c", f'{mounted} && exec python3 "$0" "$1" "$3"', sys.argv[0], PROGRAM, it.name, name]
+        if not tools or subprocess.run(["unshare", "-rmn", *inside[:2], mounted, *inside[3:]], capture_output=True).returncode:
+            raise Skipped("no namespace with its own names can be made here (unshare -rmn, ip and mount are needed)")
         ran = subprocess.run(["unshare", "-rmn", *inside], capture_output=True, text=True, timeout=150)
     check(ran.stdout.splitlines()[-1:], ["1 passed, 0 failed"], ran.stdout + ran.stderr)
 

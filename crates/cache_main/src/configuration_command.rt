@@ -3,8 +3,9 @@
 use crate::NO_OUTPUT;
 use crate::serve_command::{filters_of, settings_in};
 use node_core::Network;
+use serve_config::{Settings, SixNetwork};
 use std::fs;
-use std::net::Ipv4Addr;
+use std::net::{Ipv4Addr, Ipv6Addr};
 use std::process::ExitCode;
 
 /// Prints `ok` on standard output if the proxy would accept a configuration file, and the line of the fault on standard error if
@@ -21,9 +22,7 @@ pub fn check_configuration(rt: &HostRuntime, file: &str) -> ExitCode {
         return ExitCode::FAILURE;
     };
     warn_of(rt, "allowed", settings.node.allowed.as_slice());
-    if let Some(networks) = &settings.deny_origins {
-        warn_of(rt, "deny_origins", networks.as_slice());
-    }
+    warn_of_denied(rt, &settings);
     if filters_of(rt, &settings).is_none() {
         return ExitCode::FAILURE;
     }
@@ -42,6 +41,40 @@ fn warn_of(rt: &HostRuntime, key: &str, networks: &[Network]) {
             let address = Ipv4Addr::from_octets(addr);
             let _ = eprintln!(rt;
                 "warning: {key}[{i}]: {address}/{prefix} has bits beyond its prefix"
+            );
+        }
+    }
+}
+
+/// The same for the networks of origins. Where there are two kinds of them, their places in the list are not told.
+fn warn_of_denied(rt: &HostRuntime, settings: &Settings) {
+    let Some(networks) = &settings.deny_origins else {
+        return;
+    };
+    let Some(six) = &settings.origins6 else {
+        warn_of(rt, "deny_origins", networks.as_slice());
+        return;
+    };
+    for Network { addr, prefix } in networks.iter().copied() {
+        if has_bits_beyond(addr, prefix) {
+            let address = Ipv4Addr::from_octets(addr);
+            let _ = eprintln!(rt;
+                "warning: deny_origins: {address}/{prefix} has bits beyond its prefix"
+            );
+        }
+    }
+    warn_of_six(rt, six.as_slice());
+}
+
+/// Prints a warning for each of these networks that has bits beyond its prefix.
+fn warn_of_six(rt: &HostRuntime, networks: &[SixNetwork]) {
+    for network in networks {
+        if let Some(rest) = network.address.checked_shl(u32::from(network.prefix))
+            && rest != 0
+        {
+            let (address, prefix) = (Ipv6Addr::from_bits(network.address), network.prefix);
+            let _ = eprintln!(rt;
+                "warning: deny_origins: {address}/{prefix} has bits beyond its prefix"
             );
         }
     }

@@ -9,6 +9,7 @@
 //! Tested by: tests/serve, tests/serve_slow and tests/serve_hostile, which run the built program over loopback.
 #![tactic(auto)]
 
+mod descriptors;
 mod fault;
 mod limits;
 mod opening;

@@ -38,6 +38,15 @@ pub const SENDS_A_TURN: u32 = 64;
 /// The most connections of clients of one address, unless the configuration says another number.
 pub const ADDRESS_CONNECTIONS: u32 = 256;
 
+/// Open files of the program itself: its sockets, event loops and logs, and some connections of administrators.
+pub const OWN_FILES: usize = 36;
+
+/// Open files of each thread that serves clients: its event loop, and a client that waits for a seat.
+pub const THREAD_FILES: usize = 6;
+
+/// Open files that are left for connections to servers where there are enough: those of all fetches, and a quarter as many.
+pub const SERVER_FILES: usize = 320;
+
 /// The most octets of the content of a client's request.
 const CLIENT_CONTENT: usize = 65_536;
 
@@ -65,7 +74,7 @@ pub struct ProxyLimits {
 }
 
 impl ProxyLimits {
-    /// The limits of the program: 4,096 connections of clients, 256 of one address, and 64 of administrators, 5 s to connect and
+    /// The limits of the program: 4,096 connections of clients unless it may open too few files for them, 256 of one address, and 64 of administrators, 5 s to connect and
     /// 30 s to fetch.
     pub fn usual() -> ProxyLimits {
         ProxyLimits {

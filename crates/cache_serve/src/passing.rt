@@ -60,6 +60,7 @@ pub(crate) fn passes_of(
     let connect_ports = mem::replace(&mut settings.connect_ports, Vec::new(alloc));
     Ok(Passes {
         methods: mem::replace(&mut settings.methods, Vec::new(alloc)),
+        has_six: origins.denied_six.is_some(),
         ends: Mutex::new(ends_of(alloc, connect_ports.as_slice(), origins)?),
         connect_ports,
         large: large_of(alloc, settings.large)?,
@@ -79,6 +80,10 @@ fn ends_of(alloc: Global, ports: &[u16], origins: &OriginRules) -> Result<Origin
         own: Vec::new(alloc),
         denied: copy_of(alloc, origins.denied.as_slice())?,
         ports: Some(copy_of(alloc, ports)?),
+        denied_six: match &origins.denied_six {
+            Some(denied) => Some(copy_of(alloc, denied.as_slice())?),
+            None => None,
+        },
     })
 }
 

@@ -10,7 +10,7 @@ use capture_tap::Tap;
 use crossbeam_channel::Sender;
 use forwarding::{Field, Mailbox, Peer, Profile};
 use futures::channel::oneshot;
-use http_rules::{OriginRules, RefreshRule, UrlPlace, loop_mark, usual_denials};
+use http_rules::{OriginRules, RefreshRule, SixNetwork, UrlPlace, loop_mark, usual_denials};
 use mio_queries::Timeline;
 use node_book::{BOOK_OCTETS, BookFault, Booked, Desk, RECEIPT_OCTETS, Seat};
 use node_core::{Config, Node};
@@ -23,7 +23,7 @@ use std::mem;
 use std::random::RandomSource;
 use std::sync::atomic::{AtomicBool, AtomicU16, AtomicU64, AtomicUsize};
 use std::sync::ledger::{Blank, Ledger};
-use std::sync::{Arc, Mutex};
+use std::sync::{Arc, Mutex, RwLock};
 use std::time::{Clock, Duration, Instant};
 use traffic_figures::Figures;
 
@@ -270,6 +270,9 @@ fn state_of<L: Ledger>(
         mailbox: Mutex::new(Mailbox::new(alloc)),
         lanes: Mutex::new(None),
         failed,
+        changes: Arc::new(alloc, RwLock::new(()))?,
+        has_changed: AtomicBool::new(false),
+        has_outdated: AtomicBool::new(false),
         timeline: run.timeline,
         name: kept.name,
         loop_mark: run.loop_mark,
@@ -375,7 +378,26 @@ fn origins_of(alloc: Global, settings: &mut Settings) -> Result<OriginRules, All
         own: Vec::new(alloc),
         denied,
         ports: settings.origin_ports.take(),
+        denied_six: match settings.origins6.take() {
+            Some(networks) => Some(six_networks(alloc, networks.as_slice())?),
+            None => None,
+        },
     })
+}
+
+/// The same networks for the rules of which servers are origins.
+fn six_networks(
+    alloc: Global,
+    networks: &[serve_config::SixNetwork],
+) -> Result<Vec<SixNetwork>, AllocError> {
+    let mut denied = Vec::with_capacity(alloc, networks.len())?;
+    for network in networks {
+        denied.push(SixNetwork {
+            address: network.address,
+            prefix: network.prefix,
+        })?;
+    }
+    Ok(denied)
 }
 
 fn peers_of(alloc: Global, config: &Config) -> Result<Vec<Peer>, AllocError> {

@@ -28,7 +28,7 @@ use std::net::{Net, SocketAddr};
 use std::random::RandomSource;
 use std::sync::atomic::{AtomicBool, AtomicUsize};
 use std::sync::ledger::Ledger;
-use std::sync::{Arc, Mutex, Wait};
+use std::sync::{Arc, Mutex, RwLock, Wait};
 use std::time::Clock;
 
 /// How a thread ended.
@@ -145,6 +145,8 @@ pub struct FetchTask<L: Ledger> {
     pub seat: ThreadSeat<L>,
     pub jobs: mpsc::UnboundedReceiver<Job>,
     pub proxy: Arc<ProxyState<L>>,
+    /// The lock by which changes of what is stored wait for the results of fetches.
+    pub changes: Arc<RwLock<()>>,
     pub budget: Arc<Budget>,
     pub octets: usize,
     pub limits: ProxyLimits,
@@ -187,6 +189,7 @@ where
         seat,
         jobs,
         proxy,
+        changes,
         budget,
         octets,
         limits,
@@ -207,6 +210,7 @@ where
         rt,
         alloc,
         node: NodeHandle::new(rt, alloc, seat, None),
+        changes,
         has_given_up: false,
         end,
         opened: Some(opened),

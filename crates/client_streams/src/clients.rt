@@ -41,7 +41,7 @@ pub trait Accept: Drop {
 /// A client that is being served or refused, and its seat, which is free again when this is dropped. It ends early where its
 /// connection has been idle for longer than all others and a client waits for a seat.
 #[derive(Drop)]
-pub struct Seated<F, R: Wait + Copy> {
+pub struct Seated<F, R: Wait + Clock + Copy> {
     // None for a seat that is only taken until the server is open.
     serving: Option<Box<F>>,
     // None for such a seat as well.
@@ -49,7 +49,7 @@ pub struct Seated<F, R: Wait + Copy> {
     seat: TakenSeat<R>,
 }
 
-impl<F: Future<Output = ()>, R: Wait + Copy> Future for Seated<F, R> {
+impl<F: Future<Output = ()>, R: Wait + Clock + Copy> Future for Seated<F, R> {
     type Output = ();
 
     ghost can_poll = { λ s. IfSome s.serving (λ f. F.can_poll (box_value f)) };
@@ -73,6 +73,10 @@ impl<F: Future<Output = ()>, R: Wait + Copy> Future for Seated<F, R> {
 
 // How long a thread that serves more clients than another leaves the next one to that, in milliseconds.
 const MOMENT_MILLIS: u64 = 1;
+
+// How often all threads look again for a connection that can give way to a client that waits, in milliseconds: those that were new when it
+// came are not for long.
+const LOOK_MILLIS: u64 = 100;
 
 // A client that was accepted.
 #[derive(Drop)]
@@ -116,14 +120,15 @@ pub struct Stops {
 /// sender is dropped, and ends when all clients are gone, when the grace has passed, or when `hurry` is ready, whichever comes first;
 /// whoever runs the futures then drops those that are left. Each future holds a seat. A client of an address that has as many seats as
 /// it may is closed. While all seats are taken, the connection that has been idle for longest is closed in favour of the next client,
-/// or one that has been so for longest among another thread's; while none is idle, that client waits, and further ones wait in the
-/// listener's queue. A client that takes no seat holds one of 64 others of its thread, and is closed where none of these is free. A
-/// thread that serves more clients than another lets that accept the next one, for a millisecond.
+/// or one that has been so for longest among another thread's, unless it came less than 250 ms ago and few of its address are served; while
+/// none is idle, that client waits, and further ones wait in the listener's queue. A client that takes no seat holds one of 64 others of its
+/// thread, and is closed where none of these is free. Where an accept fails, as for want of descriptors, a connection that is idle is closed
+/// too. A thread that serves more clients than another lets that accept the next one, for a millisecond.
 ///
 /// The first futures serve nobody, and end together: one for each seat, so that whoever runs the futures has room for as many as
 /// there may be, and no client is refused for want of memory for that room. `Accept::opened` is called after that.
 #[derive(Drop)]
-pub struct AcceptedClients<A, R: Wait + Copy> {
+pub struct AcceptedClients<A, R: Wait + Clock + Copy> {
     rt: R,
     alloc: Global,
     timers: Handle,
@@ -143,6 +148,8 @@ pub struct AcceptedClients<A, R: Wait + Copy> {
     resting: Option<Sleep>,
     // Whether the next client was left to other threads for a moment.
     has_waited: bool,
+    // The time until the threads look again for a connection that can give way.
+    looking: Option<Sleep>,
 }
 
 impl<A: Accept, R: Wait + Clock + Copy> AcceptedClients<A, R> {
@@ -177,6 +184,7 @@ impl<A: Accept, R: Wait + Clock + Copy> AcceptedClients<A, R> {
             rest: limits.rest,
             resting: None,
             has_waited: false,
+            looking: None,
         })
     }
 
@@ -213,6 +221,7 @@ impl<A: Accept, R: Wait + Clock + Copy> AcceptedClients<A, R> {
         };
         let Ok((socket, address)) = ready!(listener.poll_accept(cx)) else {
             self.rest();
+            self.seats.want();
             return Poll::Ready(None);
         };
         Poll::Ready(Some(Arrival { socket, address }))
@@ -290,6 +299,24 @@ impl<A: Accept, R: Wait + Clock + Copy> AcceptedClients<A, R> {
         self.resting = self.timers.sleep(&self.rt, self.rest).ok();
     }
 
+    // Whether the threads are to look again for a connection that can give way. Without memory for a timer they don't.
+    fn must_look(&mut self, cx: &mut Context<'_>) -> bool
+        ensures { Keeps cx.old cx.new }
+    {
+        if self.looking.is_none() {
+            let pause = Duration::from_millis(LOOK_MILLIS);
+            self.looking = self.timers.sleep(&self.rt, pause).ok();
+        }
+        let Some(looking) = &mut self.looking else {
+            return false;
+        };
+        if let Poll::Pending = looking.poll(cx) {
+            return false;
+        }
+        self.looking = None;
+        true
+    }
+
     // Leaves the next client to other threads, for a moment.
     fn let_others_accept(&mut self) {
         let is_next = self.opening == Opening::Done && self.arrival.is_none();
@@ -336,6 +363,10 @@ impl<A: Accept, R: Wait + Clock + Copy> Stream for AcceptedClients<A, R> {
             },
             Ok(None) => {
                 self.arrival = Some(arrival);
+                if self.must_look(cx) {
+                    self.seats.want();
+                    return cx.yield_now();
+                }
                 let _ = ready!(self.seats.wait(cx));
                 cx.yield_now()
             }

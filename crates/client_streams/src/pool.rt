@@ -21,6 +21,9 @@ struct Post {
     clients: usize,
 }
 
+// The most clients of an address that has few, where there are seats for at least four times as many.
+const FEW_CLIENTS: usize = 8;
+
 // How many clients the threads serve together.
 #[derive(Drop)]
 struct Counts {
@@ -29,6 +32,8 @@ struct Counts {
     // The clients of each address.
     addresses: BTreeMap<IpAddr, usize>,
     an_address: usize,
+    // With so many clients, or fewer, an address has few.
+    few: usize,
     // One for each thread.
     posts: Vec<Post>,
 }
@@ -48,6 +53,7 @@ impl Counts {
             free: limits.most,
             addresses: BTreeMap::new(alloc),
             an_address: limits.an_address,
+            few: FEW_CLIENTS.min(limits.most / 4),
             posts,
         })
     }
@@ -56,6 +62,13 @@ impl Counts {
         match self.addresses.get(&address) {
             Some(count) => self.an_address <= *count,
             None => self.an_address == 0,
+        }
+    }
+
+    fn has_few(&self, address: IpAddr) -> bool {
+        match self.addresses.get(&address) {
+            Some(count) => *count <= self.few,
+            None => true,
         }
     }
 
@@ -206,6 +219,18 @@ impl SeatShare {
     /// Gives back the seat of a client of this address.
     pub(crate) fn leave<R: Wait>(&self, rt: &R, address: IpAddr) {
         self.pool.counts.lock(rt).leave(self.thread, address);
+    }
+
+    /// Whether few clients of this address are served: at most 8, or a quarter of all that may be.
+    pub(crate) fn has_few<R: Wait>(&self, rt: &R, address: IpAddr) -> bool {
+        self.pool.counts.lock(rt).has_few(address)
+    }
+
+    /// Has the connection of some thread give way that has been idle for longest, and the other threads look for it anew.
+    pub(crate) fn want<R: Wait>(&self, rt: &R) {
+        let mut counts = self.pool.counts.lock(rt);
+        self.pool.is_wanted.store(true, Ordering::SeqCst);
+        counts.ring_others(self.thread);
     }
 
     /// Whether a client of any thread waits for a seat to which no connection gives way yet.

@@ -11,9 +11,14 @@ use std::cell::RefCell;
 use std::net::IpAddr;
 use std::rc::Rc;
 use std::sync::Wait;
+use std::time::{Clock, Duration, Instant};
 
 // The most clients that are refused concurrently. Further ones are closed without an answer.
 const MOST_REFUSALS: usize = 64;
+
+// For how long a connection of an address with few of them does not give way after it came, in milliseconds: its first request is on its
+// way.
+const NEW_MILLIS: u64 = 250;
 
 // The seat that nobody takes. Its neighbours are the ends of the order of idle seats.
 const NO_SEAT: usize = 0;
@@ -45,7 +50,7 @@ pub(crate) struct Seats<R> {
     taker: Option<Waker>,
 }
 
-impl<R: Wait + Copy> Seats<R> {
+impl<R: Wait + Clock + Copy> Seats<R> {
     // Seats for so many clients that are served, and for those that are refused.
     fn new(rt: R, alloc: Global, share: SeatShare, most: usize) -> Result<Seats<R>, AllocError> {
         let all = most.saturating_add(MOST_REFUSALS);
@@ -167,13 +172,33 @@ impl<R: Wait + Copy> Seats<R> {
         is_ahead
     }
 
-    // Notes that the connection of a seat is idle. Returns whether it has to close.
-    fn rest(&mut self, number: usize, cx: &mut Context<'_>) -> bool
+    // Has the connection that has been idle for longest closed, or one of another thread.
+    fn want(&mut self) {
+        self.share.want(&self.rt);
+        self.wake_longest_idle();
+    }
+
+    // Whether a connection came a moment ago, and few others of its address are served: a request may be on its way.
+    fn is_new(&self, arrival: Arrived) -> bool {
+        let Ok(now) = Instant::now(&self.rt) else {
+            return false;
+        };
+        let Some(came) = arrival.at else {
+            return false;
+        };
+        now.saturating_duration_since(came) < Duration::from_millis(NEW_MILLIS)
+            && self.share.has_few(&self.rt, arrival.address)
+    }
+
+    // Notes that the connection of a seat is idle, which has arrived so. Returns whether it has to close. One that is new does not: what has
+    // been idle for less long was not idle before it came either.
+    fn rest(&mut self, number: usize, arrival: Arrived, cx: &mut Context<'_>) -> bool
         ensures { Keeps cx.old cx.new }
     {
         self.put_last(number);
         let is_longest = self.after(NO_SEAT) == number;
-        if is_longest && self.share.is_wanted() && self.share.gives_way() {
+        let is_next = is_longest && self.share.is_wanted();
+        if is_next && !self.is_new(arrival) && self.share.gives_way() {
             return true;
         }
         if let Some(seat) = self.seats.get_mut(number) {
@@ -238,7 +263,7 @@ fn numbers(alloc: Global, first: usize, last: usize) -> Result<Vec<usize>, Alloc
 #[derive(Drop)]
 pub(crate) struct SharedSeats<R: Drop>(Rc<RefCell<Seats<R>>>);
 
-impl<R: Wait + Copy> SharedSeats<R> {
+impl<R: Wait + Clock + Copy> SharedSeats<R> {
     /// Seats for `most` clients, which is what all threads have together, and for 64 that are refused.
     pub fn new(
         rt: R,
@@ -276,7 +301,10 @@ impl<R: Wait + Copy> SharedSeats<R> {
         Ok(Some(TakenSeat {
             seats: shared,
             number,
-            address: Some(address),
+            arrival: Some(Arrived {
+                address,
+                at: Instant::now(&seats.rt).ok(),
+            }),
         }))
     }
 
@@ -290,8 +318,15 @@ impl<R: Wait + Copy> SharedSeats<R> {
         Some(TakenSeat {
             seats: shared,
             number,
-            address: None,
+            arrival: None,
         })
+    }
+
+    /// Has the connection that has been idle for longest closed, or one of another thread.
+    pub fn want(&self) {
+        if let Ok(mut seats) = self.0.try_borrow_mut() {
+            seats.want();
+        }
     }
 
     /// Any seat, for nobody. `None` if there is no free one, or if out of memory.
@@ -307,7 +342,7 @@ impl<R: Wait + Copy> SharedSeats<R> {
         Some(TakenSeat {
             seats: shared,
             number,
-            address: None,
+            arrival: None,
         })
     }
 
@@ -343,14 +378,22 @@ impl<R: Wait + Copy> SharedSeats<R> {
 }
 
 /// A seat that is taken, until this is dropped.
-pub(crate) struct TakenSeat<R: Wait + Copy> {
+pub(crate) struct TakenSeat<R: Wait + Clock + Copy> {
     seats: Rc<RefCell<Seats<R>>>,
     number: usize,
-    // The address of a client that is served.
-    address: Option<IpAddr>,
+    // None for a client that is refused.
+    arrival: Option<Arrived>,
 }
 
-impl<R: Wait + Copy> TakenSeat<R> {
+// How a client has arrived that is served.
+#[derive(Clone, Copy)]
+struct Arrived {
+    address: IpAddr,
+    // `None` if the clock could not be read.
+    at: Option<Instant>,
+}
+
+impl<R: Wait + Clock + Copy> TakenSeat<R> {
     /// Waits until the server is open.
     pub fn wait_for_opening(&self, cx: &mut Context<'_>) -> Poll<()>
         ensures armed { OnPending result (IsArmed cx.new) }
@@ -363,13 +406,14 @@ impl<R: Wait + Copy> TakenSeat<R> {
     }
 
     /// Notes whether the connection is idle, and whether it has been used since the last call. Returns whether it has to close: it
-    /// has been idle for longer than all others, and a client waits for a seat. The seat of a client that is refused never has to.
+    /// has been idle for longer than all others, came 250 ms ago or earlier unless few of its address are served, and a client waits for a
+    /// seat. The seat of a client that is refused never has to.
     pub fn must_close(&self, stage: &SharedStage, cx: &mut Context<'_>) -> bool
         ensures { Keeps cx.old cx.new }
     {
-        if self.address.is_none() {
+        let Some(arrival) = self.arrival else {
             return false;
-        }
+        };
         let Ok(mut seats) = self.seats.try_borrow_mut() else {
             return false;
         };
@@ -377,17 +421,21 @@ impl<R: Wait + Copy> TakenSeat<R> {
         if stage.take_set() || !is_idle {
             seats.work(self.number);
         }
-        is_idle && seats.rest(self.number, cx)
+        is_idle && seats.rest(self.number, arrival, cx)
     }
 }
 
-impl<R: Wait + Copy> Drop for TakenSeat<R> {
+impl<R: Wait + Clock + Copy> Drop for TakenSeat<R> {
     fn drop(self) {
         let TakenSeat {
             seats,
             number,
-            address,
+            arrival,
         } = self;
+        let address = match arrival {
+            Some(arrival) => Some(arrival.address),
+            None => None,
+        };
         if let Ok(mut seats) = seats.try_borrow_mut() {
             seats.leave(number, address);
         }

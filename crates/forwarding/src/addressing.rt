@@ -1,9 +1,10 @@
 //! Destinations of fetches: origin servers and neighbours.
 use filter_slots::End;
+use http_traffic::address_in_digits;
 use std::alloc::Global;
-use std::net::Ipv4Addr;
+use std::net::SocketAddr;
 
-/// The destination of a fetch: the server's host name or IPv4 address, its port, the value of Host, and the request target.
+/// The destination of a fetch: the server's host name or address, one of IPv6 in brackets, its port, the value of Host, and the request target.
 #[derive(Drop)]
 pub struct Destination {
     pub name: String,
@@ -51,12 +52,11 @@ fn host_and_port(authority: &str) -> Option<(&str, u16)> {
     }
 }
 
-/// The address and port of a URL's server, if its host is an IPv4 address in digits.
-pub fn end_in_digits(key: &[u8]) -> Option<End> {
+/// The address and port of a URL's server, if its host is an address in digits.
+pub fn server_in_digits(key: &[u8]) -> Option<SocketAddr> {
     let parts = parts_of(key)?;
     let (name, port) = host_and_port(parts.authority)?;
-    let addr = name.parse::<Ipv4Addr>().ok()?.octets();
-    Some(End { addr, port })
+    Some(SocketAddr::new(address_in_digits(name)?, port))
 }
 
 /// The origin server of a URL. Returns `None` if the URL is not an `http://` one, if its port is invalid, or if out of memory.

@@ -24,6 +24,17 @@ pub struct Waiting {
     pub validates: bool,
     /// The client's private fetch, once it has started.
     pub fetch: Option<u32>,
+    /// The key whose shared fetch the client began, if it may have the answer while that is collected.
+    pub leads: Option<CacheKey>,
+}
+
+/// A client that is given the answer of a fetch while it is collected.
+#[derive(Drop)]
+pub struct Led {
+    /// Sends the client its answer.
+    pub reply: oneshot::Sender<Outcome>,
+    /// Whom the answer comes from.
+    pub supplier: Supplier,
 }
 
 /// What is known of an in-flight fetch.
@@ -67,6 +78,13 @@ struct Fetching {
     _wanted: oneshot::Sender<()>,
 }
 
+impl Fetching {
+    /// Whether who joined it would have what was changed meanwhile.
+    fn misleads(&self) -> bool {
+        self.is_outdated && self.flight.mode == Mode::Shared
+    }
+}
+
 /// Waiting clients by client number, and in-flight fetches by fetch number.
 #[derive(Drop)]
 pub struct Mailbox {
@@ -74,6 +92,8 @@ pub struct Mailbox {
     fetches: BTreeMap<u32, Fetching>,
     // Clients whose shared requests have CDN-Loop fields, by key.
     looped: BTreeMap<Vec<u8>, BTreeSet<u64>>,
+    // Clients that may have the answer of the shared fetch which they began while it is collected, by key.
+    leaders: BTreeMap<Vec<u8>, u64>,
 }
 
 impl Mailbox {
@@ -83,6 +103,7 @@ impl Mailbox {
             clients: BTreeMap::new(alloc),
             fetches: BTreeMap::new(alloc),
             looped: BTreeMap::new(alloc),
+            leaders: BTreeMap::new(alloc),
         }
     }
 
@@ -126,7 +147,38 @@ impl Mailbox {
         if let Some(key) = &waiting.looped {
             self.remove_looped(key.as_slice(), client);
         }
+        if let Some(key) = &waiting.leads
+            && self.leaders.get(key.as_slice()) == Some(&client)
+        {
+            let _ = self.leaders.remove(key.as_slice());
+        }
         Some(waiting)
+    }
+
+    /// Notes that this client, if it waits, began the shared fetch of this key and may have the answer while it is collected. Errors:
+    /// out of memory.
+    pub fn lead(&mut self, alloc: Global, client: u64, key: CacheKey) -> Result<(), AllocError> {
+        let Some(waiting) = self.clients.get_mut(&client) else {
+            return Ok(());
+        };
+        let octets = key.as_slice().to_vec(alloc)?;
+        if self.leaders.insert(octets, client).is_err() {
+            return Err(AllocError);
+        }
+        waiting.leads = Some(key);
+        Ok(())
+    }
+
+    /// Removes the client that may have the answer of this fetch while it is collected. `None` if none waits for it.
+    pub fn take_leader(&mut self, fetch: u32) -> Option<Led> {
+        let Fetching { key, flight, .. } = self.fetches.get(&fetch)?;
+        if flight.mode != Mode::Shared {
+            return None;
+        }
+        let supplier = flight.supplier;
+        let client = *self.leaders.get(key.as_slice())?;
+        let Waiting { reply, .. } = self.take(client)?;
+        Some(Led { reply, supplier })
     }
 
     /// Notes that this client's shared request for a key has CDN-Loop fields. Errors: out of memory.
@@ -185,20 +237,19 @@ impl Mailbox {
         }
     }
 
-    /// Adds an in-flight fetch of this key, which is cancelled when `wanted` is dropped. Its request has the validators of `asked`. It
-    /// replaces, and so cancels, an earlier attempt of the same fetch. Errors: out of memory.
+    /// Adds an in-flight fetch of this key, which is cancelled when `wanted` is dropped. It replaces, and so cancels, an earlier attempt of
+    /// the same fetch. Errors: out of memory.
     pub fn begin(
         &mut self,
         fetch: u32,
         key: CacheKey,
         flight: Flight,
-        asked: Option<SharedObject>,
         wanted: oneshot::Sender<()>,
     ) -> Result<(), AllocError> {
         let fetching = Fetching {
             key,
             flight,
-            asked,
+            asked: None,
             is_outdated: false,
             _wanted: wanted,
         };
@@ -208,13 +259,34 @@ impl Mailbox {
         }
     }
 
-    /// Notes that what is stored under a key was changed: what is being fetched of it may be what was there before.
-    pub fn outdate(&mut self, key: &[u8]) {
+    /// Notes that the request of a fetch in flight has the validators of this object.
+    pub fn ask(&mut self, fetch: u32, object: SharedObject) {
+        if let Some(fetching) = self.fetches.get_mut(&fetch) {
+            fetching.asked = Some(object);
+        }
+    }
+
+    /// Notes that what is stored under a key was changed: what is being fetched of it may be what was there before. Returns whether
+    /// something is.
+    pub fn outdate(&mut self, key: &[u8]) -> bool {
+        let mut is_one = false;
         for fetching in self.fetches.values_mut() {
             if fetching.key.as_slice() == key {
                 fetching.is_outdated = true;
+                is_one = true;
             }
         }
+        is_one
+    }
+
+    /// Whether something is being fetched of this key for all that was changed meanwhile.
+    pub fn is_outdated(&self, key: &[u8]) -> bool {
+        self.fetches.values().any(|fetching| fetching.misleads() && fetching.key.as_slice() == key)
+    }
+
+    /// Whether anything is being fetched for all that was changed meanwhile.
+    pub fn has_outdated(&self) -> bool {
+        self.fetches.values().any(|fetching| fetching.misleads())
     }
 
     /// Removes a fetch whose attempt has ended. One that is not in flight counts as private, so that nothing is stored.
@@ -259,6 +331,7 @@ impl Mailbox {
         self.fetches.clear();
         self.clients.clear();
         self.looped.clear();
+        self.leaders.clear();
     }
 }
 

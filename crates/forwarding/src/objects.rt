@@ -26,8 +26,9 @@ pub fn object_of(
     )?)
 }
 
-/// Adds Via, and Date if there is none. Errors: out of memory.
-fn add_ours(
+/// Adds to the end-to-end fields of a received response what its object has beside them: Via, and this Date if there is none. Errors: out
+/// of memory.
+pub fn add_ours(
     alloc: Global,
     fields: &mut Vec<Field>,
     name: &[u8],

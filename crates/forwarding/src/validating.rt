@@ -51,6 +51,21 @@ pub fn hides_rules(alloc: Global, head: &HeaderMap) -> bool {
     }
 }
 
+/// Whether a 304 with this head has other values of Cache-Control than the object that it is about.
+pub fn has_other_rules(head: &HeaderMap, object: &Object) -> bool {
+    let mut stored = object
+        .head()
+        .iter()
+        .filter(|(name, _)| name.as_slice() == b"cache-control".as_slice());
+    for value in head.get_all("cache-control").iter() {
+        match stored.next() {
+            Some((_, own)) if own.as_slice() == value.as_bytes() => {}
+            _ => return true,
+        }
+    }
+    head.contains_key("cache-control") && stored.next().is_some()
+}
+
 /// Whether one of these fields is Cache-Control.
 fn has_rules(fields: &[(Vec<u8>, Vec<u8>)]) -> bool {
     fields

@@ -71,6 +71,7 @@ impl Facts {
                 ..
             } => self.how = How::Hit,
             Outcome::Got { supplier, .. } => self.supplier = *supplier,
+            Outcome::Early { supplier, .. } => self.supplier = Some(*supplier),
             Outcome::Fail(_) => {}
         }
     }

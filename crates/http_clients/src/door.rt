@@ -17,11 +17,11 @@ use http_content::{
     AtMost, Ending, Heard, Read, Relayed, add_field, add_object_fields, has_foreign_coding,
 };
 use http_rules::end_to_end;
-use http_traffic::{Asked, Coming, PassedHead, Piece, Road, Shape};
+use http_traffic::{Asked, Coming, Early, PassedHead, Piece, Road, Shape};
 use hyper::body::Incoming;
 use hyper::header::{HeaderName, HeaderValue};
 use hyper::service::Service;
-use hyper::{HeaderMap, Request, Response, StatusCode, Uri, header};
+use hyper::{HeaderMap, Request, Response, StatusCode, Uri, Version, header};
 use object_body::Portions;
 use object_store::SharedObject;
 use std::alloc::{AllocError, Global};
@@ -53,6 +53,7 @@ impl<H: Answers> Door<H> {
             head: parts.headers,
             content: Vec::new(self.alloc),
             from: self.from,
+            is_old: parts.version != Version::HTTP_11,
         })
     }
 
@@ -127,11 +128,13 @@ impl<H: Answers> Door<H> {
         ensures { (result.content ≡ None) × (result.answering ≡ None) }
     {
         let is_coded = parts.headers.contains_key(header::TRANSFER_ENCODING);
+        // (RFC 9112, section 9.3, for a proxy's clients)
+        let is_old = parts.version != Version::HTTP_11;
         self.stage.set(Stage::Content);
         Serving {
             alloc: self.alloc,
             stage: self.stage.share().ok(),
-            is_last: is_coded,
+            is_last: is_coded || is_old,
             telling: Telling::new(&self.answers, &self.facts, self.keep(parts)),
             refusal: 503,
             tunnel: None,
@@ -240,6 +243,7 @@ impl<H: Answers, T: Read, I: Drop> Serving<H, T, I> {
             Given::Passed(answer) => {
                 !matches!(answer.head.status, 204 | 205 | 304) && !is_for_head(&self.telling)
             }
+            Given::Early { .. } => true,
             _ => false,
         }
     }
@@ -455,6 +459,7 @@ fn response_of<H: Answers, I: Drop>(alloc: Global, given: Given) -> Option<Respo
             with_field(alloc, Some(response), b"content-type", kind)
         }
         Given::Passed(answer) => passed_response(alloc, answer),
+        Given::Early { early, told } => early_response(alloc, early, told),
         Given::Challenge(text) => {
             let response = text_response(alloc, 401, text, b"text/plain");
             with_field(alloc, response, b"www-authenticate", b"Bearer")
@@ -596,12 +601,30 @@ fn relayed_response<H: Answers, I: Drop>(
         // It has no content, however it is framed (RFC 9110, section 15.3.6).
         Reply::of(Portions::of_text(alloc, Vec::new(alloc)))
     } else {
-        Reply::of_passed(alloc, pieces, length, wanted)?
+        Reply::of_passed(alloc, pieces, length, Some(wanted))?
     };
     let mut response = Response::new(alloc, reply);
     *response.status_mut() = status_of(status);
     add_object_fields(alloc, response.headers_mut(), fields.as_slice(), false)?;
     Some(response)
+}
+
+// The response with an answer that is still collected, and this Cache-Status. Returns `None` if out of memory, or if there are too many
+// fields.
+fn early_response<H: Answers, I: Drop>(
+    alloc: Global,
+    early: Box<Early>,
+    told: Vec<u8>,
+) -> Option<Response<Reply<H, I>>> {
+    let Early {
+        fields,
+        length,
+        pieces,
+    } = Box::into_inner(early);
+    let reply = Reply::of_passed(alloc, pieces, Some(length), None)?;
+    let mut response = Response::new(alloc, reply);
+    add_object_fields(alloc, response.headers_mut(), fields.as_slice(), false)?;
+    with_own_fields(alloc, Some(response), None, told)
 }
 
 // The response with the administration's page. Returns `None` if out of memory.

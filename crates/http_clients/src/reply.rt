@@ -18,6 +18,9 @@ use http_traffic::Piece;
 use object_body::Portions;
 use std::alloc::{AllocError, Global};
 
+// The most octets of a frame of an answer that is passed on: as many as the HTTP server sends without a copy of its own.
+const MOST_OCTETS: usize = 128 * 1024;
+
 /// Octets that are known when the response begins, or pieces that are made while it is sent, or those of an answer that is passed on.
 /// What became of the request is told when this is dropped.
 #[derive(Drop)]
@@ -33,8 +36,10 @@ pub(crate) struct Reply<H: Answers, I> {
 struct Passed<I> {
     pieces: mpsc::Receiver<Piece>,
     length: Option<u64>,
-    // Ends the passage when it is dropped.
-    wanted: oneshot::Sender<()>,
+    // What is left of the piece that came last.
+    rest: Bytes,
+    // Ends the passage when it is dropped. None if what brings the answer goes on without its client.
+    wanted: Option<oneshot::Sender<()>>,
     upload: Option<Box<Upload<I>>>,
     // None if there are too many handles.
     stage: Option<SharedStage>,
@@ -89,11 +94,12 @@ impl<H: Answers, I: Drop> Reply<H, I> {
         alloc: Global,
         pieces: mpsc::Receiver<Piece>,
         length: Option<u64>,
-        wanted: oneshot::Sender<()>,
+        wanted: Option<oneshot::Sender<()>>,
     ) -> Option<Reply<H, I>> {
         let passed = Passed {
             pieces,
             length,
+            rest: Bytes::new(),
             wanted,
             upload: None,
             stage: None,
@@ -132,14 +138,16 @@ impl<H: Answers, I: Drop> Reply<H, I> {
         let Some(passed) = &mut self.passed else {
             return Poll::Ready(None);
         };
+        if !passed.rest.is_empty() {
+            return Poll::Ready(self.passed_frame());
+        }
         match ready!(passed.poll_piece(cx)) {
             Some(Piece::Octets(octets)) => {
-                let count = octets.len() as u64;
-                self.note(count, false);
-                match Bytes::from_vec(octets) {
-                    Ok(octets) => Poll::Ready(Some(Ok(Frame::data(octets)))),
-                    Err(_) => Poll::Ready(Some(Err(AllocError))),
-                }
+                let Ok(octets) = Bytes::from_vec(octets) else {
+                    return Poll::Ready(Some(Err(AllocError)));
+                };
+                passed.rest = octets;
+                Poll::Ready(self.passed_frame())
             }
             Some(Piece::End) => {
                 passed.rest();
@@ -149,6 +157,19 @@ impl<H: Answers, I: Drop> Reply<H, I> {
             // Whatever the error, the connection ends without the end of the content.
             None => Poll::Ready(Some(Err(AllocError))),
         }
+    }
+
+    // A frame with the next octets of the piece that came last. Errors: out of memory.
+    fn passed_frame(&mut self) -> Option<Result<Frame<Bytes>, AllocError>>
+        ensures { self.new.coming ≡ self.old.coming }
+    {
+        let passed = self.passed.as_mut()?;
+        let most = passed.rest.len().min(MOST_OCTETS);
+        let Ok(octets) = passed.rest.split_to(most) else {
+            return Some(Err(AllocError));
+        };
+        self.note(octets.len() as u64, false);
+        Some(Ok(Frame::data(octets)))
     }
 
     // The next frame of a body whose octets are known, or that is passed on. Errors: it was cut, or out of memory.

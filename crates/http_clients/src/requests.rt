@@ -2,7 +2,7 @@
 use crate::account::SharedFacts;
 use futures::Future;
 use futures::channel::mpsc;
-use http_traffic::{Coming, PassedHead, Piece, Road, Shape, Told, TunnelEnd};
+use http_traffic::{Coming, Early, PassedHead, Piece, Road, Shape, Told, TunnelEnd};
 use object_store::SharedObject;
 use std::alloc::AllocError;
 use std::net::{IpAddr, SocketAddr};
@@ -64,6 +64,11 @@ pub(crate) enum Given {
     Capture(mpsc::Receiver<Vec<u8>>),
     /// The answer to a request that was passed on.
     Passed(Box<PassedAnswer>),
+    /// An answer that is still collected, with this Cache-Status.
+    Early {
+        early: Box<Early>,
+        told: Vec<u8>,
+    },
     /// A text with status 401, for a client that has to show a bearer token (RFC 6750, section 3).
     Challenge(Vec<u8>),
 }

@@ -13,8 +13,8 @@ use futures::task::{Context, Poll};
 use futures::{Future, ready};
 use http_rules::end_to_end;
 use http_traffic::{
-    Asking, Coming, FetchFault, FollowUp, Forward, Front, Outcome, PassFault, PassOn, PassedHead,
-    Passing, Road, Shape, Supplier, Told, TunnelEnd,
+    Asking, Coming, Early, FetchFault, FollowUp, Forward, Front, Outcome, PassFault, PassOn,
+    PassedHead, Passing, Road, Shape, Supplier, Told, TunnelEnd,
 };
 use hyper::HeaderMap;
 use object_store::SharedObject;
@@ -311,7 +311,8 @@ impl<F: Front + FollowUp + PassOn> Waiting<F> {
         let Ok(answer) = ready!(waits.answer.poll(cx)) else {
             return Poll::Ready(None);
         };
-        waits.guard.is_armed = false;
+        // Nothing more comes of the node for a client that has the answer while it is collected.
+        waits.guard.is_armed = matches!(answer, Outcome::Early { .. });
         Poll::Ready(Some(answer))
     }
 
@@ -444,7 +445,7 @@ impl<F: Front + FollowUp + PassOn> Waiting<F> {
         let object = match answer {
             Outcome::Hit { object, .. } => object,
             Outcome::Got { object, .. } if waits.forward != Forward::Bypass => object,
-            Outcome::Got { .. } | Outcome::Fail(_) => return Shape::Whole,
+            Outcome::Got { .. } | Outcome::Early { .. } | Outcome::Fail(_) => return Shape::Whole,
         };
         let Ok(mut front) = waits.guard.context.front.try_borrow_mut() else {
             return Shape::Whole;
@@ -546,6 +547,7 @@ fn given_of(
             supplier,
             is_stored,
         } => (object, stale_age(supplier), supplier, is_stored),
+        Outcome::Early { early, .. } => return early_given(alloc, label, forward, early),
         Outcome::Fail(status) => return Err(status),
     };
     let told = match (age, supplier) {
@@ -561,6 +563,20 @@ fn given_of(
             age,
             told,
         }),
+        Err(_) => Err(503),
+    }
+}
+
+// The content of the response with an answer that is still collected. Whether it will be stored is not known. Errors: 503 if out of
+// memory.
+fn early_given(
+    alloc: Global,
+    label: &[u8],
+    forward: Forward,
+    early: Box<Early>,
+) -> Result<Given, u16> {
+    match told_forward(alloc, label, forward, false) {
+        Ok(told) => Ok(Given::Early { early, told }),
         Err(_) => Err(503),
     }
 }

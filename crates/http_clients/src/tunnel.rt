@@ -10,7 +10,7 @@ use futures::channel::oneshot;
 use futures::task::{Context, Poll};
 use futures::{Future, ready};
 use http_body::Body;
-use http_traffic::{Server, Ticket, TunnelEnd};
+use http_traffic::{Addresses, Server, Ticket, TunnelEnd};
 use hyper::body::Incoming;
 use hyper::rt::Timer;
 use hyper::server::conn::http1::{Connection, Parts};
@@ -87,7 +87,7 @@ impl<R: Net + Clock + Copy> Dialer<R> {
         self.handle.time().timeout(&self.rt, limit, connecting).ok()
     }
 
-    // Waits for the address of this server, with a timeout. Returns `None` if out of memory.
+    // Waits for the addresses of this server, with a timeout. Returns `None` if out of memory.
     fn seek(&self, server: Server, limit: Duration) -> Option<Timeout<Seeking>> {
         let seeking = Seeking { server };
         self.handle.time().timeout(&self.rt, limit, seeking).ok()
@@ -110,18 +110,18 @@ impl<R: Net + Clock + Copy> Dialer<R> {
     }
 }
 
-// Waits for the address of a server. `None` if its name has none.
+// Waits for the addresses of a server. `None` if its name has none.
 #[derive(Drop)]
 struct Seeking {
     server: Server,
 }
 
 impl Future for Seeking {
-    type Output = Option<SocketAddr>;
+    type Output = Option<Addresses>;
 
-    fn poll(&mut self, cx: &mut Context<'_>) -> Poll<Option<SocketAddr>> {
+    fn poll(&mut self, cx: &mut Context<'_>) -> Poll<Option<Addresses>> {
         match &mut self.server {
-            Server::At(server) => Poll::Ready(Some(*server)),
+            Server::At(server) => Poll::Ready(Some(Addresses::one(*server))),
             Server::Sought(sought) => Poll::Ready(ready!(sought.poll(cx)).ok()),
         }
     }
@@ -247,9 +247,9 @@ fn agrees(head: &[u8]) -> bool {
         && matches!(head.get(12), Some(b' ' | b'\r'))
 }
 
-/// The way to the server of a tunnel: its address is awaited, admitted if it has to be, and connected; a parent is greeted. Each of
-/// these has the time to connect. Errors: the status to answer: 403 if the server is not admitted, 504 if time runs out, 503 without
-/// memory, 502 if there is no way otherwise.
+/// The way to the server of a tunnel: its addresses are awaited, admitted if they have to be, and connected, the second where the first
+/// cannot be; a parent is greeted. Each of these has the time to connect, which two addresses share. Errors: the status to answer: 403 if
+/// no address is admitted, 504 if time runs out, 503 without memory, 502 if there is no way otherwise.
 #[derive(Drop)]
 pub(crate) struct Opening<R, H> {
     dialer: Dialer<R>,
@@ -262,6 +262,9 @@ pub(crate) struct Opening<R, H> {
     // Each until it is ready.
     seeking: Option<Timeout<Seeking>>,
     reaching: Option<Timeout<ConnectFuture>>,
+    // The address that has its turn where the one that is being connected cannot be, and the time of each of both.
+    other: Option<SocketAddr>,
+    share: Duration,
     greeted: Option<Timeout<Greeting>>,
 }
 
@@ -287,11 +290,25 @@ impl<R: Net + Clock + Copy, H: Answers> Opening<R, H> {
             ticket: Some(ticket),
             seeking,
             reaching: None,
+            other: None,
+            share: connecting,
             greeted: None,
         }
     }
 
-    // Waits for the address of the server, and begins to connect it. Errors: the status to answer.
+    // Those of these addresses that a tunnel may lead to. `None` if there is none.
+    fn admitted(&self, servers: Addresses) -> Option<Addresses> {
+        if !self.is_origin {
+            return Some(servers);
+        }
+        let is_other = match servers.other {
+            Some(other) => self.answers.admits(other),
+            None => false,
+        };
+        servers.admitted(self.answers.admits(servers.first), is_other)
+    }
+
+    // Waits for the addresses of the server, and begins to connect the first. Errors: the status to answer.
     fn poll_address(&mut self, cx: &mut Context<'_>) -> Poll<Result<(), u16>>
         ensures registered { OnPending result (Covers cx.new (λ _. ⊥)) }
         ensures kept { Keeps cx.old cx.new }
@@ -301,15 +318,17 @@ impl<R: Net + Clock + Copy, H: Answers> Opening<R, H> {
         };
         let sought = ready!(seeking.poll(cx));
         self.seeking = None;
-        let server = match sought {
-            Ok(Some(server)) => server,
+        let servers = match sought {
+            Ok(Some(servers)) => servers,
             Ok(None) => return Poll::Ready(Err(502)),
             Err(_elapsed) => return Poll::Ready(Err(504)),
         };
-        if self.is_origin && !self.answers.admits(server) {
+        let Some(servers) = self.admitted(servers) else {
             return Poll::Ready(Err(403));
-        }
-        self.reaching = self.dialer.connect(server, self.connecting);
+        };
+        self.share = servers.share(self.connecting);
+        self.other = servers.other;
+        self.reaching = self.dialer.connect(servers.first, self.share);
         Poll::Ready(Ok(()))
     }
 
@@ -323,6 +342,12 @@ impl<R: Net + Clock + Copy, H: Answers> Opening<R, H> {
         };
         let reached = ready!(reaching.poll(cx));
         self.reaching = None;
+        if !matches!(&reached, Ok(Ok(_)))
+            && let Some(other) = self.other.take()
+        {
+            self.reaching = self.dialer.connect(other, self.share);
+            return cx.yield_now();
+        }
         let socket = match reached {
             Ok(Ok(socket)) => socket,
             Ok(Err(_)) => return Poll::Ready(Err(502)),

@@ -35,6 +35,16 @@ pub trait Purse: Drop {
         ensures kept { Keeps cx.old cx.new };
 }
 
+/// Is shown a content while it is gathered.
+pub trait Follow: Drop {
+    /// These octets have come so far.
+    fn follow(&mut self, cx: &mut Context<'_>, octets: &[u8])
+        ensures kept { Keeps cx.old cx.new };
+
+    /// The content is complete, and these are its octets.
+    fn finish(&mut self, octets: &[u8]);
+}
+
 /// How the reading of a content ended that is not paid for.
 #[derive(Drop)]
 pub enum Ending {
@@ -193,9 +203,9 @@ pub struct Content<P> {
 
 /// The future of a content: gathers the octets of a body in one vector. What a body has beyond its first `free` octets is paid for:
 /// of an announced length before the first octet is read, and otherwise as octets come. The vector has room for an announced length
-/// once the first octet has come.
+/// once the first octet has come. It is shown to `W` as it comes.
 #[derive(Drop)]
-pub struct Gathered<B, P> {
+pub struct Gathered<B, P, W> {
     body: B,
     // The most octets.
     limit: usize,
@@ -210,17 +220,20 @@ pub struct Gathered<B, P> {
     due: usize,
     // Octets that came, and are added once they are paid for.
     piece: Option<Bytes>,
+    follower: W,
 }
 
-impl<I: Drop, P: Purse> Gathered<Incoming<I>, P> {
-    /// Reads this body of at most `limit` octets, of which `free` need not be paid for. Without a purse it fails, as out of memory.
+impl<I: Drop, P: Purse, W: Follow> Gathered<Incoming<I>, P, W> {
+    /// Reads this body of at most `limit` octets, of which `free` need not be paid for, and shows it to `follower`. Without a purse it
+    /// fails, as out of memory.
     pub fn new(
         alloc: Global,
         body: Incoming<I>,
         limit: usize,
         free: usize,
         purse: Option<P>,
-    ) -> Gathered<Incoming<I>, P> {
+        follower: W,
+    ) -> Gathered<Incoming<I>, P, W> {
         let announced = usize::try_from(body.size_hint().lower()).unwrap_or(usize::MAX);
         let free = limit.min(free);
         Gathered {
@@ -232,6 +245,7 @@ impl<I: Drop, P: Purse> Gathered<Incoming<I>, P> {
             paid: free,
             due: announced.saturating_sub(free),
             piece: None,
+            follower,
         }
     }
 
@@ -283,6 +297,7 @@ impl<I: Drop, P: Purse> Gathered<Incoming<I>, P> {
     // The complete content. Returns `None` if it has been given before.
     fn finish(&mut self) -> Option<Content<P>> {
         let purse = self.purse.take()?;
+        self.follower.finish(self.octets.as_slice());
         let alloc = *self.octets.allocator();
         let mut octets = std::mem::replace(&mut self.octets, Vec::new(alloc));
         octets.shrink_to_fit();
@@ -290,7 +305,7 @@ impl<I: Drop, P: Purse> Gathered<Incoming<I>, P> {
     }
 }
 
-impl<I: Drop, P: Purse> Future for Gathered<Incoming<I>, P> {
+impl<I: Drop, P: Purse, W: Follow> Future for Gathered<Incoming<I>, P, W> {
     type Output = Result<Content<P>, ReadFault>;
 
     fn poll(&mut self, cx: &mut Context<'_>) -> Poll<Result<Content<P>, ReadFault>> {
@@ -304,6 +319,7 @@ impl<I: Drop, P: Purse> Future for Gathered<Incoming<I>, P> {
             if self.add().is_none() {
                 return Poll::Ready(Err(ReadFault::NoMemory));
             }
+            self.follower.follow(cx, self.octets.as_slice());
             match ready!(self.body.poll_frame(cx)) {
                 Some(Ok(frame)) => self.keep(frame),
                 Some(Err(error)) => return Poll::Ready(Err(fault_of(&error))),

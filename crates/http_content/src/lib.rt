@@ -9,7 +9,8 @@ mod heads;
 mod relay;
 
 pub use content::{
-    AtMost, Content, Ending, Excess, Gathered, Gathering, Hear, Heard, Purse, Read, ReadFault,
+    AtMost, Content, Ending, Excess, Follow, Gathered, Gathering, Hear, Heard, Purse, Read,
+    ReadFault,
 };
 pub use heads::{add_field, add_fields, add_object_fields, has_foreign_coding};
 pub use relay::{Relay, Relayed};

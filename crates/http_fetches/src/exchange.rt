@@ -2,15 +2,18 @@
 ghost use Rattle.std.specs.Prelude.{◌≡◌, IfSome};
 
 use crate::budget::{Budget, Share};
+use crate::early::Early;
+use crate::fetching::FetchRules;
 use crate::kept::Kept;
 use crate::moves::{Moves, Noted, Patience};
 use bytes::Bytes;
 use futures::task::{Context, Poll};
 use futures::{Future, ready};
+use http_body::Body;
 use http_body_util::Empty;
 use http_content::{Content, Gathered, ReadFault, add_fields, has_foreign_coding};
 use http_rules::{lasts, may_retry};
-use http_traffic::{FetchFault, Page};
+use http_traffic::{Admit, FetchFault, Page};
 use hyper::body::Incoming;
 use hyper::client::conn::http1;
 use hyper::client::conn::http1::{Parts, ResponseFuture, WithoutShutdown};
@@ -18,6 +21,7 @@ use hyper::{HeaderMap, Request, Version, header};
 use paced_stream::{FETCH_TURN, Paced};
 use std::alloc::Global;
 use std::net::SocketAddr;
+use std::rc::Rc;
 use std::sync::{Arc, Wait};
 use std::time::{Clock, Duration};
 use tokio::net::{ConnectFuture, TcpStream};
@@ -159,7 +163,7 @@ impl<T: Talk> Future for Call<T> {
 
 /// A GET request for one page.
 #[derive(Drop)]
-pub struct Get<R: Wait + Copy> {
+pub struct Get<R: Wait + Copy, A> {
     pub rt: R,
     pub alloc: Global,
     pub http: http1::Builder,
@@ -180,9 +184,13 @@ pub struct Get<R: Wait + Copy> {
     pub kept: Option<Kept<R>>,
     /// What is noted of the connection that was kept and that the exchange has begun on.
     pub used: Option<Moves>,
+    /// The number of the fetch.
+    pub fetch: u32,
+    /// Who gives the answer to the client that began the fetch, while it is collected. None where no client may have it.
+    pub early: Option<Rc<FetchRules<A>>>,
 }
 
-impl<R: Wait + Copy> Get<R> {
+impl<R: Wait + Copy, A: Drop> Get<R, A> {
     // The request to be sent. Returns `None` if a part of it is no valid HTTP, or if out of memory.
     fn request(&self) -> Option<Request<Empty<Bytes>>> {
         let mut request = Request::get(self.alloc, self.target.as_str())
@@ -194,7 +202,7 @@ impl<R: Wait + Copy> Get<R> {
     }
 }
 
-impl<R: Wait + Copy> Get<R> {
+impl<R: Wait + Copy, A: Drop> Get<R, A> {
     // Whether its connection may be kept: connections are, and the request has no credentials. There are servers that take those for
     // the credentials of all requests on their connection (RFC 9110, section 3.3), so that another client would be taken for this one.
     fn may_last(&self) -> bool {
@@ -209,7 +217,7 @@ fn has_credentials(fields: &[(Vec<u8>, Vec<u8>)]) -> bool {
         .any(|(name, _)| name.as_slice() == b"authorization".as_slice())
 }
 
-impl<R: Wait + Clock + Copy> Get<R> {
+impl<R: Wait + Clock + Copy, A: Admit> Get<R, A> {
     // The patience with a connection whose octets are noted here, if it is limited.
     fn patience(&self, moves: &Moves) -> Option<Patience<R>> {
         let still = self.idle?;
@@ -237,6 +245,15 @@ impl<R: Wait + Clock + Copy> Get<R> {
         }
     }
 
+    // What gives the answer to the client that began the fetch. Where there are too many handles, no client has it.
+    fn early(&self) -> Early<A> {
+        let rules = match &self.early {
+            Some(rules) => rules.clone().ok(),
+            None => None,
+        };
+        Early::new(self.alloc, rules, self.fetch)
+    }
+
     // A connection to this server that was kept.
     fn kept_one(&self, server: SocketAddr) -> Option<Paced> {
         match &self.kept {
@@ -246,8 +263,8 @@ impl<R: Wait + Clock + Copy> Get<R> {
     }
 
     // Starts the exchange over this connection. Returns `None` if the request cannot be made.
-    fn begin(&self, noted: Noted, moves: &Moves) -> Option<Patient<R, Getting<R>>>
-        ensures { IfSome result ⟦<Patient<R, Getting<R>> as Future>⟧.can_poll }
+    fn begin(&self, noted: Noted, moves: &Moves) -> Option<Patient<R, Getting<R, A>>>
+        ensures { IfSome result ⟦<Patient<R, Getting<R, A>> as Future>⟧.can_poll }
     {
         let request = self.request()?;
         let metered = Metered {
@@ -255,6 +272,7 @@ impl<R: Wait + Clock + Copy> Get<R> {
             limit: self.limit,
             free: self.free,
             share: self.share(moves),
+            early: self.early(),
         };
         let patience = self.patience(moves);
         let getting = begun(&self.http, noted, request, metered, self.may_last())?;
@@ -262,10 +280,10 @@ impl<R: Wait + Clock + Copy> Get<R> {
     }
 }
 
-impl<R: Wait + Clock + Copy> Talk for Get<R> {
+impl<R: Wait + Clock + Copy, A: Admit> Talk for Get<R, A> {
     type Page = Paid<Share<R>>;
 
-    type Talking = Patient<R, Getting<R>>;
+    type Talking = Patient<R, Getting<R, A>>;
 
     fn talk(&mut self, socket: TcpStream) -> Option<Self::Talking> {
         let _ = socket.set_nodelay(true);
@@ -302,17 +320,17 @@ impl<R: Wait + Clock + Copy> Talk for Get<R> {
 }
 
 /// The exchange of a fetch, its reply beside its connection.
-pub type Getting<R> = Borne<Reply<Metered<R>>, WithoutShutdown<Noted, Empty<Bytes>>>;
+pub type Getting<R, A> = Borne<Reply<Metered<R, A>>, WithoutShutdown<Noted, Empty<Bytes>>>;
 
 // Begins an exchange over this connection. Returns `None` if out of memory.
-fn begun<R: Wait + Copy>(
+fn begun<R: Wait + Copy, A: Admit>(
     http: &http1::Builder,
     noted: Noted,
     request: Request<Empty<Bytes>>,
-    metered: Metered<R>,
+    metered: Metered<R, A>,
     may_last: bool,
-) -> Option<Getting<R>>
-    ensures { IfSome result ⟦<Getting<R> as Future>⟧.can_poll }
+) -> Option<Getting<R, A>>
+    ensures { IfSome result ⟦<Getting<R, A> as Future>⟧.can_poll }
 {
     let Ok((mut sender, conn)) = http.handshake(noted) else {
         return None;
@@ -426,29 +444,38 @@ pub trait Read: Drop {
     /// The future of the content.
     type Reading: Future<Output = Result<Self::Content, ReadFault>>;
 
-    /// Starts reading this body.
-    fn read(&mut self, body: Self::Body) -> Self::Reading
+    /// Starts reading the body of an answer with this status and these fields.
+    fn read(&mut self, status: u16, fields: &HeaderMap, body: Self::Body) -> Self::Reading
         ensures { Self.Reading.can_poll result };
 }
 
 /// Reads one body of at most `limit` octets. The share pays for what is beyond the first `free`.
 #[derive(Drop)]
-pub struct Metered<R: Wait + Copy> {
+pub struct Metered<R: Wait + Copy, A> {
     alloc: Global,
     limit: usize,
     free: usize,
     share: Option<Share<R>>,
+    early: Early<A>,
 }
 
-impl<R: Wait + Copy> Read for Metered<R> {
+impl<R: Wait + Copy, A: Admit> Read for Metered<R, A> {
     type Body = Incoming<Noted>;
 
     type Content = Content<Share<R>>;
 
-    type Reading = Gathered<Incoming<Noted>, Share<R>>;
+    type Reading = Gathered<Incoming<Noted>, Share<R>, Early<A>>;
 
-    fn read(&mut self, body: Incoming<Noted>) -> Gathered<Incoming<Noted>, Share<R>> {
-        Gathered::new(self.alloc, body, self.limit, self.free, self.share.take())
+    fn read(
+        &mut self,
+        status: u16,
+        fields: &HeaderMap,
+        body: Incoming<Noted>,
+    ) -> Gathered<Incoming<Noted>, Share<R>, Early<A>> {
+        let length = body.size_hint().exact();
+        let early = self.early.of_answer(status, fields, length);
+        let share = self.share.take();
+        Gathered::new(self.alloc, body, self.limit, self.free, share, early)
     }
 }
 
@@ -553,6 +580,7 @@ impl<P: Drop, B: Read<Body = Incoming<Noted>, Content = Content<P>>> Future for 
                 return Poll::Ready(Err(FetchFault::NotHttp));
             }
             let status = parts.status.as_u16();
+            self.body = Some(self.read.read(status, &parts.headers, body));
             self.head = Some(Head::of(
                 self.alloc,
                 status,
@@ -560,7 +588,6 @@ impl<P: Drop, B: Read<Body = Incoming<Noted>, Content = Content<P>>> Future for 
                 parts.headers,
                 self.may_last,
             ));
-            self.body = Some(self.read.read(body));
         }
         let Some(reading) = &mut self.body else {
             return Poll::Ready(Err(FetchFault::NoMemory));

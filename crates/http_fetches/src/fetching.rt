@@ -14,7 +14,7 @@ use futures::channel::oneshot;
 use futures::future::Either;
 use futures::task::{Context, Poll};
 use futures::{Future, ready};
-use http_traffic::{Admit, FetchEnd, FetchFault, Fetched, Job, Order, Server, Work};
+use http_traffic::{Addresses, Admit, FetchEnd, FetchFault, Fetched, Job, Order, Server, Work};
 use hyper::client::conn::http1;
 use std::alloc::{AllocGlobal, Global};
 use std::hash::RandomState;
@@ -83,19 +83,19 @@ impl<R: Net + Clock + Copy, A: Admit> Getter<R, A> {
     }
 }
 
-impl<R: Wait + Net + Clock + Copy, A: Admit> Getter<R, A> {
-    // A visit with the time that it has. Returns `None` if out of memory.
-    fn timed(
-        &self,
-        deadline: Instant,
-        visit: Visit<R, A, Get<R>>,
-    ) -> Option<Box<Timeout<Visit<R, A, Get<R>>>>>
-        ensures { IfSome result (λ b. timeout_future (box_value b) ≡ visit) }
-    {
-        match self.handle.time().timeout_at(deadline, visit) {
-            Ok(timed) => boxed(self.alloc, timed),
-            Err(_) => None,
-        }
+// A future with the time that it has. Returns `None` if out of memory. Of the future no more is known here than that it can be dropped: the parts of
+// a visit are elaborated anew wherever it is named.
+fn timed<F: Drop>(
+    handle: &Handle,
+    alloc: Global,
+    deadline: Instant,
+    future: F,
+) -> Option<Box<Timeout<F>>>
+    ensures { IfSome result (λ b. timeout_future (box_value b) ≡ future) }
+{
+    match handle.time().timeout_at(deadline, future) {
+        Ok(timed) => boxed(alloc, timed),
+        Err(_) => None,
     }
 }
 
@@ -124,16 +124,18 @@ impl<R: Wait + Net + Clock + Copy, A: Admit> Begin for Getter<R, A> {
                     target,
                     fields,
                     is_origin,
+                    is_early,
                     deadline,
                     wanted,
                 } = order;
-                let get = self.get(host, target, fields);
+                let early = self.early(is_early);
+                let get = self.get(fetch, host, target, fields, early);
                 let visit = Visit::new(server, self.dialer(is_origin), get);
                 let fetch = Fetch {
                     fetch,
                     attempt,
                     wanted,
-                    visit: self.timed(deadline, visit),
+                    visit: timed(&self.handle, self.alloc, deadline, visit),
                 };
                 Doing {
                     doing: Either::Left(fetch),
@@ -153,14 +155,14 @@ impl<R: Wait + Net + Clock + Copy, A: Admit> Begin for Getter<R, A> {
 
 // A job in progress. A type of its own, since its parts have large ones that are elaborated anew wherever they are named.
 #[derive(Drop)]
-struct Doing<R: Wait + Clock + Copy, A> {
-    doing: Either<Fetch<R, A, Get<R>>, Pass<R, A, Post>>,
+struct Doing<R: Wait + Clock + Copy, A: Admit> {
+    doing: Either<Fetch<R, A, Get<R, A>>, Pass<R, A, Post>>,
 }
 
 impl<R: Wait + Net + Clock + Copy, A: Admit> Future for Doing<R, A> {
     type Output = Done<Share<R>>;
 
-    ghost can_poll = { λ d. ⟦<Either<Fetch<R, A, Get<R>>, Pass<R, A, Post>> as Future>⟧.can_poll d.doing };
+    ghost can_poll = { λ d. ⟦<Either<Fetch<R, A, Get<R, A>>, Pass<R, A, Post>> as Future>⟧.can_poll d.doing };
 
     fn poll(&mut self, cx: &mut Context<'_>) -> Poll<Done<Share<R>>> {
         self.doing.poll(cx)
@@ -192,8 +194,24 @@ impl<R: Wait + Net + Clock + Copy, A: Admit> Getter<R, A> {
         }
     }
 
-    // The exchange of a fetch.
-    fn get(&self, host: String, target: String, fields: Vec<(Vec<u8>, Vec<u8>)>) -> Get<R> {
+    // Who gives the answer of a fetch to the client that began it, if that may have it. `None` also if there are too many handles.
+    fn early(&self, is_early: bool) -> Option<Rc<FetchRules<A>>> {
+        if is_early {
+            self.rules.clone().ok()
+        } else {
+            None
+        }
+    }
+
+    // The exchange of a fetch, whose answer `early` gives to the client that began it.
+    fn get(
+        &self,
+        fetch: u32,
+        host: String,
+        target: String,
+        fields: Vec<(Vec<u8>, Vec<u8>)>,
+        early: Option<Rc<FetchRules<A>>>,
+    ) -> Get<R, A> {
         Get {
             rt: self.rt,
             alloc: self.alloc,
@@ -208,6 +226,8 @@ impl<R: Wait + Net + Clock + Copy, A: Admit> Getter<R, A> {
             budget: Arc::try_clone(&self.rules.budget).ok(),
             kept: self.kept(),
             used: None,
+            fetch,
+            early,
         }
     }
 }
@@ -247,12 +267,15 @@ pub enum Visited<P> {
     Failed(FetchFault),
 }
 
-/// Waits for the address of the server, then makes the call.
+/// Waits for the addresses of the server, then makes the call. Where the server cannot be connected to at the first, the other has its
+/// turn.
 #[derive(Drop)]
 pub struct Visit<R, A, T: Talk> {
     server: Server,
     dialer: Option<Dialer<R, A>>,
     talk: Option<T>,
+    // The address that has its turn where the server of the call is not connected to.
+    other: Option<SocketAddr>,
     // The call, once it has begun.
     call: Option<Call<T>>,
 }
@@ -266,38 +289,58 @@ impl<R: Net + Clock + Copy, A: Admit, T: Talk> Visit<R, A, T> {
             server,
             dialer,
             talk: Some(talk),
+            other: None,
             call: None,
         }
     }
 
-    // Waits for the address of the server. `None` if its name has none.
-    fn poll_server(&mut self, cx: &mut Context<'_>) -> Poll<Option<SocketAddr>>
+    // Waits for the addresses of the server. `None` if its name has none.
+    fn poll_server(&mut self, cx: &mut Context<'_>) -> Poll<Option<Addresses>>
         ensures same { self.new.call ≡ self.old.call }
         ensures registered { OnPending result (Covers cx.new (λ _. ⊥)) }
         ensures kept { Keeps cx.old cx.new }
     {
         match &mut self.server {
-            Server::At(server) => Poll::Ready(Some(*server)),
+            Server::At(server) => Poll::Ready(Some(Addresses::one(*server))),
             Server::Sought(sought) => Poll::Ready(ready!(sought.poll(cx)).ok()),
         }
     }
 
-    // Whether this server is known not to be admitted.
-    fn refuses(&self, server: SocketAddr) -> bool {
-        match &self.dialer {
-            Some(dialer) => !dialer.admits(server),
+    // Those of these addresses that are not known to be refused. `None` if there is none.
+    fn admitted(&self, servers: Addresses) -> Option<Addresses> {
+        let Some(dialer) = &self.dialer else {
+            return Some(servers);
+        };
+        let is_other = match servers.other {
+            Some(other) => dialer.admits(other),
             None => false,
-        }
+        };
+        servers.admitted(dialer.admits(servers.first), is_other)
     }
 
-    // The call to this address. Returns `None` if it has begun before, or if out of memory.
-    fn call(&mut self, server: SocketAddr) -> Option<Call<T>>
+    // The call to one of these addresses: over a connection to either that was kept, or to the first. Returns `None` if it has begun
+    // before, or if out of memory.
+    fn call(&mut self, servers: Addresses) -> Option<Call<T>>
         ensures { IfSome result (λ c. IfSome c.talking T.Talking.can_poll) }
     {
+        let Addresses { first, other } = servers;
+        if let Some(dialer) = &mut self.dialer {
+            dialer.connecting = servers.share(dialer.connecting);
+        }
         let mut talk = self.talk.take()?;
-        match talk.resume(server) {
-            Some(talking) => Some(Call::resumed(server, talk, talking)),
-            None => self.new_call(server, talk),
+        self.other = other;
+        if let Some(talking) = talk.resume(first) {
+            return Some(Call::resumed(first, talk, talking));
+        }
+        let Some(second) = other else {
+            return self.new_call(first, talk);
+        };
+        match talk.resume(second) {
+            Some(talking) => {
+                self.other = Some(first);
+                Some(Call::resumed(second, talk, talking))
+            }
+            None => self.new_call(first, talk),
         }
     }
 
@@ -321,6 +364,22 @@ impl<R: Net + Clock + Copy, A: Admit, T: Talk> Visit<R, A, T> {
         let (server, talk) = call.into_talk();
         self.call = self.new_call(server, talk);
     }
+
+    // Whether the other address has its turn, after the call has failed so.
+    fn turns(&self, fault: FetchFault) -> bool {
+        fault == FetchFault::Connect && self.other.is_some()
+    }
+
+    // Makes the call, whose server was not connected to, to the other address. It is gone if there is none, or if out of memory.
+    fn turn(&mut self)
+        ensures { IfSome self.new.call (λ c. IfSome c.talking T.Talking.can_poll) }
+    {
+        let (Some(call), Some(other)) = (self.call.take(), self.other.take()) else {
+            return;
+        };
+        let (_, talk) = call.into_talk();
+        self.call = self.new_call(other, talk);
+    }
 }
 
 impl<R: Net + Clock + Copy, A: Admit, T: Talk> Future for Visit<R, A, T> {
@@ -330,13 +389,13 @@ impl<R: Net + Clock + Copy, A: Admit, T: Talk> Future for Visit<R, A, T> {
 
     fn poll(&mut self, cx: &mut Context<'_>) -> Poll<Visited<T::Page>> {
         if self.call.is_none() {
-            let Some(server) = ready!(self.poll_server(cx)) else {
+            let Some(servers) = ready!(self.poll_server(cx)) else {
                 return Poll::Ready(Visited::Failed(FetchFault::Lookup));
             };
-            if self.refuses(server) {
+            let Some(servers) = self.admitted(servers) else {
                 return Poll::Ready(Visited::Refused);
-            }
-            self.call = self.call(server);
+            };
+            self.call = self.call(servers);
         }
         let Some(call) = &mut self.call else {
             return Poll::Ready(Visited::Failed(FetchFault::NoMemory));
@@ -349,6 +408,10 @@ impl<R: Net + Clock + Copy, A: Admit, T: Talk> Future for Visit<R, A, T> {
             }
             Err(fault) if call.may_retry(fault) => {
                 self.retry();
+                cx.yield_now()
+            }
+            Err(fault) if self.turns(fault) => {
+                self.turn();
                 cx.yield_now()
             }
             Err(fault) => Poll::Ready(Visited::Failed(fault)),

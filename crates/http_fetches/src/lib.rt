@@ -3,11 +3,12 @@
 //!
 //! The contracts see only that every future is polled in a state in which it may be; nothing is proved about the HTTP messages.
 //!
-//! Tested by: crates/test_edge; tests/serve, tests/serve_slow, tests/serve_passages, tests/serve_kept and
+//! Tested by: crates/test_edge; tests/serve, tests/serve_slow, tests/serve_passages, tests/serve_kept, tests/serve_early and
 //! tests/serve_hostile, which run the built program over loopback.
 #![tactic(auto)]
 
 mod budget;
+mod early;
 mod exchange;
 mod fetching;
 mod kept;

@@ -3,6 +3,7 @@ ghost use Rattle.std.specs.Prelude.{◌≡◌, ◌==◌, IfOk};
 ghost use Rattle.std.specs.List.{list_any};
 ghost use Rattle.http_rules.specs.Origins.{admits, is_own, is_denied, is_port, reached, usual_denials};
 
+use crate::origins_six::SixNetwork;
 use filter_slots::End;
 use node_core::Network;
 use std::alloc::{AllocError, Global};
@@ -34,6 +35,9 @@ pub struct OriginRules {
     pub denied: Vec<Network>,
     /// The only ports that are fetched from; `None` for all.
     pub ports: Option<Vec<u16>>,
+    /// The networks of IPv6 that are never fetched from, beside those that stand for an address of IPv4; `None` where servers of IPv6 are
+    /// not fetched from at all.
+    pub denied_six: Option<Vec<SixNetwork>>,
 }
 
 impl OriginRules {
@@ -64,7 +68,7 @@ impl OriginRules {
     }
 
     // Whether a port is one of the ports, where they are given.
-    fn is_port(&self, port: u16) -> bool
+    pub(crate) fn is_port(&self, port: u16) -> bool
         ensures { result ≡ is_port self.now.ports port }
     {
         match &self.ports {

@@ -1,5 +1,5 @@
 //! Requests of clients, their answers, and what accepts them.
-use crate::passing::{Coming, Passing, Road, TunnelEnd};
+use crate::passing::{Coming, Early, Passing, Road, TunnelEnd};
 use futures::channel::oneshot;
 use http_header::HeaderMap;
 use object_store::{Object, SharedObject};
@@ -19,6 +19,8 @@ pub struct Asked {
     pub content: Vec<u8>,
     /// The address of who sent it.
     pub from: IpAddr,
+    /// Whether its version is older than HTTP/1.1.
+    pub is_old: bool,
 }
 
 /// Whom an object was fetched from.
@@ -48,6 +50,12 @@ pub enum Outcome {
         supplier: Option<Supplier>,
         /// Whether the client is told that the object was stored.
         is_stored: bool,
+    },
+    /// What is being fetched, while it is collected, and whom it comes from. The client is given nothing else, whatever becomes of the
+    /// fetch.
+    Early {
+        early: Box<Early>,
+        supplier: Supplier,
     },
     /// No object; answer with this status.
     Fail(u16),

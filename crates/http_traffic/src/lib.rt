@@ -12,8 +12,11 @@ mod passing;
 pub use asking::{
     Asked, Asking, FollowUp, Forward, Front, How, Outcome, PassOn, Shape, Supplier, Told,
 };
-pub use orders::{Admit, FetchEnd, FetchFault, Fetched, Job, Order, Page, Server, Work};
+pub use orders::{
+    Addresses, Admit, FetchEnd, FetchFault, Fetched, Job, Order, Page, Server, Work,
+    address_in_digits,
+};
 pub use panel::{CaptureFault, Figures, Panel, PutFault, StoreFault, StoreOrder};
 pub use passing::{
-    Coming, PassFault, Passage, PassedHead, Passing, Piece, Road, Ticket, TunnelEnd,
+    Coming, Early, PassFault, Passage, PassedHead, Passing, Piece, Road, Ticket, TunnelEnd,
 };

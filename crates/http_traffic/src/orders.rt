@@ -1,9 +1,10 @@
 //! Fetches and their results.
-use crate::passing::Passage;
+use crate::passing::{Early, Passage};
 use futures::channel::oneshot;
 use http_header::HeaderMap;
-use std::net::SocketAddr;
-use std::time::Instant;
+use std::alloc::Global;
+use std::net::{IpAddr, Ipv4Addr, Ipv6Addr, SocketAddr};
+use std::time::{Duration, Instant};
 
 /// A fetch to be made.
 #[derive(Drop)]
@@ -20,10 +21,56 @@ pub struct Order {
     pub fields: Vec<(Vec<u8>, Vec<u8>)>,
     /// Whether the server is an origin server, and so has to be admitted; a neighbour is configured.
     pub is_origin: bool,
+    /// Whether the client that began the fetch may have the answer while it is collected.
+    pub is_early: bool,
     /// When the fetch times out.
     pub deadline: Instant,
     /// Cancels the fetch when its sender is dropped.
     pub wanted: oneshot::Receiver<()>,
+}
+
+/// The address that a host has in digits: one of IPv4, or in brackets one of IPv6 (RFC 3986, section 3.2.2).
+pub fn address_in_digits(host: &str) -> Option<IpAddr> {
+    if let Ok(address) = host.parse::<Ipv4Addr>() {
+        return Some(IpAddr::V4(address));
+    }
+    let address = host.strip_prefix("[")?.strip_suffix("]")?;
+    Some(IpAddr::V6(address.parse::<Ipv6Addr>().ok()?))
+}
+
+/// Where a server is connected to: at the first address, and where that cannot be, at the other one, if its name has one of each kind.
+#[derive(Clone, Copy, Debug, PartialEq, Eq)]
+pub struct Addresses {
+    pub first: SocketAddr,
+    pub other: Option<SocketAddr>,
+}
+
+impl Addresses {
+    /// This address alone.
+    pub fn one(first: SocketAddr) -> Addresses {
+        Addresses { first, other: None }
+    }
+
+    /// Those that are admitted, given whether the first is and whether the other is. `None` if none is.
+    pub fn admitted(self, is_first: bool, is_other: bool) -> Option<Addresses> {
+        let other = if is_other { self.other } else { None };
+        if is_first {
+            Some(Addresses {
+                first: self.first,
+                other,
+            })
+        } else {
+            Some(Addresses::one(other?))
+        }
+    }
+
+    /// The time that each of them has to be connected, of this time for all of them.
+    pub fn share(&self, connecting: Duration) -> Duration {
+        match self.other {
+            Some(_) => connecting.checked_div(2).unwrap_or(connecting),
+            None => connecting,
+        }
+    }
 }
 
 /// The server of an order.
@@ -31,8 +78,8 @@ pub struct Order {
 pub enum Server {
     /// Its address.
     At(SocketAddr),
-    /// Receives its address once its name has been looked up. The fetch fails if the sender is dropped.
-    Sought(oneshot::Receiver<SocketAddr>),
+    /// Receives its addresses once its name has been looked up. The fetch fails if the sender is dropped.
+    Sought(oneshot::Receiver<Addresses>),
 }
 
 /// What a fetch thread does.
@@ -107,8 +154,14 @@ pub struct Fetched {
     pub end: FetchEnd,
 }
 
-/// Knows which servers may be fetched from as origin servers.
+/// Knows which servers may be fetched from as origin servers, and who began a fetch.
 pub trait Admit: Drop {
     /// Whether this server may be.
     fn admits(&self, server: SocketAddr) -> bool;
+
+    /// Gives the answer of this fetch, which has its end-to-end fields alone as yet, to the client that began it, while it is collected.
+    /// Returns whether there is such a client that takes it.
+    fn give_early(&self, _alloc: Global, _fetch: u32, _early: Early) -> bool {
+        false
+    }
 }

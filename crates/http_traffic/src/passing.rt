@@ -35,6 +35,17 @@ pub struct PassedHead {
     pub wanted: oneshot::Sender<()>,
 }
 
+/// An answer with status 200 that is collected for all clients, as the one that began its fetch has it meanwhile.
+#[derive(Drop)]
+pub struct Early {
+    /// Its fields, as the object has them that it becomes.
+    pub fields: Vec<(Vec<u8>, Vec<u8>)>,
+    /// The length of its content.
+    pub length: u64,
+    /// The pieces of its content. They end without `Piece::End` if the answer does not become whole.
+    pub pieces: mpsc::Receiver<Piece>,
+}
+
 /// Why a request that was passed on has no answer.
 #[derive(Clone, Copy, Debug, PartialEq, Eq)]
 pub enum PassFault {

@@ -1,7 +1,8 @@
 //! Host names of servers. Look-ups block, so threads of their own make them, and a fetch waits for its address on its own thread,
 //! under its own deadline. What was found is kept for a while, and a name is looked up once at a time, for all that wait for it.
 //!
-//! Nothing is proved here but that it is free of panics and overflows. Tested by: crates/test_edge, tests/serve, tests/serve_slow.
+//! Nothing is proved here but that it is free of panics and overflows. Tested by: crates/test_edge, tests/serve, tests/serve_slow,
+//! tests/serve_six.
 #![tactic(auto)]
 
 mod table;
@@ -9,12 +10,12 @@ mod table;
 use crossbeam_channel::{Receiver, Sender, bounded};
 use futures::channel::mpsc::UnboundedSender;
 use futures::channel::oneshot;
-use http_traffic::{Job, Order, Passage, Server, Work};
+use http_traffic::{Job, Order, Passage, Server, Work, address_in_digits};
 use std::alloc::{AllocError, Global};
-use std::net::{IpAddr, Ipv4Addr, Net, SocketAddr, SocketAddrV4, ToSocketAddrs};
+use std::net::{Net, SocketAddr, ToSocketAddrs};
 use std::sync::{Arc, Mutex, Wait};
 use std::time::{Clock, Instant};
-pub use table::{NameLimits, NameTable, Seeking, Waiter};
+pub use table::{Found, NameLimits, NameTable, Seeking, Waiter};
 
 /// Has names looked up by threads that run `look_up`.
 #[derive(Drop)]
@@ -22,6 +23,8 @@ pub struct NameDesk {
     table: Arc<Mutex<NameTable>>,
     // Wakes a thread for each name that is queued.
     wakes: Sender<(), Global>,
+    // Whether addresses of IPv6 are used.
+    has_six: bool,
 }
 
 /// What a thread needs that looks up names.
@@ -29,17 +32,29 @@ pub struct NameDesk {
 pub struct NameClerk {
     table: Arc<Mutex<NameTable>>,
     wakes: Receiver<(), Global>,
+    has_six: bool,
 }
 
-/// A desk without names, and what its threads need; `share` gives each its own. Errors: out of memory.
-pub fn open_names(alloc: Global, limits: NameLimits) -> Result<(NameDesk, NameClerk), AllocError> {
+/// A desk without names, and what its threads need; `share` gives each its own. Addresses of IPv6 are used where `has_six`. Errors: out
+/// of memory.
+pub fn open_names(
+    alloc: Global,
+    limits: NameLimits,
+    has_six: bool,
+) -> Result<(NameDesk, NameClerk), AllocError> {
     let table = Arc::new(alloc, Mutex::new(NameTable::new(alloc, limits)))?;
     let (to, wakes) = bounded(alloc, limits.names.max(1))?;
     let desk = NameDesk {
         table: Arc::try_clone(&table)?,
         wakes: to,
+        has_six,
     };
-    Ok((desk, NameClerk { table, wakes }))
+    let clerk = NameClerk {
+        table,
+        wakes,
+        has_six,
+    };
+    Ok((desk, clerk))
 }
 
 impl NameClerk {
@@ -48,6 +63,7 @@ impl NameClerk {
         Ok(NameClerk {
             table: Arc::try_clone(&self.table)?,
             wakes: self.wakes.clone()?,
+            has_six: self.has_six,
         })
     }
 }
@@ -62,8 +78,8 @@ fn lane_of<'a>(lanes: &'a [UnboundedSender<Job>], number: u64) -> Option<&'a Unb
     lanes.get(place as usize)
 }
 
-/// Sends an order to its fetch thread, that of its number. If `name` is not an IPv4 address in digits and its address is not known,
-/// it is looked up meanwhile. Errors: a channel is closed, there is no fetch thread, too many names are sought, the clock cannot be
+/// Sends an order to its fetch thread, that of its number. If `name` is not an address in digits and its address is not known, it is
+/// looked up meanwhile. Errors: a channel is closed, there is no fetch thread, too many names are sought, the clock cannot be
 /// read, or out of memory.
 pub fn hand_over<R: Wait + Clock>(
     rt: &R,
@@ -103,8 +119,8 @@ fn send(lane: &UnboundedSender<Job>, server: Server, work: Work) -> Result<(), N
     }
 }
 
-/// The server of this name: its address in digits, or one that is sought. Returns `None` if too many names are sought, the clock
-/// cannot be read, or out of memory.
+/// The server of this name: its address in digits, or those that are sought; where IPv6 is not used, digits of it are sought, and not
+/// found. Returns `None` if too many names are sought, the clock cannot be read, or out of memory.
 pub fn server_of<R: Wait + Clock>(
     rt: &R,
     alloc: Global,
@@ -112,8 +128,10 @@ pub fn server_of<R: Wait + Clock>(
     name: &str,
     port: u16,
 ) -> Option<Server> {
-    if let Ok(address) = name.parse::<Ipv4Addr>() {
-        return Some(Server::At(SocketAddr::V4(SocketAddrV4::new(address, port))));
+    if let Some(address) = address_in_digits(name)
+        && (address.is_ipv4() || names.has_six)
+    {
+        return Some(Server::At(SocketAddr::new(address, port)));
     }
     let (found, sought) = oneshot::channel(alloc).ok()?;
     let now = Instant::now(rt).ok()?;
@@ -130,7 +148,7 @@ pub fn server_of<R: Wait + Clock>(
 }
 
 /// Looks up names until the desk is gone; several threads may do so at a time. A name that nobody waits for any more is not looked
-/// up. A name gets its first IPv4 address; the fetches of one without fail at once.
+/// up. A name gets its first IPv4 address, and where IPv6 is used the first of that kind too; the fetches of one without fail at once.
 pub fn look_up<R: Wait + Net + Clock>(rt: &R, clerk: &NameClerk) {
     for () in clerk.wakes.iter(rt) {
         for _ in 0..u64::MAX {
@@ -140,22 +158,26 @@ pub fn look_up<R: Wait + Net + Clock>(rt: &R, clerk: &NameClerk) {
             let Some(name) = clerk.table.lock(rt).next(began) else {
                 break;
             };
-            let address = address_of(rt, name.as_str());
+            let addresses = addresses_of(rt, name.as_str(), clerk.has_six);
             let now = Instant::now(rt).unwrap_or(began);
-            clerk.table.lock(rt).tell(now, name.as_str(), address);
+            clerk.table.lock(rt).tell(now, name.as_str(), addresses);
         }
     }
 }
 
-// The first IPv4 address of a name. Waits for the name servers.
-fn address_of<R: Net>(rt: &R, name: &str) -> Option<Ipv4Addr> {
+// The first address of each kind that a name has, of IPv6 where that is used. Waits for the name servers.
+fn addresses_of<R: Net>(rt: &R, name: &str, has_six: bool) -> Option<Found> {
     let Ok(addresses) = (name, 0u16).to_socket_addrs(rt) else {
         return None;
     };
+    let (mut four, mut six) = (None, None);
     for address in addresses {
-        if let IpAddr::V4(address) = address.ip() {
-            return Some(address);
+        let address = address.ip();
+        if address.is_ipv4() {
+            four = four.or(Some(address));
+        } else if has_six {
+            six = six.or(Some(address));
         }
     }
-    None
+    Found::of(four, six)
 }

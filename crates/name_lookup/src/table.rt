@@ -1,9 +1,42 @@
 //! Names, and what is known of them.
 use futures::channel::oneshot;
+use http_traffic::Addresses;
 use std::alloc::{AllocError, Global};
 use std::collections::{BTreeMap, VecDeque};
-use std::net::{Ipv4Addr, SocketAddr, SocketAddrV4};
+use std::net::{IpAddr, SocketAddr};
 use std::time::{Duration, Instant};
+
+/// The addresses of a name: its first one of IPv4, and where it has one of IPv6 too that may be used, that as the other; otherwise the
+/// one that it has.
+#[derive(Clone, Copy, Debug, PartialEq, Eq)]
+pub struct Found {
+    pub first: IpAddr,
+    pub other: Option<IpAddr>,
+}
+
+impl Found {
+    /// The first address of each kind. `None` if there is neither.
+    pub fn of(four: Option<IpAddr>, six: Option<IpAddr>) -> Option<Found> {
+        match four {
+            Some(first) => Some(Found { first, other: six }),
+            None => Some(Found {
+                first: six?,
+                other: None,
+            }),
+        }
+    }
+
+    // These addresses with a port.
+    fn at(self, port: u16) -> Addresses {
+        Addresses {
+            first: SocketAddr::new(self.first, port),
+            other: match self.other {
+                Some(other) => Some(SocketAddr::new(other, port)),
+                None => None,
+            },
+        }
+    }
+}
 
 /// Times and numbers that a table of names keeps to.
 #[derive(Clone, Copy)]
@@ -37,16 +70,16 @@ impl NameLimits {
 #[derive(Drop)]
 pub struct Waiter {
     pub port: u16,
-    /// Takes the address. Its receiver is dropped once the fetch has ended, for whatever reason.
-    pub found: oneshot::Sender<SocketAddr>,
+    /// Takes the addresses. Its receiver is dropped once the fetch has ended, for whatever reason.
+    pub found: oneshot::Sender<Addresses>,
 }
 
 impl Waiter {
-    // Tells this address, or by being dropped that there is none.
-    fn tell(self, address: Option<Ipv4Addr>) {
+    // Tells these addresses, or by being dropped that there is none.
+    fn tell(self, addresses: Option<Found>) {
         let Waiter { port, found } = self;
-        if let Some(address) = address {
-            let _ = found.send(SocketAddr::V4(SocketAddrV4::new(address, port)));
+        if let Some(addresses) = addresses {
+            let _ = found.send(addresses.at(port));
         }
     }
 }
@@ -67,9 +100,9 @@ pub enum Seeking {
 enum State {
     // It is to be looked up, or is being looked up, for these.
     Sought(Vec<Waiter>),
-    // It has this address, or none, until then.
+    // It has these addresses, or none, until then.
     Told {
-        address: Option<Ipv4Addr>,
+        addresses: Option<Found>,
         until: Instant,
     },
 }
@@ -137,8 +170,8 @@ impl NameTable {
                     waiting.push(waiter)?;
                     return Ok(Seeking::Joined);
                 }
-                State::Told { address, until } if now < *until => {
-                    waiter.tell(*address);
+                State::Told { addresses, until } if now < *until => {
+                    waiter.tell(*addresses);
                     return Ok(Seeking::Told);
                 }
                 State::Told { .. } => {}
@@ -253,7 +286,7 @@ impl NameTable {
             }
         }
         entry.state = State::Told {
-            address: None,
+            addresses: None,
             until: now,
         };
         false
@@ -278,26 +311,26 @@ impl NameTable {
         Some(name)
     }
 
-    /// Ends the look-up of a name, with its address if it has one: tells all that wait for it, and keeps it.
-    pub fn tell(&mut self, now: Instant, name: &str, address: Option<Ipv4Addr>) {
+    /// Ends the look-up of a name, with its addresses if it has any: tells all that wait for it, and keeps them.
+    pub fn tell(&mut self, now: Instant, name: &str, addresses: Option<Found>) {
         let is_slow = self.is_slow_end(now, name);
         self.under_way.retain(|it| it.name.as_str() != name);
         let limits = self.limits;
         let Some(entry) = self.entries.get_mut(name) else {
             return;
         };
-        let time = match address {
+        let time = match addresses {
             Some(_) => limits.kept,
             None => limits.kept_failure,
         };
         let told = State::Told {
-            address,
+            addresses,
             until: now.checked_add(time).unwrap_or(now),
         };
         entry.is_slow = is_slow;
         if let State::Sought(waiting) = std::mem::replace(&mut entry.state, told) {
             for waiter in waiting {
-                waiter.tell(address);
+                waiter.tell(addresses);
             }
         }
     }

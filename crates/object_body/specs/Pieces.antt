@@ -9,25 +9,31 @@ use Rattle.futures.specs.Runs.{Runs}
 abbrev pub Answer : Type 0
 Answer = Result (Frame (List ℕ)) AllocError
 
--- a frame holds the first 1 to 131,072 of the octets, and the rest remain
-pub record IsPiece (octets : List ℕ) (answer : Answer) (rest : List ℕ) : Type 0 where
+-- what remains of a body: its octets, and the most of them that a frame may hold
+pub record Rest : Type 0 where
+  pub most : ℕ
+  pub octets : List ℕ
+
+-- a frame holds the first of the octets, one at least and no more than it may, and the others remain
+pub record IsPiece (left : Rest) (answer : Answer) (rest : Rest) : Type 0 where
   pub piece : List ℕ
   pub given : answer ≡ Ok (data_frame piece)
-  pub first : octets ≡ piece ++ rest
+  pub first : left.octets ≡ piece ++ rest.octets
   pub some : 0 < length piece
-  pub most : length piece ≤ 131072
+  pub most : length piece ≤ left.most
+  pub same : rest.most ≡ left.most
 
 -- after an allocation failure all octets remain
-pub record IsWant (octets : List ℕ) (answer : Answer) (rest : List ℕ) : Type 0 where
+pub record IsWant (left : Rest) (answer : Answer) (rest : Rest) : Type 0 where
   pub error : AllocError
   pub given : answer ≡ Err error
-  pub same : rest ≡ octets
+  pub same : rest ≡ left
 
-abbrev pub Gives : List ℕ → Answer → List ℕ → Type 0
-Gives octets answer rest = IsPiece octets answer rest ⊎ IsWant octets answer rest
+abbrev pub Gives : Rest → Answer → Rest → Type 0
+Gives left answer rest = IsPiece left answer rest ⊎ IsWant left answer rest
 
--- a body with these octets returned these results in turn; it ends only when no octet remains
-abbrev pub in_pieces : List ℕ → Runs Answer
-in_pieces octets [] None = octets ≡ []
-in_pieces octets [] (Some answer) = (rest : List ℕ) × Gives octets answer rest
-in_pieces octets (answer ∷ answers) last = (rest : List ℕ) × Gives octets answer rest × in_pieces rest answers last
+-- a body of which this was left returned these results in turn; it ends only when no octet remains
+abbrev pub in_pieces : Rest → Runs Answer
+in_pieces left [] None = left.octets ≡ []
+in_pieces left [] (Some answer) = (rest : Rest) × Gives left answer rest
+in_pieces left (answer ∷ answers) last = (rest : Rest) × Gives left answer rest × in_pieces rest answers last

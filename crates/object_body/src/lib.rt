@@ -1,15 +1,16 @@
 //! The HTTP body of a response: the octets of a text, or of a stored object that many responses share or of a part of it, at most
 //! 64 KiB a frame, or 128 KiB of a long object, which a frame shares with it and does not copy.
 //!
-//! Contracts see a body as the octets that remain. They prove that the frames are those octets in order, that the body ends only
-//! when none remain, and that the size hint is exact; an allocation failure loses nothing.
+//! Contracts see a body as the octets that remain and the most of them that a frame may hold. They prove that the frames are those octets
+//! in order, none longer than that, that the body ends only when none remain, and that the size hint is exact; an allocation failure loses
+//! nothing.
 //!
 //! Tested by: crates/test_edge.
 #![tactic(auto)]
 
-ghost use Rattle.std.specs.Prelude.{◌≡◌, ◌<◌, ◌≤◌, Some, IfOk, length, take, drop, slice_range};
+ghost use Rattle.std.specs.Prelude.{◌≡◌, ◌≤◌, Some, IfOk, length, take, drop, slice_range, nat_lt};
 ghost use Rattle.http_body.specs.SizeHint.{exact};
-ghost use Rattle.object_body.specs.Octets.{source_octets};
+ghost use Rattle.object_body.specs.Octets.{source_octets, frame_limit, limit_of};
 ghost use Rattle.object_body.specs.Pieces.{in_pieces};
 
 use bytes::Bytes;
@@ -47,11 +48,11 @@ impl Source {
 
     // The most octets of a frame of it.
     fn most(&self) -> usize
-        ensures { (0 < result) × (result ≤ 131072) }
+        ensures { result ≡ frame_limit self.now }
     {
         match self {
-            Source::Object(object) | Source::Front(object, _) if is_long(object) => SHARED_PIECE,
-            _ => PIECE,
+            Source::Object(object) | Source::Front(object, _) => most_of(object),
+            Source::Text(_) => PIECE,
         }
     }
 
@@ -73,9 +74,15 @@ impl Source {
     }
 }
 
-// Whether frames share the octets of an object, as a rule.
-fn is_long(object: &SharedObject) -> bool {
-    object.get().body().len() >= SHARED_PIECE
+// The most octets of a frame of an object: a long one shares its octets.
+fn most_of(object: &SharedObject) -> usize
+    ensures { result ≡ limit_of (length object.now.body) }
+{
+    if object.get().body().len() < SHARED_PIECE {
+        PIECE
+    } else {
+        SHARED_PIECE
+    }
 }
 
 // The first octets, of which there are at most so many.
@@ -90,7 +97,7 @@ fn up_to(octets: &[u8], end: usize) -> &[u8]
 }
 
 /// The octets of an object, of a part of it or of a text, in frames of at most 64 KiB, or of at most 128 KiB that are shared with the
-/// object. Contracts see the octets that remain.
+/// object. Contracts see the octets that remain, and the most that a frame may have.
 #[derive(Drop)]
 pub struct Portions {
     alloc: Global,
@@ -99,18 +106,20 @@ pub struct Portions {
 }
 
 impl Model for Portions {
-    ghost use Rattle.std.specs.Prelude.{List, ℕ, drop};
-    ghost use Rattle.object_body.specs.Octets.{source_octets};
+    ghost use Rattle.std.specs.Prelude.{drop};
+    ghost use Rattle.object_body.specs.Octets.{source_octets, frame_limit};
+    ghost use Rattle.object_body.specs.Pieces.{Rest};
 
-    ghost Value = { List ℕ };
+    ghost Value = { Rest };
 
-    ghost view = { λ p. drop p.next (source_octets p.source) };
+    ghost view = { λ p. record { most = frame_limit p.source; octets = drop p.next (source_octets p.source) } };
 }
 
 impl Portions {
     /// The body of `object`.
     pub fn of_object(alloc: Global, object: SharedObject) -> Portions
-        ensures { result ≡ object.body }
+        ensures octets { result.octets ≡ object.body }
+        ensures most { result.most ≡ limit_of (length object.body) }
     {
         Portions {
             alloc,
@@ -121,7 +130,8 @@ impl Portions {
 
     /// The octets of the body of `object` from the place `first` to the one before `end`, counted from 0.
     pub fn of_part(alloc: Global, object: SharedObject, first: usize, end: usize) -> Portions
-        ensures { result ≡ drop first (take end object.body) }
+        ensures octets { result.octets ≡ drop first (take end object.body) }
+        ensures most { result.most ≡ limit_of (length object.body) }
     {
         Portions {
             alloc,
@@ -132,7 +142,8 @@ impl Portions {
 
     /// The octets of `text`.
     pub fn of_text(alloc: Global, text: Vec<u8>) -> Portions
-        ensures { result ≡ text.items }
+        ensures octets { result.octets ≡ text.items }
+        ensures most { result.most ≡ 65536 }
     {
         Portions {
             alloc,
@@ -143,7 +154,7 @@ impl Portions {
 
     // The number of octets that remain.
     fn left(&self) -> usize
-        ensures { result ≡ length self.now }
+        ensures { result ≡ length self.now.octets }
     {
         self.source.as_slice().len().saturating_sub(self.next)
     }
@@ -176,7 +187,7 @@ impl Body for Portions {
     }
 
     fn size_hint(&self) -> SizeHint
-        ensures { exact result ≡ Some (length self.now) }
+        ensures { exact result ≡ Some (length self.now.octets) }
     {
         SizeHint::with_exact(self.left() as u64)
     }

@@ -1,14 +1,14 @@
 //! Client requests on their way to the node.
 use crate::clock::{micros_since, now};
 use crate::handing::{Call, Returned, TakeCalls, hand_over};
-use crate::node_handle::NodeHandle;
-use crate::proxy_state::{ProxyState, Stale, end_at};
+use crate::node_handle::{Given, NodeHandle};
+use crate::proxy_state::{ProxyState, Stale};
 use crate::storage::Purger;
 use crossbeam_channel::Sender;
-use forwarding::{Field, KnownKeys, Profile, Waiting, end_in_digits};
+use forwarding::{Field, KnownKeys, Profile, Waiting, server_in_digits};
 use futures::channel::oneshot;
 use http_rules::{
-    Mirror, PassFault, Stored, StoredAnswer, TargetFault, answer_to, choose, classify,
+    Mirror, PassFault, StaleUse, Stored, StoredAnswer, TargetFault, answer_to, choose, classify,
     content_range, end_to_end, has_come_back, is_for_a_part, is_in_not_modified, is_plain_request,
     may_validate, mirrored, stale_use, unsatisfied_range,
 };
@@ -78,8 +78,8 @@ struct Request {
 struct Taken {
     /// How many actions it caused.
     actions: usize,
-    /// Whether one of them answered a client.
-    has_answered: bool,
+    /// What they have given the client.
+    given: Given,
 }
 
 /// The key of what a request asks for: its target, or the URL that stands for it at one of these mirrors. Errors: the HTTP status to
@@ -182,6 +182,23 @@ fn passed_on(alloc: Global, asked: &Asked) -> Result<Vec<Field>, PassFault> {
     Ok(fields)
 }
 
+/// The answer with an object that is stale.
+fn outcome_of(stale: Stale) -> Outcome {
+    let Stale { object, age } = stale;
+    Outcome::Got {
+        object,
+        supplier: Some(Supplier::Stale(age)),
+        is_stored: false,
+    }
+}
+
+/// What receives an answer with an object that is stale. `None` if out of memory.
+fn given_stale(alloc: Global, stale: Stale) -> Option<oneshot::Receiver<Outcome>> {
+    let (reply, answer) = oneshot::channel(alloc).ok()?;
+    let _ = reply.send(outcome_of(stale));
+    Some(answer)
+}
+
 /// How a request that is not a hit is forwarded, by its mode and the number of actions it caused: a shared request without an
 /// action joined a pending fetch.
 fn forward_of(mode: Mode, actions: usize) -> Forward {
@@ -215,6 +232,7 @@ impl<R: Wait + Clock + Drop, L: Ledger> NodeFront<R, L> {
             looped,
             validates,
             fetch: None,
+            leads: None,
         };
         let mut mailbox = self.proxy.mailbox.lock(&self.rt);
         mailbox.add(self.alloc, client, waiting)?;
@@ -237,7 +255,7 @@ impl<R: Wait + Clock + Drop, L: Ledger> NodeFront<R, L> {
         let actions = node.take(event).ok()?;
         Some(Taken {
             actions,
-            has_answered: node.has_answered(),
+            given: node.given(),
         })
     }
 
@@ -247,28 +265,108 @@ impl<R: Wait + Clock + Drop, L: Ledger> NodeFront<R, L> {
         self.last
     }
 
-    /// Has what a reload has found changed fetched anew for all: what is stored is taken out, as the administration does, and a request of
-    /// the cache's own, whose answer nobody waits for, asks for it. Without a key for the first it stays.
+    /// Has what reloads have found changed fetched anew for all.
     fn renew_changed(&mut self) {
-        let Some(key) = self.proxy.next_changed(&self.rt) else {
-            return;
-        };
+        for key in self.proxy.take_changed(&self.rt, self.alloc) {
+            self.renew(key);
+        }
+    }
+
+    /// Has what is stored under a key fetched anew for all: it is taken out, as the administration does, and what is on its way of it is not
+    /// stored; a request of the cache's own, whose answer nobody waits for, asks for it. Without a key to sign with it stays.
+    fn renew(&mut self, key: CacheKey) {
         let now = now(&self.rt, &self.proxy.timeline);
         let Ok(event) = self.rules.purger.event(self.alloc, &key, now) else {
             return;
         };
+        self.proxy.withdraw(&self.rt, &key);
         if self.take(event).is_none() {
             return;
         }
+        self.fetch_for_all(key);
+    }
+
+    /// Fetches what is under a key for all, by a request of the cache's own, whose answer nobody waits for.
+    fn fetch_for_all(&mut self, key: CacheKey) {
         let client = self.next_client();
-        let mode = Mode::Shared;
         let _ = self.take(Event::Request {
             client,
             key,
-            mode,
-            now,
+            mode: Mode::Shared,
+            now: now(&self.rt, &self.proxy.timeline),
         });
         let _ = self.take(Event::Gone { client });
+    }
+
+    /// A request for all clients that the node has given this, with what is on the shelf where that may be given now.
+    fn with_stale(&mut self, asked: &Asked, given: Given, asking: Asking) -> Asking {
+        match given {
+            Given::Nothing => {
+                self.give_stale(asked, asking.client);
+                if asking.forward == Forward::Miss {
+                    self.expect_early(asked, asking.client);
+                }
+                asking
+            }
+            Given::Refusal => self.instead(asked, asking),
+            Given::Object => asking,
+        }
+    }
+
+    /// A request that the node has refused since there is no room for a fetch, with what is on the shelf in place of that answer, if it may
+    /// be given.
+    fn instead(&mut self, asked: &Asked, asking: Asking) -> Asking {
+        let stale = self.stale_instead(asked);
+        match stale.and_then(|stale| given_stale(self.alloc, stale)) {
+            Some(answer) => Asking { answer, ..asking },
+            None => asking,
+        }
+    }
+
+    /// What is on the shelf for a request that the node has refused: what may be given while its origin is asked, as well as what may be
+    /// in place of an error, since that is what the lack of room is (RFC 5861, section 4).
+    fn stale_instead(&mut self, asked: &Asked) -> Option<Stale> {
+        if self.proxy.shelf.is_none() {
+            return None;
+        }
+        let occasion = stale_use(&asked.head)?;
+        let key = self.key(asked).ok()?;
+        let found = self.proxy.stale(&self.rt, key.as_slice(), occasion);
+        if found.is_some() {
+            return found;
+        }
+        let occasion = StaleUse::InPlaceOfError;
+        self.proxy.stale(&self.rt, key.as_slice(), occasion)
+    }
+
+    /// The answer to a request that is refused with this status since it wants nothing fetched: what is on the shelf, if the client accepts
+    /// that (RFC 9111, sections 5.2.1.2 and 5.2.1.7). Errors: the status, 508 or 403 as `check` says, or 503 if out of memory.
+    fn without_fetch(&mut self, asked: &Asked, key: &CacheKey, status: u16) -> Result<Asking, u16> {
+        let stale = self.accepted_stale(asked, key).ok_or(status)?;
+        self.check(asked, key, has_marks(asked))?;
+        let answer = given_stale(self.alloc, stale).ok_or(503u16)?;
+        Ok(Asking {
+            client: self.next_client(),
+            forward: Forward::Miss,
+            began: Instant::now(&self.rt).ok(),
+            answer,
+        })
+    }
+
+    /// What is on the shelf under a key, if this request would be answered by it were it fresh, and accepts that it is not.
+    fn accepted_stale(&self, asked: &Asked, key: &CacheKey) -> Option<Stale> {
+        let fresh = Some(Stored {
+            age: 0,
+            life: u32::MAX,
+        });
+        if choose(asked.method.as_str(), &asked.head, fresh) != Ok(Mode::Cached) {
+            return None;
+        }
+        let occasion = stale_use(&asked.head)?;
+        match occasion {
+            StaleUse::Accepted(_) => self.proxy.stale(&self.rt, key.as_slice(), occasion),
+            _ => None,
+        }
     }
 
     /// Gives a client that waits for a fetch for all clients what is on the shelf, if it may have that while its origin is asked about it
@@ -286,13 +384,8 @@ impl<R: Wait + Clock + Drop, L: Ledger> NodeFront<R, L> {
         };
         let key = key.as_slice();
         let found = self.proxy.stale(&self.rt, key, occasion);
-        if let Some(Stale { object, age }) = found {
-            let supplier = Some(Supplier::Stale(age));
-            let answer = Outcome::Got {
-                object,
-                supplier,
-                is_stored: false,
-            };
+        if let Some(stale) = found {
+            let answer = outcome_of(stale);
             self.proxy.mailbox.lock(&self.rt).answer(client, answer);
             let _ = self.take(Event::Gone { client });
         }
@@ -304,8 +397,8 @@ impl<R: Wait + Clock + Drop, L: Ledger> NodeFront<R, L> {
         if is_marked && has_come_back(&asked.head, self.proxy.loop_mark.as_slice()) {
             return Err(508);
         }
-        match end_in_digits(key.as_slice()) {
-            Some(end) if !self.proxy.admits(&self.rt, end) => Err(403),
+        match server_in_digits(key.as_slice()) {
+            Some(server) if self.proxy.refuses(&self.rt, server) => Err(403),
             _ => Ok(()),
         }
     }
@@ -338,18 +431,22 @@ impl<R: Wait + Clock + Drop, L: Ledger> NodeFront<R, L> {
         choose(asked.method.as_str(), &asked.head, stored)
     }
 
-    /// How a request for this key that has come now is answered by RFC 9111: as `fresh_mode` says, but for the third one within a minute
-    /// for a part of what is not stored and may be, which has the whole fetched for all. Errors: the HTTP status to answer.
-    fn counted_mode(&self, asked: &Asked, key: &CacheKey) -> Result<Mode, u16> {
+    /// How a request for this key that has come now is answered by RFC 9111, as `fresh_mode` says. The third one within a minute for a part
+    /// of what is not stored and may be has the whole fetched for all beside it. Errors: the HTTP status to answer.
+    fn counted_mode(&mut self, asked: &Asked, key: &CacheKey) -> Result<Mode, u16> {
         let stored = self.stored_for(asked, key);
         let mode = choose(asked.method.as_str(), &asked.head, stored)?;
-        if mode == Mode::Private && stored.is_none() && self.is_for_the_whole(asked, key) {
-            return Ok(Mode::Shared);
+        let is_alone = mode == Mode::Private && stored.is_none();
+        if is_alone
+            && self.is_for_the_whole(asked, key)
+            && let Ok(key) = key.share()
+        {
+            self.fetch_for_all(key);
         }
         Ok(mode)
     }
 
-    /// Whether a GET for which nothing is stored has the whole fetched although it asks for a part: it is counted.
+    /// Whether a GET for which nothing is stored and which asks for a part has the whole fetched: it is counted.
     fn is_for_the_whole(&self, asked: &Asked, key: &CacheKey) -> bool {
         let Some(parts) = &self.proxy.parts else {
             return false;
@@ -386,8 +483,16 @@ impl<R: Wait + Clock + Drop, L: Ledger> NodeFront<R, L> {
         })
     }
 
-    /// Submits a request for this key in this mode, as a new client. It has CDN-Loop fields only if `is_marked`. Errors: the HTTP
-    /// status to answer.
+    /// How a request for this key in this mode is taken beside what is being fetched: alone where that was changed meanwhile.
+    fn mode_beside(&self, mode: Mode, key: &CacheKey) -> Mode {
+        match mode {
+            Mode::Shared if self.proxy.is_outdated(&self.rt, key) => Mode::Private,
+            _ => mode,
+        }
+    }
+
+    /// Submits a request for this key in this mode, as a new client; alone where it would join what was changed since it is being fetched.
+    /// It has CDN-Loop fields only if `is_marked`. Errors: the HTTP status to answer.
     fn request(
         &mut self,
         asked: &Asked,
@@ -395,6 +500,7 @@ impl<R: Wait + Clock + Drop, L: Ledger> NodeFront<R, L> {
         mode: Mode,
         is_marked: bool,
     ) -> Result<Asking, u16> {
+        let mode = self.mode_beside(mode, &key);
         let Request {
             key,
             fields,
@@ -417,15 +523,16 @@ impl<R: Wait + Clock + Drop, L: Ledger> NodeFront<R, L> {
             self.forget(client);
             return Err(503);
         };
-        if mode == Mode::Shared && !taken.has_answered && !is_marked {
-            self.give_stale(asked, client);
-        }
-        Ok(Asking {
+        let asking = Asking {
             client,
             forward: forward_of(mode, taken.actions),
             began,
             answer,
-        })
+        };
+        match mode {
+            Mode::Shared if !is_marked => Ok(self.with_stale(asked, taken.given, asking)),
+            _ => Ok(asking),
+        }
     }
 }
 
@@ -470,7 +577,10 @@ impl<R: Wait + Clock + Drop, L: Ledger> NodeFront<R, L> {
         let key = self.key(asked)?;
         let mode = match published {
             Some(mode) => mode,
-            None => self.counted_mode(asked, &key)?,
+            None => match self.counted_mode(asked, &key) {
+                Ok(mode) => mode,
+                Err(status) => return self.without_fetch(asked, &key, status),
+            },
         };
         self.request(asked, key, mode, has_marks(asked))
     }
@@ -488,10 +598,7 @@ impl<R: Wait + Clock + Drop, L: Ledger> NodeFront<R, L> {
     }
 
     fn admits(&mut self, server: SocketAddr) -> bool {
-        match end_at(server) {
-            Some(end) => self.proxy.passes.admits(&self.rt, end),
-            None => false,
-        }
+        self.proxy.passes.admits(&self.rt, server)
     }
 
     fn gone(&mut self, client: u64) -> Returned {
@@ -501,6 +608,7 @@ impl<R: Wait + Clock + Drop, L: Ledger> NodeFront<R, L> {
     }
 
     fn answered(&mut self) -> Returned {
+        self.renew_changed();
         let before = self.proxy.answered.fetch_add(1, Ordering::SeqCst);
         if self.stop_after != 0 && before == self.stop_after.saturating_sub(1) {
             let _ = self.stop.send(&self.rt, ());
@@ -510,8 +618,8 @@ impl<R: Wait + Clock + Drop, L: Ledger> NodeFront<R, L> {
 
     fn tell(&mut self, told: &Told<'_>) -> Returned {
         let how = how_of(told);
-        if how == How::Fetch(Forward::Bypass) {
-            self.renew_changed();
+        if told.how == How::Passed && matches!(told.status, None | Some(502 | 504)) {
+            self.clear_unanswered(told);
         }
         let micros = micros_since(&self.rt, told.began);
         self.proxy.figures.note_answer(note_of(told, how, micros));

@@ -2,13 +2,13 @@
 use crate::clock::now;
 use crate::front::{NodeFront, add_values, status_of};
 use crate::passes::Onwards;
-use filter_slots::End;
 use forwarding::{Destination, Field, Profile};
 use futures::channel::{mpsc, oneshot};
 use http_header::HeaderMap;
-use http_rules::{Authority, Onward, authority_of, changed_keys, has_come_back, onward};
+use http_rules::{Authority, Onward, authority_of, changed_keys, has_come_back, is_unsafe, onward};
 use http_traffic::{
-    Asked, Coming, PassFault, Passage, PassedHead, Passing, Piece, Road, Server, Ticket, TunnelEnd,
+    Asked, Coming, PassFault, Passage, PassedHead, Passing, Piece, Road, Server, Ticket, Told,
+    TunnelEnd, address_in_digits,
 };
 use node_core::Mode;
 use object_store::CacheKey;
@@ -26,6 +26,18 @@ fn fields_of(onward: Onward) -> Result<Vec<Field>, u16> {
     match onward {
         Onward::Pass(fields) => Ok(fields),
         Onward::Last => Err(501),
+    }
+}
+
+/// The end that a CONNECT target names by an IPv6 address in brackets, and a port from 1 to 65,535. `None` for any other text.
+fn six_authority_of(target: &str) -> Option<Authority<'_>> {
+    let (host, digits) = target.rsplit_once(':')?;
+    if !address_in_digits(host)?.is_ipv6() || !digits.bytes().all(|c| c.is_ascii_digit()) {
+        return None;
+    }
+    match digits.parse::<u16>() {
+        Ok(port) if 0 < port => Some(Authority { host, port }),
+        _ => None,
     }
 }
 
@@ -220,6 +232,17 @@ impl<R: Wait + Clock + Drop, L: Ledger> NodeFront<R, L> {
         }
     }
 
+    /// Takes out of the store what a request may have changed that has no answer of its server: its client has left before, or the server
+    /// was lost. Nobody knows then whether the server has carried it out.
+    pub(crate) fn clear_unanswered(&mut self, told: &Told<'_>) {
+        if let Some(asked) = told.asked
+            && is_unsafe(asked.method.as_str())
+            && let Ok(key) = self.key(asked)
+        {
+            self.clear(&key);
+        }
+    }
+
     // Takes what is stored under a key out of the store and off the shelf, as the administration does.
     fn clear(&self, key: &CacheKey) {
         self.proxy.withdraw(&self.rt, key);
@@ -232,10 +255,19 @@ impl<R: Wait + Clock + Drop, L: Ledger> NodeFront<R, L> {
     /// Where the tunnel leads that a request opens. Errors: 400 if its target is no host and port, 403 if a tunnel may not lead there, 508
     /// if the request has come through this cache before, 503 if there are too many tunnels, or if out of memory.
     pub(crate) fn lead(&self, asked: &Asked) -> Result<TunnelEnd, u16> {
-        let authority = authority_of(asked.target.as_str()).ok_or(400u16)?;
+        let authority = self.authority(asked).ok_or(400u16)?;
         self.check_end(asked, authority)?;
         let ticket = self.proxy.passes.tunnels.take().ok_or(503u16)?;
         self.end_of(asked, authority, ticket).ok_or(503)
+    }
+
+    // The end of a tunnel that a request names, where servers are connected to at addresses of IPv6 also such an address.
+    fn authority<'a>(&self, asked: &'a Asked) -> Option<Authority<'a>> {
+        let target = asked.target.as_str();
+        match authority_of(target) {
+            None if self.proxy.passes.has_six => six_authority_of(target),
+            authority => authority,
+        }
     }
 
     // Errors: 403 if a tunnel may not lead to this port or to this address in digits, 508 if the request has come back.
@@ -248,14 +280,9 @@ impl<R: Wait + Clock + Drop, L: Ledger> NodeFront<R, L> {
         if has_come_back(&asked.head, self.proxy.loop_mark.as_slice()) {
             return Err(508);
         }
-        let Ok(address) = host.parse::<Ipv4Addr>() else {
-            return Ok(());
-        };
-        let addr = address.octets();
-        if passes.admits(&self.rt, End { addr, port }) {
-            Ok(())
-        } else {
-            Err(403)
+        match address_in_digits(host) {
+            Some(address) if passes.refuses(&self.rt, SocketAddr::new(address, port)) => Err(403),
+            _ => Ok(()),
         }
     }
 

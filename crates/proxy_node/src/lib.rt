@@ -6,6 +6,7 @@
 #![tactic(auto)]
 
 mod clock;
+mod early;
 mod front;
 mod front_passes;
 mod handing;

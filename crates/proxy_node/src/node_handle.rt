@@ -11,7 +11,7 @@ use filter_slots::{Datagram, End, Judged, Moment, Socket};
 use http_traffic::Supplier;
 use mio_queries::Bell;
 use node_book::{Clerk, Programs, Seat, SubmitFault};
-use node_core::{Action, Event, NoMemory, Out, Outcome};
+use node_core::{Action, Answer, Event, NoMemory, Out, Outcome};
 use object_store::CacheKey;
 use std::alloc::{AllocError, Global};
 use std::sync::atomic::Ordering;
@@ -32,6 +32,17 @@ pub struct Outgoing {
 pub struct Outbox {
     pub to: Sender<Outgoing, Global>,
     pub bell: Bell,
+}
+
+/// What an event has given a client.
+#[derive(Clone, Copy, Debug, PartialEq, Eq)]
+pub enum Given {
+    /// No answer yet.
+    Nothing,
+    /// An object.
+    Object,
+    /// A status in place of an object: nothing is fetched for it.
+    Refusal,
 }
 
 /// A seat on its way to the thread that will own it, with the shared state.
@@ -113,15 +124,22 @@ impl<R: Wait + Clock + Drop, L: Ledger> NodeHandle<R, L> {
         Ok(count)
     }
 
-    /// Whether an action of the event that was taken last answered a client.
-    pub fn has_answered(&self) -> bool {
-        match &self.out {
-            Some(out) => out
-                .actions()
-                .iter()
-                .any(|action| matches!(action, Action::Serve { .. })),
-            None => false,
+    /// What the event that was taken last gave a client.
+    pub fn given(&self) -> Given {
+        let Some(out) = &self.out else {
+            return Given::Nothing;
+        };
+        for action in out.actions() {
+            match action {
+                Action::Serve {
+                    answer: Answer::Fail(_),
+                    ..
+                } => return Given::Refusal,
+                Action::Serve { .. } => return Given::Object,
+                _ => {}
+            }
         }
+        Given::Nothing
     }
 
     /// As `take`, for the result of a fetch, and whom its object came from.

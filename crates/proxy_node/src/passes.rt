@@ -8,6 +8,7 @@ use lru::LruCache;
 use object_store::CacheKey;
 use serve_config::PassedMethod;
 use std::alloc::{AllocError, Global};
+use std::net::SocketAddr;
 use std::sync::atomic::{AtomicUsize, Ordering};
 use std::sync::{Arc, Mutex, Wait};
 use std::time::{Clock, Duration, Instant};
@@ -95,6 +96,8 @@ pub struct Passes {
     pub methods: Vec<PassedMethod>,
     /// The ports that tunnels may lead to.
     pub connect_ports: Vec<u16>,
+    /// Whether servers are connected to at addresses of IPv6.
+    pub has_six: bool,
     /// Where tunnels may lead to. Locked while one server is judged.
     pub ends: Mutex<OriginRules>,
     /// The URLs whose answers are passed on, as they are too long to be stored; `None` if such answers are refused. Locked to note one
@@ -143,8 +146,13 @@ impl Passes {
     }
 
     /// Whether a tunnel may lead to this server.
-    pub fn admits<R: Wait>(&self, rt: &R, server: End) -> bool {
-        self.ends.lock(rt).admits(server)
+    pub fn admits<R: Wait>(&self, rt: &R, server: SocketAddr) -> bool {
+        self.ends.lock(rt).admits_at(server)
+    }
+
+    /// Whether no tunnel may lead to this server, which a request names by its address.
+    pub fn refuses<R: Wait>(&self, rt: &R, server: SocketAddr) -> bool {
+        self.ends.lock(rt).refuses(server)
     }
 
     /// Adds a bound socket of this cache, which no tunnel leads to. Errors: out of memory.

@@ -17,7 +17,7 @@ use http_rules::{
     OriginRules, StaleUse, conditions_for, has_stale_use, has_validator, may_serve_stale,
 };
 use http_traffic as serving;
-use http_traffic::{Admit, Job, Order, Passage, Server, Supplier};
+use http_traffic::{Admit, Early, Job, Order, Passage, Server, Supplier};
 use mio_queries::Timeline;
 use name_lookup::{NameDesk, hand_over, pass_over, server_of};
 use node_book::Desk;
@@ -27,10 +27,11 @@ use object_store::{CacheKey, Entry, Object, SharedObject};
 use peer_select::Source;
 use plain_node::MAX_PENDING_FETCHES;
 use std::alloc::{AllocError, Global};
-use std::net::{IpAddr, SocketAddr};
+use std::mem;
+use std::net::SocketAddr;
 use std::sync::atomic::{AtomicBool, AtomicU16, AtomicU64, AtomicUsize, Ordering};
 use std::sync::ledger::Ledger;
-use std::sync::{Arc, Mutex, Wait};
+use std::sync::{Arc, Mutex, RwLock, Wait};
 use std::time::{Clock, Duration, Instant};
 use traffic_figures::Figures;
 
@@ -53,18 +54,24 @@ pub struct Attempt {
 /// The most keys whose objects are to be fetched anew, at a time.
 const CHANGED_KEYS: usize = 64;
 
-/// State shared by the threads of a proxy. No thread holds two of these locks at once.
+/// State shared by the threads of a proxy. No thread holds two of these locks at once, but for `changes`, which a fetch thread holds while
+/// it uses others to hand a result in.
 #[derive(Drop)]
 pub struct ProxyState<L: Ledger> {
     /// The node and its event log, behind a lock of its own that is held for one event or one question at a time.
     pub desk: Desk<L>,
     /// Waiting clients and in-flight fetches. Locked by a thread that serves clients when one comes or leaves, by a thread whose action
-    /// starts a fetch or answers a client, and by a fetch thread when a fetch ends.
+    /// starts a fetch or answers a client, and by a fetch thread when a fetch ends or a long answer of one begins.
     pub mailbox: Mutex<Mailbox>,
     /// Senders to the threads that fetch; `None` before they start and after `close`. Locked while an order is sent.
     pub lanes: Mutex<Option<Lanes>>,
     /// Attempts that could not be started and that no thread has reported to the node yet. Locked to add or remove one.
     pub failed: Mutex<Vec<Attempt>>,
+    /// Held by each fetch thread from when it looks whether what it fetched was changed meanwhile until the node has the result, and by
+    /// one that notes such a change, alone: no change is missed between the two.
+    pub changes: Arc<RwLock<()>>,
+    /// Whether something may be in flight that was changed meanwhile. Set and unset while `mailbox` is locked.
+    pub has_outdated: AtomicBool,
     /// The moments of all threads.
     pub timeline: Timeline,
     /// The name of this cache.
@@ -86,6 +93,8 @@ pub struct ProxyState<L: Ledger> {
     pub serve_stale: u32,
     /// The keys of what reloads have found changed and has not been fetched anew for all yet. Locked to add or remove one.
     pub changed: Mutex<Vec<CacheKey>>,
+    /// Whether there are such keys.
+    pub has_changed: AtomicBool,
     /// The most octets of head and body of an object whose client is told that it was stored: one that has no more is within the limits
     /// of the store with any key. `None` by the published rules, which don't tell it.
     pub tells_stored: Option<u32>,
@@ -253,16 +262,12 @@ impl<L: Ledger> ProxyState<L> {
         };
         let destination = self.destination(alloc, wanted.source, key.as_slice());
         let destination = destination.ok_or(AllocError)?;
-        let asked = self.asked_about(rt, wanted, key.as_slice());
-        let fields = self.fields(rt, alloc, wanted, key.as_slice(), asked.as_ref())?;
         let (sender, receiver) = oneshot::channel(alloc)?;
         let now = Instant::now(rt).ok();
         let flight = wanted.flight(now);
         let deadline = now.and_then(|now| now.checked_add(self.fetching));
         let deadline = deadline.ok_or(AllocError)?;
-        self.mailbox
-            .lock(rt)
-            .begin(wanted.fetch, key, flight, asked, sender)?;
+        let fields = self.enter(rt, alloc, wanted, &key, flight, sender)?;
         let Destination {
             name,
             port,
@@ -276,10 +281,42 @@ impl<L: Ledger> ProxyState<L> {
             target,
             fields,
             is_origin: flight.is_origin(),
+            is_early: flight.mode == Mode::Shared && self.gives_early(),
             deadline,
             wanted: receiver,
         };
         self.send(rt, alloc, name, port, order)
+    }
+
+    /// Notes that a fetch of `key` is in flight, and then what it asks about: a change of what is stored that comes between is noted of the
+    /// fetch. Returns the fields of its request, as `fields` does. Errors: out of memory; the fetch is not in flight.
+    fn enter<R: Wait>(
+        &self,
+        rt: &R,
+        alloc: Global,
+        wanted: Wanted,
+        key: &CacheKey,
+        flight: Flight,
+        sender: oneshot::Sender<()>,
+    ) -> Result<Vec<Field>, AllocError> {
+        let own = key.share()?;
+        self.mailbox
+            .lock(rt)
+            .begin(wanted.fetch, own, flight, sender)?;
+        let asked = self.asked_about(rt, wanted, key.as_slice());
+        let fields = self.fields(rt, alloc, wanted, key.as_slice(), asked.as_ref());
+        self.note_asked(rt, wanted.fetch, asked);
+        if fields.is_err() {
+            let _ = self.mailbox.lock(rt).end(wanted.fetch);
+        }
+        fields
+    }
+
+    /// Notes what a fetch in flight asks about, if it asks.
+    fn note_asked<R: Wait>(&self, rt: &R, fetch: u32, asked: Option<SharedObject>) {
+        if let Some(object) = asked {
+            self.mailbox.lock(rt).ask(fetch, object);
+        }
     }
 
     /// Sends an order to a fetch thread. Errors: it was not accepted; the fetch is no longer in flight.
@@ -440,8 +477,13 @@ impl<L: Ledger> ProxyState<L> {
     }
 
     /// Whether a server may be fetched from as an origin.
-    pub fn admits<R: Wait>(&self, rt: &R, server: End) -> bool {
-        self.origins.lock(rt).admits(server)
+    pub fn admits<R: Wait>(&self, rt: &R, server: SocketAddr) -> bool {
+        self.origins.lock(rt).admits_at(server)
+    }
+
+    /// Whether a server that a request names by its address is not fetched from as an origin.
+    pub fn refuses<R: Wait>(&self, rt: &R, server: SocketAddr) -> bool {
+        self.origins.lock(rt).refuses(server)
     }
 
     /// Adds a bound socket of this cache, which is never fetched from and which no tunnel leads to. Errors: out of memory.
@@ -466,18 +508,42 @@ impl<L: Ledger> ProxyState<L> {
         if changed.len() < CHANGED_KEYS {
             let _ = changed.push(key);
         }
+        self.has_changed.store(true, Ordering::SeqCst);
     }
 
-    /// Removes the key of what a reload has found changed, which the caller has fetched anew.
-    pub fn next_changed<R: Wait>(&self, rt: &R) -> Option<CacheKey> {
-        self.changed.lock(rt).pop()
+    /// Removes the keys of what reloads have found changed, which the caller has fetched anew.
+    pub fn take_changed<R: Wait>(&self, rt: &R, alloc: Global) -> Vec<CacheKey> {
+        if !self.has_changed.load(Ordering::SeqCst) {
+            return Vec::new(alloc);
+        }
+        let mut changed = self.changed.lock(rt);
+        self.has_changed.store(false, Ordering::SeqCst);
+        mem::replace(&mut *changed, Vec::new(alloc))
     }
 
     /// Notes that what is stored under a key was changed: takes what is on the shelf away, and has what is being fetched given only to
-    /// those who wait for it, as it may be what was there before.
+    /// those who wait for it, as it may be what was there before. Waits for results that are being handed in, so what these store is
+    /// stored when this returns, and later ones of what is being fetched now are not.
     pub fn withdraw<R: Wait>(&self, rt: &R, key: &CacheKey) {
+        let _alone = self.changes.write(rt);
         self.unshelve(rt, key);
-        self.mailbox.lock(rt).outdate(key.as_slice());
+        let mut mailbox = self.mailbox.lock(rt);
+        if mailbox.outdate(key.as_slice()) {
+            self.has_outdated.store(true, Ordering::SeqCst);
+        }
+    }
+
+    /// Whether what is being fetched of a key was changed meanwhile, so that nobody who comes now may have it.
+    pub fn is_outdated<R: Wait>(&self, rt: &R, key: &CacheKey) -> bool {
+        if !self.has_outdated.load(Ordering::SeqCst) {
+            return false;
+        }
+        let mailbox = self.mailbox.lock(rt);
+        if !mailbox.has_outdated() {
+            self.has_outdated.store(false, Ordering::SeqCst);
+            return false;
+        }
+        mailbox.is_outdated(key.as_slice())
     }
 
     /// Takes what is on the shelf under a key away.
@@ -533,23 +599,13 @@ pub struct Origins<R, L: Ledger> {
     pub proxy: Arc<ProxyState<L>>,
 }
 
-impl<R: Wait + Drop, L: Ledger> Admit for Origins<R, L> {
+impl<R: Wait + Clock + Drop, L: Ledger> Admit for Origins<R, L> {
     fn admits(&self, server: SocketAddr) -> bool {
-        match end_at(server) {
-            Some(end) => self.proxy.admits(&self.rt, end),
-            None => false,
-        }
+        self.proxy.admits(&self.rt, server)
     }
-}
 
-/// An IPv4 address and its port; `None` for another address.
-pub(crate) fn end_at(server: SocketAddr) -> Option<End> {
-    match server.ip() {
-        IpAddr::V4(address) => Some(End {
-            addr: address.octets(),
-            port: server.port(),
-        }),
-        IpAddr::V6(_) => None,
+    fn give_early(&self, alloc: Global, fetch: u32, early: Early) -> bool {
+        self.proxy.give_early(&self.rt, alloc, fetch, early)
     }
 }
 

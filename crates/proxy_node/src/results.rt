@@ -6,8 +6,8 @@ use crate::proxy_state::Stale;
 use crossbeam_channel::Sender;
 use fetch_chain::Submit;
 use forwarding::{
-    Exchange, Flight, Landed, Life, Profile, confirmed, hides_rules, object_of, refusal,
-    stale_object,
+    Exchange, Flight, Landed, Life, Profile, confirmed, has_other_rules, hides_rules, object_of,
+    refusal, stale_object,
 };
 use http_rules::{StaleUse, complete_length, has_stale_use, has_validator, is_error, supersedes};
 use http_traffic::{FetchEnd, FetchFault, Fetched, Page, Supplier};
@@ -15,8 +15,8 @@ use httpdate::HttpDate;
 use node_core::{Event, Mode, Outcome};
 use object_store::{CacheKey, SharedObject};
 use std::alloc::Global;
-use std::sync::Wait;
 use std::sync::ledger::Ledger;
+use std::sync::{Arc, RwLock, Wait};
 use std::thread;
 use std::time::{Clock, Duration};
 use traffic_figures::{FetchNote, FetchOutcome, FetchedFrom};
@@ -104,12 +104,32 @@ pub struct Results<R, L: Ledger> {
     pub rt: R,
     pub alloc: Global,
     pub node: NodeHandle<R, L>,
+    /// The lock by which changes of what is stored wait for results that are being handed in: the proxy's own.
+    pub changes: Arc<RwLock<()>>,
     /// Whether a result could not be submitted even after all retries.
     pub has_given_up: bool,
     /// Receives a message when that happens: the clients of the fetch would wait forever, so the proxy shuts down.
     pub end: Sender<(), Global>,
     /// Receives a message once the thread takes fetches; `None` from then on.
     pub opened: Option<Sender<(), Global>>,
+}
+
+// Hands in the outcome of an attempt. Returns whether the node has taken it.
+fn take<R: Wait + Clock + Drop, L: Ledger>(
+    rt: &R,
+    node: &mut NodeHandle<R, L>,
+    fetch: u32,
+    attempt: u16,
+    supplier: Option<Supplier>,
+    outcome: Outcome,
+) -> bool {
+    let event = Event::Fetched {
+        fetch,
+        attempt,
+        result: outcome,
+        now: now(rt, &node.proxy().timeline),
+    };
+    node.take_fetched(event, supplier).is_ok()
 }
 
 impl<R: Wait + Clock + Drop, L: Ledger> Results<R, L> {
@@ -229,15 +249,21 @@ impl<R: Wait + Clock + Drop, L: Ledger> Results<R, L> {
         }
     }
 
-    // Notes that a client's reload has brought something else than was there, if that may be stored.
+    // Notes that a client's reload has brought something else than was there, if that may be stored, or a 304 with other rules for what was
+    // there.
     fn note_changed(&self, key: &CacheKey, landed: &Landed, page: &Page) {
-        let is_changed = landed.asked.is_some() && page.status == 200;
-        if !is_changed || landed.flight.mode != Mode::Private {
+        let Some(asked) = &landed.asked else {
             return;
-        }
+        };
         let proxy = self.node.proxy();
         let exchange = self.exchange(Some(key), landed.flight);
-        if proxy.profile.may_keep_whole(exchange, &page.head)
+        let is_changed = match page.status {
+            200 => proxy.profile.may_keep_whole(exchange, &page.head),
+            NOT_MODIFIED => has_other_rules(&page.head, asked.get()),
+            _ => false,
+        };
+        if is_changed
+            && landed.flight.mode == Mode::Private
             && let Ok(key) = key.share()
         {
             proxy.note_changed(&self.rt, key);
@@ -375,20 +401,47 @@ impl<R: Wait + Clock + Drop, L: Ledger> Results<R, L> {
         }
     }
 
-    fn take(
-        &mut self,
-        fetch: u32,
-        attempt: u16,
-        supplier: Option<Supplier>,
-        outcome: Outcome,
-    ) -> bool {
-        let event = Event::Fetched {
+    // Hands in that an attempt has failed.
+    fn fail(&mut self, fetch: u32, attempt: u16) -> bool {
+        take(
+            &self.rt,
+            &mut self.node,
             fetch,
             attempt,
-            result: outcome,
-            now: now(&self.rt, &self.node.proxy().timeline),
+            None,
+            Outcome::Failed,
+        )
+    }
+
+    // Hands in how an attempt has ended. What was changed meanwhile is noted until the attempt is taken out of the mailbox, and changes
+    // wait from then until the event was taken: so what is stored after all is there when the change takes it out of the store. `false` also
+    // where the lock for that cannot get one more owner.
+    fn land(&mut self, done: Fetched) -> bool {
+        let Ok(changes) = Arc::try_clone(&self.changes) else {
+            return false;
         };
-        self.node.take_fetched(event, supplier).is_ok()
+        let landing = changes.read(&self.rt);
+        let is_taken = self.hand_in(done);
+        drop(landing);
+        is_taken
+    }
+
+    fn hand_in(&mut self, done: Fetched) -> bool {
+        let Fetched {
+            fetch,
+            attempt,
+            end,
+        } = done;
+        let landed = self.node.proxy().mailbox.lock(&self.rt).end(fetch);
+        let flight = landed.flight;
+        self.note(flight, &end);
+        if let FetchEnd::Failed(fault) = &end {
+            self.tell(fetch, flight.supplier, *fault);
+            self.note_large(fetch, *fault);
+        }
+        self.note_part(fetch, flight, &end);
+        let Delivery { outcome, supplier } = self.delivery(fetch, landed, end);
+        take(&self.rt, &mut self.node, fetch, attempt, supplier, outcome)
     }
 
     fn give_up(&mut self) {
@@ -407,26 +460,13 @@ impl<R: Wait + Clock + Drop, L: Ledger> Submit<Fetched> for Results<R, L> {
     }
 
     fn submit(&mut self, done: Fetched) {
-        let Fetched {
-            fetch,
-            attempt,
-            end,
-        } = done;
-        let landed = self.node.proxy().mailbox.lock(&self.rt).end(fetch);
-        let flight = landed.flight;
-        self.note(flight, &end);
-        if let FetchEnd::Failed(fault) = &end {
-            self.tell(fetch, flight.supplier, *fault);
-            self.note_large(fetch, *fault);
-        }
-        self.note_part(fetch, flight, &end);
-        let Delivery { outcome, supplier } = self.delivery(fetch, landed, end);
-        if self.take(fetch, attempt, supplier, outcome) {
+        let (fetch, attempt) = (done.fetch, done.attempt);
+        if self.land(done) {
             return;
         }
         for _ in 0..RETRIES {
             thread::sleep(&self.rt, Duration::from_millis(RETRY_MILLIS));
-            if self.take(fetch, attempt, supplier, Outcome::Failed) {
+            if self.fail(fetch, attempt) {
                 return;
             }
         }

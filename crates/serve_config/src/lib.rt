@@ -30,6 +30,7 @@ pub use fault::Fault;
 pub use filters::FilterFile;
 pub use freshness::{Freshness, RefreshRule, UrlPart};
 pub use mirrors::MirrorPath;
+pub use origins::SixNetwork;
 pub use passing::{Large, PassedMethod};
 pub use settings::{LogFormat, LogLevel, Settings};
 pub use shared_fields::SharedField;

@@ -8,7 +8,7 @@ ghost use Rattle.serve_config.specs.Addresses.{is_host};
 ghost use Rattle.serve_config.specs.Files.{AreFiles};
 ghost use Rattle.serve_config.specs.Group.{IsReachable, IsSecret};
 ghost use Rattle.serve_config.specs.Mirrors.{AreMirrors};
-ghost use Rattle.serve_config.specs.Origins.{AreNetworks, ArePorts};
+ghost use Rattle.serve_config.specs.Origins.{AreNetworks, ArePorts, AreSixNetworks};
 ghost use Rattle.serve_config.specs.Own.{is_self, shares_port};
 ghost use Rattle.serve_config.specs.Passing.{AreConnectPorts, AreMethods, large_said};
 ghost use Rattle.serve_config.specs.Refresh.{AreRules, AreStaleSeconds, IsVisible};
@@ -24,6 +24,7 @@ use crate::limits::limit_keys;
 use crate::logs::log_keys;
 use crate::mirrors::MirrorPath;
 use crate::node::node_keys;
+use crate::origins::SixNetwork;
 use crate::own::{check_apart, check_ports};
 use crate::passing::{Large, PassedMethod};
 use crate::shape::check;
@@ -87,6 +88,8 @@ pub struct Settings {
     pub deny_origins: Option<Vec<Network>>,
     /// The only ports that origins are fetched from, at least one and none of them 0, if the configuration says it.
     pub origin_ports: Option<Vec<u16>>,
+    /// The networks of IPv6 that are never fetched from as origins. `None` if no server is fetched from at an address of IPv6.
+    pub origins6: Option<Vec<SixNetwork>>,
     /// What a change over the administration has to be authorized by, if the configuration says it: a token68 (RFC 9110, section
     /// 11.2) of at most 255 octets.
     pub admin_token: Option<String>,
@@ -146,6 +149,7 @@ impl Settings {
         ensures client_threads { IfOk result (λ s. IfSome s.client_threads (λ n. (1 ≤ n) × (n ≤ 16))) }
         ensures deny_origins { IfOk result (λ s. IfSome s.deny_origins (λ networks. AreNetworks networks.items)) }
         ensures origin_ports { IfOk result (λ s. IfSome s.origin_ports (λ ports. ArePorts ports.items)) }
+        ensures origins6 { IfOk result (λ s. IfSome s.origins6 (λ networks. AreSixNetworks networks.items)) }
         ensures admin_token { IfOk result (λ s. IfSome s.admin_token (λ token. IsToken (string_bytes token))) }
         ensures name { IfOk result (λ s. IsVisible (string_bytes s.name)) }
         ensures access_log_format { IfOk result (λ s. option_and_then form_said (read_json text.now) ≡ Some s.access_log_format) }
@@ -198,6 +202,7 @@ impl fmt::Debug for Settings {
             .field("client_threads", &self.client_threads)
             .field("deny_origins", &self.deny_origins)
             .field("origin_ports", &self.origin_ports)
+            .field("origins6", &self.origins6)
             .field("access_log", &self.access_log)
             .field("access_log_format", &self.access_log_format)
             .field("log_level", &self.log_level)
@@ -232,6 +237,7 @@ fn parse_values(alloc: Global, value: &Value) -> Result<Settings, Fault>
     ensures client_threads { IfOk result (λ s. IfSome s.client_threads (λ n. (1 ≤ n) × (n ≤ 16))) }
     ensures deny_origins { IfOk result (λ s. IfSome s.deny_origins (λ networks. AreNetworks networks.items)) }
     ensures origin_ports { IfOk result (λ s. IfSome s.origin_ports (λ ports. ArePorts ports.items)) }
+    ensures origins6 { IfOk result (λ s. IfSome s.origins6 (λ networks. AreSixNetworks networks.items)) }
     ensures admin_token { IfOk result (λ s. IfSome s.admin_token (λ token. IsToken (string_bytes token))) }
     ensures name { IfOk result (λ s. IsVisible (string_bytes s.name)) }
     ensures access_log_format { IfOk result (λ s. form_said (view value.now) ≡ Some s.access_log_format) }
@@ -283,6 +289,7 @@ fn parse_values(alloc: Global, value: &Value) -> Result<Settings, Fault>
         client_threads: limits.client_threads,
         deny_origins: origins.deny_origins,
         origin_ports: origins.origin_ports,
+        origins6: origins.origins6,
         admin_token: front.admin_token,
         access_log: logs.access_log,
         access_log_format: logs.access_log_format,

@@ -38,7 +38,7 @@ const TOP: [Known; 16] = [
 ];
 
 /// The keys that a configuration may leave out.
-const OPTIONAL: [Known; 26] = [
+const OPTIONAL: [Known; 27] = [
     ("receipt_octets", Kind::Number),
     ("book_octets", Kind::Number),
     ("fetch_octets", Kind::Number),
@@ -47,6 +47,7 @@ const OPTIONAL: [Known; 26] = [
     ("client_threads", Kind::Number),
     ("deny_origins", Kind::List),
     ("origin_ports", Kind::List),
+    ("origins6", Kind::Truth),
     ("admin_token", Kind::Text),
     ("access_log", Kind::Text),
     ("access_log_format", Kind::Text),

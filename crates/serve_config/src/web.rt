@@ -2,7 +2,7 @@
 ghost use Rattle.std.specs.Prelude.{◌≡◌, ◌≤◌, IfOk, IfSome, Some};
 ghost use Rattle.serde_json.specs.View.{view};
 ghost use Rattle.serve_config.specs.Mirrors.{AreMirrors};
-ghost use Rattle.serve_config.specs.Origins.{AreNetworks, ArePorts};
+ghost use Rattle.serve_config.specs.Origins.{AreNetworks, ArePorts, AreSixNetworks};
 ghost use Rattle.serve_config.specs.Passing.{AreConnectPorts, AreMethods, large_said};
 ghost use Rattle.serve_config.specs.Refresh.{AreRules, AreStaleSeconds};
 ghost use Rattle.serve_config.specs.SharedFields.{AreSharedFields};
@@ -31,6 +31,7 @@ pub(crate) struct WebKeys {
 pub(crate) fn web_keys(alloc: Global, value: &Value) -> Result<WebKeys, Fault>
     ensures deny_origins { IfOk result (λ s. IfSome s.origins.deny_origins (λ networks. AreNetworks networks.items)) }
     ensures origin_ports { IfOk result (λ s. IfSome s.origins.origin_ports (λ ports. ArePorts ports.items)) }
+    ensures origins6 { IfOk result (λ s. IfSome s.origins.origins6 (λ networks. AreSixNetworks networks.items)) }
     ensures freshness { IfOk result (λ s. freshness_said (view value.now) ≡ Some s.freshness.freshness) }
     ensures refresh { IfOk result (λ s. AreRules s.freshness.freshness s.freshness.refresh.items) }
     ensures serve_stale { IfOk result (λ s. AreStaleSeconds s.freshness.freshness s.freshness.serve_stale) }

@@ -42,6 +42,7 @@ pub(crate) fn order_of<R: Clock>(
         target: String::from_str(alloc, target)?,
         fields: Vec::new(alloc),
         is_origin: true,
+        is_early: false,
         deadline,
         wanted,
     };

@@ -2,11 +2,11 @@
 use crate::fetches::order_of;
 use futures::channel::mpsc::unbounded;
 use futures::channel::oneshot;
-use http_traffic::{Job, Server};
-use name_lookup::{NameLimits, NameTable, Seeking, Waiter, hand_over, look_up, open_names};
+use http_traffic::{Addresses, Job, Server};
+use name_lookup::{Found, NameLimits, NameTable, Seeking, Waiter, hand_over, look_up, open_names};
 use std::alloc::{AllocError, Global};
 use std::io;
-use std::net::{Ipv4Addr, SocketAddr};
+use std::net::{IpAddr, Ipv4Addr, Ipv6Addr};
 use std::test::Fail;
 use std::time::{Duration, Instant};
 
@@ -52,7 +52,7 @@ impl Trial {
         millis: u64,
         name: &str,
         port: u16,
-    ) -> Result<(Seeking, oneshot::Receiver<SocketAddr>), AllocError> {
+    ) -> Result<(Seeking, oneshot::Receiver<Addresses>), AllocError> {
         let (found, sought) = oneshot::channel(self.alloc)?;
         let now = self.at(millis);
         Ok((self.table.seek(now, name, Waiter { port, found })?, sought))
@@ -67,24 +67,63 @@ impl Trial {
         }
     }
 
-    fn tell(&mut self, millis: u64, name: &str, address: Option<Ipv4Addr>) {
+    fn tell(&mut self, millis: u64, name: &str, addresses: Option<Found>) {
         let now = self.at(millis);
-        self.table.tell(now, name, address);
+        self.table.tell(now, name, addresses);
     }
 }
 
-// What a receiver was told: an address, that there is none, or nothing yet.
-fn told(alloc: Global, sought: oneshot::Receiver<SocketAddr>) -> Result<String, AllocError> {
+// What a receiver was told: its addresses, that there is none, or nothing yet.
+fn told(alloc: Global, sought: oneshot::Receiver<Addresses>) -> Result<String, AllocError> {
     let mut sought = sought;
     match sought.try_recv() {
-        Ok(Some(address)) => address.to_string(alloc),
+        Ok(Some(addresses)) => shown(alloc, addresses),
         Ok(None) => String::from_str(alloc, "nothing"),
         Err(_) => String::from_str(alloc, "none"),
     }
 }
 
-fn home() -> Option<Ipv4Addr> {
-    Some(Ipv4Addr::new(192, 0, 2, 1))
+// The first address, and behind a blank the other one, if there is one.
+fn shown(alloc: Global, addresses: Addresses) -> Result<String, AllocError> {
+    let Addresses { first, other } = addresses;
+    match other {
+        Some(other) => format!(in alloc; "{first} {other}"),
+        None => first.to_string(alloc),
+    }
+}
+
+fn four() -> Option<IpAddr> {
+    Some(IpAddr::V4(Ipv4Addr::new(192, 0, 2, 1)))
+}
+
+fn six() -> Option<IpAddr> {
+    Some(IpAddr::V6(Ipv6Addr::new(0x2001, 0xdb8, 0, 0, 0, 0, 0, 1)))
+}
+
+fn home() -> Option<Found> {
+    Found::of(four(), None)
+}
+
+/// The address of IPv4 is the first, where there is one.
+#[test]
+fn both_kinds(rt: HostRuntime) -> Result<(), Fail> {
+    let alloc = rt.alloc();
+    let mut trial = Trial::new(&rt, limits())?;
+    for (name, found, wanted) in [
+        (
+            "both",
+            Found::of(four(), six()),
+            "192.0.2.1:80 [2001:db8::1]:80",
+        ),
+        ("six", Found::of(None, six()), "[2001:db8::1]:80"),
+        ("neither", Found::of(None, None), "none"),
+    ] {
+        let (_, sought) = trial.seek(0, name, 80)?;
+        assert!(rt; trial.is_next(0, name));
+        trial.tell(0, name, found);
+        assert_eq!(rt; told(alloc, sought)?.as_str(), wanted);
+    }
+    Ok(())
 }
 
 /// Who seeks a name that is being looked up joins; all are told at once, each with its port; the answer is kept until it is 60 s old.
@@ -213,11 +252,11 @@ fn address_of(alloc: Global, server: Server) -> Result<String, AllocError> {
     }
 }
 
-/// A host name goes through a look-up, an IPv4 address in digits straight to its fetch thread.
+/// A host name goes through a look-up, an address in digits straight to its fetch thread.
 #[test]
 fn names_are_looked_up(rt: HostRuntime) -> Result<(), Fail> {
     let alloc = rt.alloc();
-    let (desk, clerk) = open_names(alloc, NameLimits::usual())?;
+    let (desk, clerk) = open_names(alloc, NameLimits::usual(), true)?;
     let (jobs, mut work) = unbounded(alloc)?;
     let (more, mut other) = unbounded(alloc)?;
     let mut lanes = Vec::new(alloc);
@@ -226,7 +265,7 @@ fn names_are_looked_up(rt: HostRuntime) -> Result<(), Fail> {
     let mut keeps = Vec::new(alloc);
     let names = [
         ("127.0.0.1", 80),
-        ("localhost", 81),
+        ("[2001:db8::1]", 81),
         ("no.such.name.invalid", 82),
     ];
     let mut fetch = 0u32;
@@ -240,7 +279,7 @@ fn names_are_looked_up(rt: HostRuntime) -> Result<(), Fail> {
     drop(desk);
     look_up(&rt, &clerk);
     drop(lanes);
-    for wanted in ["127.0.0.1:80", "127.0.0.1:81", "none"] {
+    for wanted in ["127.0.0.1:80", "[2001:db8::1]:81", "none"] {
         let Ok(Some(job)) = work.try_next() else {
             panic!(rt; "no job");
         };

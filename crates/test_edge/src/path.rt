@@ -55,6 +55,7 @@ impl<R: Wait + Clock + Copy> Asks<R> {
             target: String::from_str(self.alloc, "/minute").ok()?,
             fields: Vec::new(self.alloc),
             is_origin: true,
+            is_early: false,
             deadline: Instant::now(&self.rt)
                 .ok()?
                 .checked_add(Duration::from_secs(30))?,
@@ -176,7 +177,7 @@ fn a_miss_and_a_hit(rt: HostRuntime) -> Result<(), Fail> {
     let (bound, told) = unbounded(alloc)?;
     let (stop, _hurry, stopped) = new_stops(alloc)?;
     let open = uncounted(alloc)?;
-    let (names, _clerk) = open_names(alloc, NameLimits::usual())?;
+    let (names, _clerk) = open_names(alloc, NameLimits::usual(), false)?;
     let rules = fetch_rules(alloc, 1000)?;
     let (jobs, work) = mpsc::unbounded(alloc)?;
     let mut lanes = Vec::new(alloc);

@@ -6,7 +6,7 @@ use crossbeam_channel::{Receiver, Sender, unbounded};
 use futures::channel::oneshot;
 use http_clients::{ClientSocket, serve_clients};
 use http_traffic::{
-    Asked, Asking, FollowUp, Front, How, PassOn, Road, Server, Ticket, Told, TunnelEnd,
+    Addresses, Asked, Asking, FollowUp, Front, How, PassOn, Road, Server, Ticket, Told, TunnelEnd,
 };
 use std::alloc::{AllocGlobal, Global};
 use std::io::{Read, Write};
@@ -67,7 +67,7 @@ struct Tunnels<R> {
     open: Arc<AtomicUsize>,
     told: Sender<Line, Global>,
     // What would receive the addresses of names that are looked up without an end.
-    looking: Vec<oneshot::Sender<SocketAddr>>,
+    looking: Vec<oneshot::Sender<Addresses>>,
 }
 
 impl<R: Wait + AllocGlobal + Copy> Tunnels<R> {
@@ -79,7 +79,7 @@ impl<R: Wait + AllocGlobal + Copy> Tunnels<R> {
         let (sender, sought) = oneshot::channel(self.alloc).ok()?;
         match self.way.known {
             Known::Looking => self.looking.push(sender).ok()?,
-            Known::Name => drop(sender.send(self.way.server)),
+            Known::Name => drop(sender.send(Addresses::one(self.way.server))),
             Known::Nameless | Known::Address => drop(sender),
         }
         Some(Server::Sought(sought))

@@ -3,9 +3,10 @@
 use crate::heads::head_of;
 use crate::rows::{Question, all_hold};
 use filter_slots::End;
-use http_rules::{OriginRules, has_come_back, is_authorized, loop_mark, usual_denials};
+use http_rules::{OriginRules, SixNetwork, has_come_back, is_authorized, loop_mark, usual_denials};
 use node_core::Network;
 use std::alloc::Global;
+use std::net::SocketAddr;
 use std::test::Fail;
 
 // The rules of a cache with its sockets at 10.0.0.1:3128 and 127.0.0.1:3129.
@@ -25,8 +26,15 @@ fn rules_of(alloc: Global, denied: &[Network], ports: Option<&[u16]>) -> Result<
             Some(ports) => Some(ports.to_vec(alloc)?),
             None => None,
         },
+        denied_six: Some(vec![in alloc; DOCUMENTS]?),
     })
 }
+
+// 2001:db8::/32.
+const DOCUMENTS: SixNetwork = SixNetwork {
+    address: 0x2001_0db8 << 96,
+    prefix: 32,
+};
 
 // An address, a port, and whether it is fetched from.
 type Socket = ([u8; 4], u16, bool);
@@ -91,6 +99,60 @@ const DENIED_NETWORKS: [Network; 2] = [
 fn denied_networks_and_ports(rt: HostRuntime) -> Result<(), Fail> {
     let rules = rules_of(rt.alloc(), &DENIED_NETWORKS, Some(&[80, 8080]))?;
     let told = all_hold(rt.alloc(), &DENIED, &Admits { rules: &rules });
+    drop(rules);
+    told
+}
+
+// An address and a port, and whether it is fetched from.
+type Six = (&'static str, bool);
+
+// What the rules say of 192.168.0.0/16 and 127.0.0.0/8 holds of each form of these addresses.
+const SIX: [Six; 24] = [
+    ("[2001:db8::]:80", false),
+    ("[2001:db8:ffff:ffff:ffff:ffff:ffff:ffff]:80", false),
+    ("[2001:db9::]:80", true),
+    ("[2001:db7:ffff::]:80", true),
+    ("[2001:db9::]:81", false),
+    ("[::1]:80", false),
+    ("[::]:80", false),
+    ("[::2]:80", true),
+    ("[::ffff:127.0.0.1]:80", false),
+    ("[::ffff:128.0.0.1]:80", true),
+    ("[::ffff:128.0.0.1]:81", false),
+    ("[::127.0.0.1]:80", false),
+    ("[::ffff:0:127.0.0.1]:80", false),
+    ("[64:ff9b::192.168.1.1]:80", false),
+    ("[64:ff9b::192.169.1.1]:80", true),
+    ("[64:ff9b:0:1::192.168.1.1]:80", true),
+    ("[2002:c0a8:101::5]:80", false),
+    ("[2002:c0a9:101::c0a8:101]:80", true),
+    ("[2001:0:4136:e378:8000:63bf:3f57:fefe]:80", false),
+    ("[2001:0:4136:e378:8000:63bf:3f56:fefe]:80", true),
+    ("[fe80::1]:80", true),
+    ("[fd00::1]:8080", true),
+    ("192.168.1.1:80", false),
+    ("192.0.2.1:80", true),
+];
+
+// Whether these rules admit a server.
+#[derive(Clone, Copy)]
+struct AdmitsAt<'a> {
+    rules: &'a OriginRules,
+}
+
+impl Question<Six> for AdmitsAt<'_> {
+    fn holds(&self, _alloc: Global, row: &Six) -> Result<bool, Fail> {
+        match row.0.parse::<SocketAddr>() {
+            Ok(server) => Ok(self.rules.admits_at(server) == row.1),
+            Err(_) => Ok(false),
+        }
+    }
+}
+
+#[test]
+fn servers_of_six(rt: HostRuntime) -> Result<(), Fail> {
+    let rules = rules_of(rt.alloc(), &DENIED_NETWORKS, Some(&[80, 8080]))?;
+    let told = all_hold(rt.alloc(), &SIX, &AdmitsAt { rules: &rules });
     drop(rules);
     told
 }

@@ -217,7 +217,7 @@ const UNREACHABLE: [(&str, &str, &str); 12] = [
 ];
 
 // The same, for the keys that bound and guard what clients and strangers can do.
-const GUARDS: [(&str, &str); 33] = [
+const GUARDS: [(&str, &str); 38] = [
     (r#""fetch_octets": 1"#, "read"),
     (r#""fetch_octets": 1073741824"#, "read"),
     (
@@ -271,6 +271,23 @@ const GUARDS: [(&str, &str); 33] = [
     (
         r#""deny_origins": [1]"#,
         "config fault 2\ndeny_origins[0]: not a text",
+    ),
+    (r#""origins6": false"#, "read"),
+    (
+        r#""origins6": true, "deny_origins": ["::/0", "2001:db8::/32", "10.0.0.0/8", "::ffff:10.0.0.0/104", "::1/128"]"#,
+        "read",
+    ),
+    (
+        r#""origins6": 1"#,
+        "config fault 2\norigins6: neither true nor false",
+    ),
+    (
+        r#""origins6": false, "deny_origins": ["2001:db8::/32"]"#,
+        "config fault 3\ndeny_origins[0]: \"2001:db8::/32\" is no network",
+    ),
+    (
+        r#""origins6": true, "deny_origins": ["10.0.0.0/8", "2001:db8::/129"]"#,
+        "config fault 3\ndeny_origins[1]: \"2001:db8::/129\" is no network",
     ),
     (r#""origin_ports": [1, 80, 65535]"#, "read"),
     (
@@ -378,6 +395,7 @@ fn has_none(settings: &Settings) -> bool {
         && settings.client_threads.is_none()
         && settings.deny_origins.is_none()
         && settings.origin_ports.is_none()
+        && settings.origins6.is_none()
         && settings.admin_token.is_none()
         && settings.shelf_octets.is_none()
 }

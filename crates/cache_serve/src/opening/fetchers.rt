@@ -105,11 +105,13 @@ where
         opened: Sender<(), Global>,
     ) -> Result<(), ServeFault> {
         let proxy = self.proxy()?;
+        let changes = Arc::try_clone(&proxy.changes).map_err(no_memory)?;
         let end = self.end()?;
         let fetches = FetchTask {
             seat: self.seat()?,
             jobs,
             proxy,
+            changes,
             budget,
             octets: self.config.body_limit,
             limits: self.config.limits,
@@ -124,7 +126,9 @@ where
     /// likes: a thread that is idle ends when the desk is dropped, and one that is held ends with the process. None of
     /// them has a seat or a part of the shared state.
     fn open_look_ups(&mut self) -> Result<NameDesk, ServeFault> {
-        let (desk, clerk) = open_names(self.alloc, NameLimits::usual()).map_err(no_memory)?;
+        let has_six = self.site.proxy.passes.has_six;
+        let names = open_names(self.alloc, NameLimits::usual(), has_six);
+        let (desk, clerk) = names.map_err(no_memory)?;
         for _ in 0..LOOK_UPS {
             let (rt, clerk) = (self.rt, clerk.share().map_err(no_memory)?);
             let Ok(thread) = thread::spawn(&rt, move || look_up(&rt, &clerk)) else {

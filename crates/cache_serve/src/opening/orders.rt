@@ -1,4 +1,5 @@
 //! What the threads of a proxy are started with.
+use crate::descriptors::{connections_within, most_files};
 use crate::limits::{
     ADDRESS_CONNECTIONS, FETCH_OCTETS, MOST_CLIENT_THREADS, ProxyLimits, USUAL_CLIENT_THREADS,
 };
@@ -13,7 +14,8 @@ use log_writer::LogTask;
 use node_core::{Config, Network};
 use proxy_node::{FrontRules, Purger};
 use serve_config::{FilterFile, MirrorPath, Settings};
-use std::alloc::{AllocError, Global};
+use std::alloc::{AllocError, AllocGlobal, Global};
+use std::fs::Files;
 use std::net::{Ipv4Addr, SocketAddr, SocketAddrV4};
 use std::thread::Threads;
 use std::time::Duration;
@@ -152,7 +154,7 @@ fn client_threads<R: Threads>(rt: &R, settings: &Settings) -> usize {
 }
 
 /// What the threads need of the settings.
-pub(super) fn thread_config<R: Threads>(
+pub(super) fn thread_config<R: Threads + Files + AllocGlobal>(
     rt: &R,
     settings: &Settings,
     limits: ProxyLimits,
@@ -161,6 +163,11 @@ pub(super) fn thread_config<R: Threads>(
     let mut limits = limits;
     let an_address = settings.address_connections.unwrap_or(ADDRESS_CONNECTIONS);
     limits.clients.connections.an_address = an_address as usize;
+    let client_threads = client_threads(rt, settings);
+    if let Some(files) = most_files(rt) {
+        let most = limits.clients.connections.most;
+        limits.clients.connections.most = connections_within(files, client_threads, most);
+    }
     limits.fetching = Duration::from_secs(u64::from(settings.fetch_seconds));
     limits.idle = settings
         .fetch_idle
@@ -170,7 +177,7 @@ pub(super) fn thread_config<R: Threads>(
         icp: settings.node.icp,
         htcp: settings.node.htcp,
         clients: SocketAddr::V4(SocketAddrV4::new(address, settings.http_port)),
-        client_threads: client_threads(rt, settings),
+        client_threads,
         admin_port: settings.admin_port,
         body_limit: settings.body_limit as usize,
         fetch_octets: settings.fetch_octets.unwrap_or(FETCH_OCTETS) as usize,

@@ -1,0 +1,148 @@
+//! Which servers with an address of IPv6 may be fetched from as origins.
+ghost use Rattle.std.specs.Prelude.{◌≡◌, ◌%◌, ◌^◌, ◌||◌};
+ghost use Rattle.std.specs.List.{list_any};
+ghost use Rattle.http_rules.specs.OriginsSix.{
+  admits_at,
+  admits_six,
+  first_bits,
+  is_as,
+  is_denied_six,
+  is_inside_six,
+  reached_six,
+  refuses,
+  stands_for,
+};
+
+use crate::origins::OriginRules;
+use filter_slots::End;
+use std::net::{IpAddr, SocketAddr};
+
+/// A network of IPv6: an address as a number, and how many of its first bits all addresses of the network have, at most 128.
+#[derive(Clone, Copy, Debug, PartialEq, Eq)]
+pub struct SixNetwork {
+    pub address: u128,
+    pub prefix: u8,
+}
+
+impl SixNetwork {
+    /// Whether an address is in this network.
+    pub fn contains(&self, address: u128) -> bool
+        ensures { result ≡ is_inside_six address self.now }
+    {
+        first_bits(self.prefix, address) == first_bits(self.prefix, self.address)
+    }
+}
+
+// The first `prefix` bits of an address, as a number.
+fn first_bits(prefix: u8, address: u128) -> u128
+    ensures { result ≡ first_bits prefix address }
+{
+    match prefix {
+        0 => 0,
+        _ => address >> 128u8.saturating_sub(prefix),
+    }
+}
+
+// The first 96 bits of 64:ff9b::/96.
+const NAT64: u128 = 0x64_ff9b_0000_0000_0000_0000;
+
+// The last 32 bits of an address.
+fn last_bits(address: u128) -> u32
+    ensures { result ≡ address % 2 ^ 32 }
+{
+    (address % 0x1_0000_0000) as u32
+}
+
+// The address of IPv4 that one of IPv6 stands for: 127.0.0.1 for ::1, and for ::, a connection to which reaches ::1; 169.254.0.0 for one of
+// a link alone (fe80::/10); the last 32 bits of ::ffff:0:0/96, ::/96 (RFC 4291, section 2.5.5), ::ffff:0:0:0/96 (RFC 2765) and 64:ff9b::/96
+// (RFC 6052); the bits behind the first 16 of 2002::/16 (RFC 3056); and the last 32 bits, each turned, of 2001::/32 (RFC 4380).
+fn stands_for(address: u128) -> Option<u32>
+    ensures { result ≡ stands_for address }
+{
+    let (front, rest) = (address >> 32, last_bits(address));
+    if address <= 1 {
+        Some(0x7f00_0001)
+    } else if address >> 118 == 0x3fa {
+        Some(0xa9fe_0000)
+    } else if front == 0 || front == 0xffff || front == 0xffff_0000 || front == NAT64 {
+        Some(rest)
+    } else if address >> 112 == 0x2002 {
+        Some(last_bits(address >> 80))
+    } else if address >> 96 == 0x2001_0000 {
+        Some(u32::MAX - rest)
+    } else {
+        None
+    }
+}
+
+impl OriginRules {
+    /// Whether a server with this address of IPv6, as a number, may be fetched from as an origin: servers of IPv6 are at all, its address is
+    /// in no denied network, its port is one of the ports, where they are given, and if the address stands for one of IPv4, a server there
+    /// may be fetched from.
+    pub fn admits_six(&self, address: u128, port: u16) -> bool
+        ensures { result ≡ admits_six self.now address port }
+    {
+        !self.is_denied_six(address)
+            && (self.is_port(port) && self.is_as(stands_for(address), port))
+    }
+
+    // Whether a server at the address of IPv4 that one of IPv6 stands for may be fetched from, if it stands for one.
+    fn is_as(&self, address: Option<u32>, port: u16) -> bool
+        ensures { result ≡ is_as self.now address port }
+    {
+        match address {
+            Some(address) => {
+                let addr = address.to_be_bytes();
+                self.admits(End { addr, port })
+            }
+            None => true,
+        }
+    }
+
+    // Whether an address, or the one that a connection to it reaches, is in a denied network, or servers of IPv6 are not fetched from at all.
+    fn is_denied_six(&self, address: u128) -> bool
+        ensures { result ≡ is_denied_six self.now.denied_six address }
+    {
+        match &self.denied_six {
+            Some(denied) => is_in_one(denied.as_slice(), address),
+            None => true,
+        }
+    }
+
+    /// Whether a server may be fetched from as an origin: `admits` or `admits_six`, by the kind of its address.
+    pub fn admits_at(&self, server: SocketAddr) -> bool
+        ensures { result ≡ admits_at self.now server }
+    {
+        let port = server.port();
+        match server.ip() {
+            IpAddr::V4(address) => {
+                let addr = address.octets();
+                self.admits(End { addr, port })
+            }
+            IpAddr::V6(address) => self.admits_six(address.to_bits(), port),
+        }
+    }
+
+    /// Whether a server that a request names by an address in digits is refused. Where servers of IPv6 are not fetched from at all, such an
+    /// address is taken for a name, which is not found.
+    pub fn refuses(&self, server: SocketAddr) -> bool
+        ensures { result ≡ refuses self.now server }
+    {
+        (server.is_ipv4() || self.denied_six.is_some()) && !self.admits_at(server)
+    }
+}
+
+// Whether an address, or the one that a connection to it reaches, is in one of these networks.
+fn is_in_one(networks: &[SixNetwork], address: u128) -> bool
+    ensures { result ≡ list_any (λ network. is_inside_six address network || is_inside_six (reached_six address) network) networks.now }
+{
+    networks.iter().any(|network| network.contains(address)
+        || network.contains(reached_six(address)))
+}
+
+// The address that a connection to this address reaches.
+fn reached_six(address: u128) -> u128
+    ensures { result ≡ reached_six address }
+{
+    if address == 0 { 1 } else { address }
+}
