@@ -2,7 +2,10 @@
 ghost use Rattle.futures.specs.Task.{Keeps};
 
 use crate::fetching::FetchRules;
+use fetch_chain::Tend;
+use futures::Stream;
 use futures::channel::mpsc;
+use futures::channel::mpsc::{UnboundedReceiver, UnboundedSender};
 use futures::sink::Sink;
 use futures::task::{Context, Poll};
 use http_content::Follow;
@@ -25,15 +28,62 @@ const WAITING_PIECES: usize = 3;
 // The most pieces that are handed over at a time.
 const PIECES_A_TURN: u32 = 16;
 
+// The most answers that are given to clients at a time.
+const ANSWERS_A_TURN: u32 = 64;
+
+/// An answer for the client that began this fetch.
+#[derive(Drop)]
+pub struct Offered {
+    fetch: u32,
+    early: traffic::Early,
+}
+
+/// Gives answers to the clients that began their fetches, as they are offered.
+#[derive(Drop)]
+pub struct Doorman<A> {
+    alloc: Global,
+    rules: Rc<FetchRules<A>>,
+    offered: UnboundedReceiver<Offered>,
+}
+
+/// What gives answers to clients by these rules, and where it is offered them. Errors: out of memory.
+pub fn gate<A: Drop>(
+    alloc: Global,
+    rules: &Rc<FetchRules<A>>,
+) -> Result<(UnboundedSender<Offered>, Doorman<A>), AllocError> {
+    let (offers, offered) = mpsc::unbounded(alloc)?;
+    let doorman = Doorman {
+        alloc,
+        rules: rules.clone()?,
+        offered,
+    };
+    Ok((offers, doorman))
+}
+
+impl<A: Admit> Tend for Doorman<A> {
+    fn poll_tend(&mut self, cx: &mut Context<'_>)
+        ensures { Keeps cx.old cx.new }
+    {
+        for _ in 0..ANSWERS_A_TURN {
+            let Poll::Ready(Some(Offered { fetch, early })) = self.offered.poll_next(cx) else {
+                return;
+            };
+            // Where no client takes it, its pieces have no reader from here on.
+            let _ = self.rules.admit.give_early(self.alloc, fetch, early);
+        }
+        let _: Poll<()> = cx.yield_now();
+    }
+}
+
 /// Gives the answer of a fetch to the client that began it, while it is collected: that of status 200 with an announced length of 128 KiB
 /// or more, from its first octets on. Collecting never waits for the client: what it is behind is handed over at once when the answer is
 /// whole. An answer that does not become whole is cut for it.
 #[derive(Drop)]
-pub struct Early<A> {
+pub struct Early {
     alloc: Global,
-    // None where no client may have it.
-    rules: Option<Rc<FetchRules<A>>>,
     fetch: u32,
+    // None where no client may have it.
+    gate: Option<UnboundedSender<Offered>>,
     // What may be given of an answer, until its first octets have come.
     offer: Option<Offer>,
     reader: Option<Reader>,
@@ -46,13 +96,13 @@ struct Offer {
     length: u64,
 }
 
-impl<A: Drop> Early<A> {
-    /// Gives the answer of this fetch by these rules, if there are some.
-    pub fn new(alloc: Global, rules: Option<Rc<FetchRules<A>>>, fetch: u32) -> Early<A> {
+impl Early {
+    /// Offers the answer of this fetch at this gate, if there is one.
+    pub fn new(alloc: Global, gate: Option<UnboundedSender<Offered>>, fetch: u32) -> Early {
         Early {
             alloc,
-            rules,
             fetch,
+            gate,
             offer: None,
             reader: None,
         }
@@ -60,21 +110,36 @@ impl<A: Drop> Early<A> {
 
     /// This, for an answer with this status, these fields, and a content of this length if that is known; nothing is left here. An answer
     /// whose Connection fields name too many others is not given, nor is one where memory is short.
-    pub fn of_answer(&mut self, status: u16, fields: &HeaderMap, length: Option<u64>) -> Early<A> {
-        let rules = self.rules.take();
+    pub fn of_answer(&mut self, status: u16, fields: &HeaderMap, length: Option<u64>) -> Early {
+        let gate = self.gate.take();
         let offer = match length {
-            Some(length) if rules.is_some() && status == 200 && FEWEST_OCTETS <= length => {
+            Some(length) if gate.is_some() && status == 200 && FEWEST_OCTETS <= length => {
                 offer_of(self.alloc, fields, length)
             }
             _ => None,
         };
         Early {
             alloc: self.alloc,
-            rules,
             fetch: self.fetch,
+            gate,
             offer,
             reader: None,
         }
+    }
+
+    // Offers the answer to the client that began the fetch. Returns `None` if there is nothing to offer, or if out of memory.
+    fn begin(&mut self) -> Option<Reader> {
+        let gate = self.gate.take()?;
+        let Offer { fields, length } = self.offer.take()?;
+        let (reader, pieces) = Reader::new(self.alloc, length).ok()?;
+        let early = traffic::Early {
+            fields,
+            length,
+            pieces,
+        };
+        let fetch = self.fetch;
+        gate.unbounded_send(Offered { fetch, early }).ok()?;
+        Some(reader)
     }
 }
 
@@ -84,27 +149,7 @@ fn offer_of(alloc: Global, fields: &HeaderMap, length: u64) -> Option<Offer> {
     Some(Offer { fields, length })
 }
 
-impl<A: Admit> Early<A> {
-    // Gives the answer to the client that began the fetch, if there is one that takes it. Returns `None` if there is none, or if out of
-    // memory.
-    fn begin(&mut self) -> Option<Reader> {
-        let rules = self.rules.take()?;
-        let Offer { fields, length } = self.offer.take()?;
-        let (reader, pieces) = Reader::new(self.alloc, length).ok()?;
-        let early = traffic::Early {
-            fields,
-            length,
-            pieces,
-        };
-        if rules.admit.give_early(self.alloc, self.fetch, early) {
-            Some(reader)
-        } else {
-            None
-        }
-    }
-}
-
-impl<A: Admit> Follow for Early<A> {
+impl Follow for Early {
     fn follow(&mut self, cx: &mut Context<'_>, octets: &[u8]) {
         if self.offer.is_some() && !octets.is_empty() {
             self.reader = self.begin();

@@ -2,18 +2,18 @@
 ghost use Rattle.std.specs.Prelude.{◌≡◌, IfSome};
 
 use crate::budget::{Budget, Share};
-use crate::early::Early;
-use crate::fetching::FetchRules;
+use crate::early::{Early, Offered};
 use crate::kept::Kept;
 use crate::moves::{Moves, Noted, Patience};
 use bytes::Bytes;
+use futures::channel::mpsc::UnboundedSender;
 use futures::task::{Context, Poll};
 use futures::{Future, ready};
 use http_body::Body;
 use http_body_util::Empty;
 use http_content::{Content, Gathered, ReadFault, add_fields, has_foreign_coding};
 use http_rules::{lasts, may_retry};
-use http_traffic::{Admit, FetchFault, Page};
+use http_traffic::{FetchFault, Page};
 use hyper::body::Incoming;
 use hyper::client::conn::http1;
 use hyper::client::conn::http1::{Parts, ResponseFuture, WithoutShutdown};
@@ -21,7 +21,6 @@ use hyper::{HeaderMap, Request, Version, header};
 use paced_stream::{FETCH_TURN, Paced};
 use std::alloc::Global;
 use std::net::SocketAddr;
-use std::rc::Rc;
 use std::sync::{Arc, Wait};
 use std::time::{Clock, Duration};
 use tokio::net::{ConnectFuture, TcpStream};
@@ -163,7 +162,7 @@ impl<T: Talk> Future for Call<T> {
 
 /// A GET request for one page.
 #[derive(Drop)]
-pub struct Get<R: Wait + Copy, A> {
+pub struct Get<R: Wait + Copy> {
     pub rt: R,
     pub alloc: Global,
     pub http: http1::Builder,
@@ -186,11 +185,11 @@ pub struct Get<R: Wait + Copy, A> {
     pub used: Option<Moves>,
     /// The number of the fetch.
     pub fetch: u32,
-    /// Who gives the answer to the client that began the fetch, while it is collected. None where no client may have it.
-    pub early: Option<Rc<FetchRules<A>>>,
+    /// Where the answer is offered to the client that began the fetch, while it is collected. None where no client may have it.
+    pub gate: Option<UnboundedSender<Offered>>,
 }
 
-impl<R: Wait + Copy, A: Drop> Get<R, A> {
+impl<R: Wait + Copy> Get<R> {
     // The request to be sent. Returns `None` if a part of it is no valid HTTP, or if out of memory.
     fn request(&self) -> Option<Request<Empty<Bytes>>> {
         let mut request = Request::get(self.alloc, self.target.as_str())
@@ -202,7 +201,7 @@ impl<R: Wait + Copy, A: Drop> Get<R, A> {
     }
 }
 
-impl<R: Wait + Copy, A: Drop> Get<R, A> {
+impl<R: Wait + Copy> Get<R> {
     // Whether its connection may be kept: connections are, and the request has no credentials. There are servers that take those for
     // the credentials of all requests on their connection (RFC 9110, section 3.3), so that another client would be taken for this one.
     fn may_last(&self) -> bool {
@@ -217,7 +216,7 @@ fn has_credentials(fields: &[(Vec<u8>, Vec<u8>)]) -> bool {
         .any(|(name, _)| name.as_slice() == b"authorization".as_slice())
 }
 
-impl<R: Wait + Clock + Copy, A: Admit> Get<R, A> {
+impl<R: Wait + Clock + Copy> Get<R> {
     // The patience with a connection whose octets are noted here, if it is limited.
     fn patience(&self, moves: &Moves) -> Option<Patience<R>> {
         let still = self.idle?;
@@ -246,12 +245,12 @@ impl<R: Wait + Clock + Copy, A: Admit> Get<R, A> {
     }
 
     // What gives the answer to the client that began the fetch. Where there are too many handles, no client has it.
-    fn early(&self) -> Early<A> {
-        let rules = match &self.early {
-            Some(rules) => rules.clone().ok(),
+    fn early(&self) -> Early {
+        let gate = match &self.gate {
+            Some(gate) => gate.clone().ok(),
             None => None,
         };
-        Early::new(self.alloc, rules, self.fetch)
+        Early::new(self.alloc, gate, self.fetch)
     }
 
     // A connection to this server that was kept.
@@ -263,8 +262,8 @@ impl<R: Wait + Clock + Copy, A: Admit> Get<R, A> {
     }
 
     // Starts the exchange over this connection. Returns `None` if the request cannot be made.
-    fn begin(&self, noted: Noted, moves: &Moves) -> Option<Patient<R, Getting<R, A>>>
-        ensures { IfSome result ⟦<Patient<R, Getting<R, A>> as Future>⟧.can_poll }
+    fn begin(&self, noted: Noted, moves: &Moves) -> Option<Patient<R, Getting<R>>>
+        ensures { IfSome result ⟦<Patient<R, Getting<R>> as Future>⟧.can_poll }
     {
         let request = self.request()?;
         let metered = Metered {
@@ -280,10 +279,10 @@ impl<R: Wait + Clock + Copy, A: Admit> Get<R, A> {
     }
 }
 
-impl<R: Wait + Clock + Copy, A: Admit> Talk for Get<R, A> {
+impl<R: Wait + Clock + Copy> Talk for Get<R> {
     type Page = Paid<Share<R>>;
 
-    type Talking = Patient<R, Getting<R, A>>;
+    type Talking = Patient<R, Getting<R>>;
 
     fn talk(&mut self, socket: TcpStream) -> Option<Self::Talking> {
         let _ = socket.set_nodelay(true);
@@ -320,17 +319,17 @@ impl<R: Wait + Clock + Copy, A: Admit> Talk for Get<R, A> {
 }
 
 /// The exchange of a fetch, its reply beside its connection.
-pub type Getting<R, A> = Borne<Reply<Metered<R, A>>, WithoutShutdown<Noted, Empty<Bytes>>>;
+pub type Getting<R> = Borne<Reply<Metered<R>>, WithoutShutdown<Noted, Empty<Bytes>>>;
 
 // Begins an exchange over this connection. Returns `None` if out of memory.
-fn begun<R: Wait + Copy, A: Admit>(
+fn begun<R: Wait + Copy>(
     http: &http1::Builder,
     noted: Noted,
     request: Request<Empty<Bytes>>,
-    metered: Metered<R, A>,
+    metered: Metered<R>,
     may_last: bool,
-) -> Option<Getting<R, A>>
-    ensures { IfSome result ⟦<Getting<R, A> as Future>⟧.can_poll }
+) -> Option<Getting<R>>
+    ensures { IfSome result ⟦<Getting<R> as Future>⟧.can_poll }
 {
     let Ok((mut sender, conn)) = http.handshake(noted) else {
         return None;
@@ -451,27 +450,27 @@ pub trait Read: Drop {
 
 /// Reads one body of at most `limit` octets. The share pays for what is beyond the first `free`.
 #[derive(Drop)]
-pub struct Metered<R: Wait + Copy, A> {
+pub struct Metered<R: Wait + Copy> {
     alloc: Global,
     limit: usize,
     free: usize,
     share: Option<Share<R>>,
-    early: Early<A>,
+    early: Early,
 }
 
-impl<R: Wait + Copy, A: Admit> Read for Metered<R, A> {
+impl<R: Wait + Copy> Read for Metered<R> {
     type Body = Incoming<Noted>;
 
     type Content = Content<Share<R>>;
 
-    type Reading = Gathered<Incoming<Noted>, Share<R>, Early<A>>;
+    type Reading = Gathered<Incoming<Noted>, Share<R>, Early>;
 
     fn read(
         &mut self,
         status: u16,
         fields: &HeaderMap,
         body: Incoming<Noted>,
-    ) -> Gathered<Incoming<Noted>, Share<R>, Early<A>> {
+    ) -> Gathered<Incoming<Noted>, Share<R>, Early> {
         let length = body.size_hint().exact();
         let early = self.early.of_answer(status, fields, length);
         let share = self.share.take();

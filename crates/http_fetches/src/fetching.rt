@@ -5,11 +5,12 @@ ghost use Rattle.futures.specs.Task.{Covers, Keeps};
 ghost use Rattle.tokio.specs.Timers.{timeout_future};
 
 use crate::budget::{Budget, Share};
+use crate::early::{Doorman, Offered, gate};
 use crate::exchange::{Call, Get, Paid, Talk};
 use crate::kept::{Keeper, Kept};
 use crate::passing::{Pass, Plan, Post};
-use fetch_chain::{Begin, Submit};
-use futures::channel::mpsc::UnboundedReceiver;
+use fetch_chain::{Begin, Submit, Tend};
+use futures::channel::mpsc::{UnboundedReceiver, UnboundedSender};
 use futures::channel::oneshot;
 use futures::future::Either;
 use futures::task::{Context, Poll};
@@ -68,6 +69,8 @@ struct Getter<R, A> {
     rules: Rc<FetchRules<A>>,
     // None where no connection is kept.
     kept: Option<Kept<R>>,
+    // Where answers are offered to the clients that began their fetches.
+    gate: UnboundedSender<Offered>,
 }
 
 impl<R: Net + Clock + Copy, A: Admit> Getter<R, A> {
@@ -128,8 +131,8 @@ impl<R: Wait + Net + Clock + Copy, A: Admit> Begin for Getter<R, A> {
                     deadline,
                     wanted,
                 } = order;
-                let early = self.early(is_early);
-                let get = self.get(fetch, host, target, fields, early);
+                let gate = self.gate(is_early);
+                let get = self.get(fetch, host, target, fields, gate);
                 let visit = Visit::new(server, self.dialer(is_origin), get);
                 let fetch = Fetch {
                     fetch,
@@ -156,13 +159,13 @@ impl<R: Wait + Net + Clock + Copy, A: Admit> Begin for Getter<R, A> {
 // A job in progress. A type of its own, since its parts have large ones that are elaborated anew wherever they are named.
 #[derive(Drop)]
 struct Doing<R: Wait + Clock + Copy, A: Admit> {
-    doing: Either<Fetch<R, A, Get<R, A>>, Pass<R, A, Post>>,
+    doing: Either<Fetch<R, A, Get<R>>, Pass<R, A, Post>>,
 }
 
 impl<R: Wait + Net + Clock + Copy, A: Admit> Future for Doing<R, A> {
     type Output = Done<Share<R>>;
 
-    ghost can_poll = { λ d. ⟦<Either<Fetch<R, A, Get<R, A>>, Pass<R, A, Post>> as Future>⟧.can_poll d.doing };
+    ghost can_poll = { λ d. ⟦<Either<Fetch<R, A, Get<R>>, Pass<R, A, Post>> as Future>⟧.can_poll d.doing };
 
     fn poll(&mut self, cx: &mut Context<'_>) -> Poll<Done<Share<R>>> {
         self.doing.poll(cx)
@@ -194,24 +197,24 @@ impl<R: Wait + Net + Clock + Copy, A: Admit> Getter<R, A> {
         }
     }
 
-    // Who gives the answer of a fetch to the client that began it, if that may have it. `None` also if there are too many handles.
-    fn early(&self, is_early: bool) -> Option<Rc<FetchRules<A>>> {
+    // Where the answer of a fetch is offered to the client that began it, if that may have it. `None` also if there are too many handles.
+    fn gate(&self, is_early: bool) -> Option<UnboundedSender<Offered>> {
         if is_early {
-            self.rules.clone().ok()
+            self.gate.clone().ok()
         } else {
             None
         }
     }
 
-    // The exchange of a fetch, whose answer `early` gives to the client that began it.
+    // The exchange of a fetch, whose answer is offered at this gate to the client that began it.
     fn get(
         &self,
         fetch: u32,
         host: String,
         target: String,
         fields: Vec<(Vec<u8>, Vec<u8>)>,
-        early: Option<Rc<FetchRules<A>>>,
-    ) -> Get<R, A> {
+        gate: Option<UnboundedSender<Offered>>,
+    ) -> Get<R> {
         Get {
             rt: self.rt,
             alloc: self.alloc,
@@ -227,7 +230,7 @@ impl<R: Wait + Net + Clock + Copy, A: Admit> Getter<R, A> {
             kept: self.kept(),
             used: None,
             fetch,
-            early,
+            gate,
         }
     }
 }
@@ -506,27 +509,48 @@ fn kept_of<R: Clock + Copy>(
     }
 }
 
-// What starts the fetches of a runtime. Errors: there are no random numbers, or out of memory.
+// What starts the fetches of a runtime, and what gives their answers to clients while they are collected. Errors: there are no random
+// numbers, or out of memory.
 fn getter_of<R, A>(
     rt: R,
     runtime: &LocalRuntime,
     rules: FetchRules<A>,
     limits: FetchLimits,
-) -> io::Result<Getter<R, A>>
+) -> io::Result<(Getter<R, A>, Doorman<A>)>
 where
     R: RandomSource + AllocGlobal + Clock + Copy,
     A: Admit,
 {
     let alloc = rt.alloc();
-    Ok(Getter {
+    let rules = Rc::new(alloc, rules)?;
+    let (gate, doorman) = gate(alloc, &rules)?;
+    let getter = Getter {
         rt,
         alloc,
         kept: kept_of(rt, alloc, limits.keep)?,
         handle: runtime.handle().clone()?,
         http: http1::Builder::new(alloc, RandomState::new(&rt)?),
         limits,
-        rules: Rc::new(alloc, rules)?,
-    })
+        rules,
+        gate,
+    };
+    Ok((getter, doorman))
+}
+
+// Looks after the connections that are kept, and after answers that are given while they are collected.
+#[derive(Drop)]
+struct Tending<R, A> {
+    keeper: Keeper<R>,
+    doorman: Doorman<A>,
+}
+
+impl<R: Clock + Copy + Drop, A: Admit> Tend for Tending<R, A> {
+    fn poll_tend(&mut self, cx: &mut Context<'_>)
+        ensures { Keeps cx.old cx.new }
+    {
+        self.doorman.poll_tend(cx);
+        self.keeper.poll_tend(cx);
+    }
 }
 
 /// Runs the jobs of a channel until all its senders are gone and the last job has ended, after `seat` was told that it can. Each job has
@@ -546,9 +570,12 @@ where
     requires { 0 < limits.at_once }
 {
     let mut runtime = LocalRuntime::new(&rt)?;
-    let getter = getter_of(rt, &runtime, rules, limits)?;
-    let keeper = Keeper::new(rt, getter.kept(), getter.keep_timers());
+    let (getter, doorman) = getter_of(rt, &runtime, rules, limits)?;
+    let tending = Tending {
+        keeper: Keeper::new(rt, getter.kept(), getter.keep_timers()),
+        doorman,
+    };
     let mut seat = PassOn { seat };
     let most = limits.at_once.saturating_add(MOST_PASSAGES);
-    fetch_chain::run(&rt, &mut runtime, jobs, getter, &mut seat, keeper, most)
+    fetch_chain::run(&rt, &mut runtime, jobs, getter, &mut seat, tending, most)
 }
