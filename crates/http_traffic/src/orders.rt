@@ -1,4 +1,6 @@
 //! Fetches and their results.
+ghost use Rattle.std.specs.Prelude.{◌≡◌, ◌⊎◌, ◌↔◌, IfSome, IsSome, Some, true};
+
 use crate::passing::{Early, Passage};
 use futures::channel::oneshot;
 use http_header::HeaderMap;
@@ -51,16 +53,36 @@ impl Addresses {
         Addresses { first, other: None }
     }
 
-    /// Those that are admitted, given whether the first is and whether the other is. `None` if none is.
-    pub fn admitted(self, is_first: bool, is_other: bool) -> Option<Addresses> {
-        let other = if is_other { self.other } else { None };
-        if is_first {
-            Some(Addresses {
-                first: self.first,
-                other,
-            })
-        } else {
-            Some(Addresses::one(other?))
+    /// Those that are admitted, given whether the first is and whether the other is. `None` if none is. Of both the first stays first.
+    pub fn admitted(self, is_first: bool, is_other: bool) -> Option<Addresses>
+        ensures first { is_first ≡ true → IfSome result (λ a. a.first ≡ self.first) }
+        ensures only { IfSome result (λ a. ((a.first ≡ self.first) × (is_first ≡ true)) ⊎ ((Some a.first ≡ self.other) × (is_other ≡ true))) }
+        ensures other { IfSome result (λ a. IfSome a.other (λ other. (Some other ≡ self.other) × (is_other ≡ true))) }
+        ensures both { is_first ≡ true → is_other ≡ true → IfSome result (λ a. a.other ≡ self.other) }
+        ensures none { IsSome result ↔ ((is_first ≡ true) ⊎ ((is_other ≡ true) × IsSome self.other)) }
+    {
+        let first = self.first;
+        match self.other {
+            Some(other) if is_other => {
+                if is_first {
+                    Some(Addresses {
+                        first,
+                        other: Some(other),
+                    })
+                } else {
+                    Some(Addresses {
+                        first: other,
+                        other: None,
+                    })
+                }
+            }
+            _ => {
+                if is_first {
+                    Some(Addresses { first, other: None })
+                } else {
+                    None
+                }
+            }
         }
     }
 
