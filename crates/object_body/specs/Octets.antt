@@ -8,7 +8,7 @@ source_octets (Object object) = object.body
 source_octets (Front object end) = take end object.body
 source_octets (Text text) = text.items
 
--- the most octets of a frame of an object whose body has so many: a long body is shared with its frames, a shorter one is copied
+-- the most octets of a frame of an object whose body has so many, whether the frame shares them or copies them
 abbrev pub limit_of : ℕ → ℕ
 limit_of count = if nat_lt count 131072 then 65536 else 131072
 

@@ -1,5 +1,5 @@
 //! The HTTP body of a response: the octets of a text, or of a stored object that many responses share or of a part of it, at most
-//! 64 KiB a frame, or 128 KiB of a long object, which a frame shares with it and does not copy.
+//! 64 KiB a frame, or 128 KiB of a long object, which a frame shares with it wherever that can be.
 //!
 //! Contracts see a body as the octets that remain and the most of them that a frame may hold. They prove that the frames are those octets
 //! in order, none longer than that, that the body ends only when none remain, and that the size hint is exact; an allocation failure loses
@@ -20,10 +20,11 @@ use object_store::SharedObject;
 use std::alloc::{AllocError, Global};
 use std::marker::Model;
 
-// The most octets of a frame that is a copy.
+// The most octets of a frame of a text or of a shorter object, which is a copy.
 const PIECE: usize = 64 * 1024;
 
-// The most octets of a frame that is shared with a long object: as many as the HTTP server sends without a copy of its own.
+// The most octets of a frame of a long object, which is shared with it wherever that can be: as many as the HTTP server sends without a
+// copy of its own.
 const SHARED_PIECE: usize = 128 * 1024;
 
 // The octets of a body.
@@ -74,7 +75,7 @@ impl Source {
     }
 }
 
-// The most octets of a frame of an object: a long one shares its octets.
+// The most octets of a frame of an object.
 fn most_of(object: &SharedObject) -> usize
     ensures { result ≡ limit_of (length object.now.body) }
 {
@@ -96,8 +97,8 @@ fn up_to(octets: &[u8], end: usize) -> &[u8]
     }
 }
 
-/// The octets of an object, of a part of it or of a text, in frames of at most 64 KiB, or of at most 128 KiB that are shared with the
-/// object. Contracts see the octets that remain, and the most that a frame may have.
+/// The octets of an object, of a part of it or of a text, in frames of at most 64 KiB, or of at most 128 KiB where the object has that
+/// many. Contracts see the octets that remain, and the most that a frame may have.
 #[derive(Drop)]
 pub struct Portions {
     alloc: Global,
