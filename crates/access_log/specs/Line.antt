@@ -1,6 +1,10 @@
 -- The line of a request.
 use Rattle.std.specs.Prelude.{◌≡◌, ℕ, ◌/◌, ◌==◌, min, Bool, true, if◌then◌else◌, List, [], ◌∷◌, ◌++◌, length, slice_index, codes, decimal, Option, Some, None}
 use Rattle.std.specs.List.{join_with_byte, list_all}
+use Rattle.std.specs.declared.net.ip_addr.IpAddr.{IpAddr}
+use Rattle.std.specs.declared.net.ip_addr.IpAddr.TheVariants.{V4, V6}
+use Rattle.std.specs.Net.Addr.{ipv4_octets, ipv6_segments}
+use Rattle.std.specs.Net.Text.{ipv6_text}
 use Rattle.httpdate.specs.Date.{unix_secs}
 use Rattle.httpdate.specs.declared.date.HttpDate.{HttpDate}
 use Rattle.access_log.specs.declared.entry.Entry.{Entry}
@@ -19,11 +23,16 @@ use Rattle.access_log.specs.Stamp.{Shows, common_time, json_time}
 abbrev pub shown_moment : ℕ → ℕ
 shown_moment millis = min millis 253402300799999
 
--- an address, such as `10.0.0.1`
-unfoldable pub address_text : List ℕ → List ℕ
-address_text address =
-    decimal (slice_index address 0) ++ codes "." ++ decimal (slice_index address 1) ++ codes "."
-    ++ decimal (slice_index address 2) ++ codes "." ++ decimal (slice_index address 3)
+-- the octets of an address of IPv4, such as `10.0.0.1`
+unfoldable pub octets_text : List ℕ → List ℕ
+octets_text octets =
+    decimal (slice_index octets 0) ++ codes "." ++ decimal (slice_index octets 1) ++ codes "."
+    ++ decimal (slice_index octets 2) ++ codes "." ++ decimal (slice_index octets 3)
+
+-- an address; one of IPv6 as RFC 5952 writes it, such as `2001:db8::1`
+unfoldable pub address_text : IpAddr → List ℕ
+address_text (V4 address) = octets_text (ipv4_octets address)
+address_text (V6 address) = ipv6_text (ipv6_segments address)
 
 -- a status; 499 where there was none
 unfoldable pub status_text : Option ℕ → List ℕ

@@ -7,7 +7,7 @@ ghost use Rattle.access_log.specs.Pieces.{common_answered, common_asked, common_
 use crate::entry::{Entry, Form};
 use crate::parts::{push_address, push_course, push_number, push_status, push_supplier, push_text};
 use crate::stamp::{Stamp, push_common_time};
-use std::alloc::AllocError;
+use std::alloc::{AllocError, Global};
 
 // Appends a text that a client wrote, or `-` for none.
 #[tactic(auto, unfolding(crate::specs::Escaped::escaped_or_dash))]
@@ -37,10 +37,15 @@ fn push_request(line: &mut Vec<u8>, entry: &Entry) -> Result<(), AllocError>
 
 // Appends who asked for what, and when that ended.
 #[tactic(auto, unfolding(crate::specs::Pieces::common_asked))]
-fn push_asked(line: &mut Vec<u8>, stamp: &Stamp, entry: &Entry) -> Result<(), AllocError>
+fn push_asked(
+    line: &mut Vec<u8>,
+    alloc: Global,
+    stamp: &Stamp,
+    entry: &Entry,
+) -> Result<(), AllocError>
     ensures { OnOk result (line.new.items ≡ line.old.items ++ common_asked stamp.now entry.now) }
 {
-    push_address(line, entry.client)?;
+    push_address(line, alloc, entry.client)?;
     line.extend_from_slice(b" - - [")?;
     push_common_time(line, stamp)?;
     line.extend_from_slice(b"] \"")?;
@@ -80,12 +85,13 @@ fn push_ending(line: &mut Vec<u8>, entry: &Entry) -> Result<(), AllocError>
 #[tactic(auto, unfolding(crate::specs::Pieces::common_pieces))]
 pub(crate) fn push_common_line(
     line: &mut Vec<u8>,
+    alloc: Global,
     stamp: &Stamp,
     entry: &Entry,
 ) -> Result<(), AllocError>
     ensures { OnOk result (line.new.items ≡ line.old.items ++ common_pieces stamp.now entry.now) }
 {
-    push_asked(line, stamp, entry)?;
+    push_asked(line, alloc, stamp, entry)?;
     push_answered(line, entry)?;
     push_ending(line, entry)
 }

@@ -1,4 +1,5 @@
 //! What a line tells.
+use std::net::IpAddr;
 
 /// How a line is written.
 #[derive(Clone, Copy, Debug, PartialEq, Eq)]
@@ -39,7 +40,7 @@ pub struct Entry<'a> {
     /// When it ended, in milliseconds since 1970-01-01 UTC; 0 where the clock could not be read.
     pub millis: u64,
     /// The address of the client.
-    pub client: [u8; 4],
+    pub client: IpAddr,
     /// The method; empty if no request was read.
     pub method: &'a [u8],
     /// The target; empty if no request was read.

@@ -6,7 +6,7 @@ ghost use Rattle.access_log.specs.Pieces.{json_answered, json_asked, json_course
 use crate::entry::{Entry, Form};
 use crate::parts::{push_address, push_course, push_number, push_status, push_supplier, push_text};
 use crate::stamp::{Stamp, push_json_time, shown_moment};
-use std::alloc::AllocError;
+use std::alloc::{AllocError, Global};
 
 // Appends whether something is so.
 #[tactic(auto, unfolding(crate::specs::Line::truth_text))]
@@ -46,13 +46,18 @@ fn push_member(line: &mut Vec<u8>, name: &[u8], text: &[u8]) -> Result<(), Alloc
 
 // Appends who asked for what, and when that ended.
 #[tactic(auto, unfolding(crate::specs::Pieces::json_asked))]
-fn push_asked(line: &mut Vec<u8>, stamp: &Stamp, entry: &Entry) -> Result<(), AllocError>
+fn push_asked(
+    line: &mut Vec<u8>,
+    alloc: Global,
+    stamp: &Stamp,
+    entry: &Entry,
+) -> Result<(), AllocError>
     ensures { OnOk result (line.new.items ≡ line.old.items ++ json_asked stamp.now entry.now) }
 {
     line.extend_from_slice(b"\"time\":\"")?;
     push_json_time(line, stamp, shown_moment(entry.millis))?;
     line.extend_from_slice(b"\",\"client\":\"")?;
-    push_address(line, entry.client)?;
+    push_address(line, alloc, entry.client)?;
     line.extend_from_slice(b"\"")?;
     push_named(line, b"method", entry.method)?;
     push_named(line, b"url", entry.url)
@@ -88,13 +93,14 @@ fn push_ending(line: &mut Vec<u8>, entry: &Entry) -> Result<(), AllocError>
 #[tactic(auto, unfolding(crate::specs::Pieces::json_pieces))]
 pub(crate) fn push_json_line(
     line: &mut Vec<u8>,
+    alloc: Global,
     stamp: &Stamp,
     entry: &Entry,
 ) -> Result<(), AllocError>
     ensures { OnOk result (line.new.items ≡ line.old.items ++ json_pieces stamp.now entry.now) }
 {
     line.extend_from_slice(b"{")?;
-    push_asked(line, stamp, entry)?;
+    push_asked(line, alloc, stamp, entry)?;
     push_answered(line, entry)?;
     push_ending(line, entry)?;
     push_member(line, b"referer", entry.referer)?;

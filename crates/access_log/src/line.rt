@@ -13,6 +13,7 @@ use std::alloc::{AllocError, Global};
 #[tactic(auto, unfolding(crate::specs::Pieces::pieces_of))]
 fn push_line_text(
     line: &mut Vec<u8>,
+    alloc: Global,
     form: Form,
     stamp: &Stamp,
     entry: &Entry,
@@ -20,8 +21,8 @@ fn push_line_text(
     ensures { OnOk result (line.new.items ≡ line.old.items ++ pieces_of form stamp.now entry.now) }
 {
     match form {
-        Form::Common => push_common_line(line, stamp, entry),
-        Form::Json => push_json_line(line, stamp, entry),
+        Form::Common => push_common_line(line, alloc, stamp, entry),
+        Form::Json => push_json_line(line, alloc, stamp, entry),
     }
 }
 
@@ -39,7 +40,7 @@ pub fn line_of(alloc: Global, form: Form, entry: &Entry) -> Result<Vec<u8>, Allo
     let date = date_of(entry.millis);
     let stamp = stamp_of(&date);
     let mut line = Vec::new(alloc);
-    push_line_text(&mut line, form, &stamp, &entry)?;
+    push_line_text(&mut line, alloc, form, &stamp, &entry)?;
     line.extend_from_slice(b"\n")?;
     Ok(line)
 }

@@ -1,10 +1,13 @@
 //! What both forms have in common: numbers, addresses, words, and what a client wrote.
 ghost use Rattle.std.specs.Prelude.{◌≡◌, ◌++◌, codes, decimal, take, OnOk};
+ghost use Rattle.std.specs.Net.Addr.{ipv6_segments};
+ghost use Rattle.std.specs.Net.Text.{ipv6_text};
 ghost use Rattle.access_log.specs.Escaped.{escaped, escaped_octet, hex_digit, is_plain, mark};
-ghost use Rattle.access_log.specs.Line.{address_text, course_text, status_text, supplier_text};
+ghost use Rattle.access_log.specs.Line.{address_text, course_text, octets_text, status_text, supplier_text};
 
 use crate::entry::{Course, Form, Supplier};
-use std::alloc::AllocError;
+use std::alloc::{AllocError, Global};
+use std::net::{IpAddr, Ipv6Addr};
 
 /// The most octets of a text that a client wrote.
 const MOST_OCTETS: usize = 8_192;
@@ -17,18 +20,41 @@ pub(crate) fn push_number(line: &mut Vec<u8>, number: u64) -> Result<(), AllocEr
     line.extend_from_slice(buffer.format(number).as_bytes())
 }
 
+// Appends the octets of an address of IPv4.
+#[tactic(auto, unfolding(crate::specs::Line::octets_text))]
+fn push_octets(line: &mut Vec<u8>, octets: [u8; 4]) -> Result<(), AllocError>
+    ensures { OnOk result (line.new.items ≡ line.old.items ++ octets_text octets) }
+{
+    push_number(line, u64::from(octets[0]))?;
+    line.extend_from_slice(b".")?;
+    push_number(line, u64::from(octets[1]))?;
+    line.extend_from_slice(b".")?;
+    push_number(line, u64::from(octets[2]))?;
+    line.extend_from_slice(b".")?;
+    push_number(line, u64::from(octets[3]))
+}
+
+// Appends an address of IPv6.
+fn push_six(line: &mut Vec<u8>, alloc: Global, address: Ipv6Addr) -> Result<(), AllocError>
+    ensures { OnOk result (line.new.items ≡ line.old.items ++ ipv6_text (ipv6_segments address)) }
+{
+    let text = format!(in alloc; "{address}")?;
+    line.extend_from_slice(text.as_bytes())
+}
+
 /// Appends an address. Errors: out of memory.
 #[tactic(auto, unfolding(crate::specs::Line::address_text))]
-pub(crate) fn push_address(line: &mut Vec<u8>, address: [u8; 4]) -> Result<(), AllocError>
+pub(crate) fn push_address(
+    line: &mut Vec<u8>,
+    alloc: Global,
+    address: IpAddr,
+) -> Result<(), AllocError>
     ensures { OnOk result (line.new.items ≡ line.old.items ++ address_text address) }
 {
-    push_number(line, u64::from(address[0]))?;
-    line.extend_from_slice(b".")?;
-    push_number(line, u64::from(address[1]))?;
-    line.extend_from_slice(b".")?;
-    push_number(line, u64::from(address[2]))?;
-    line.extend_from_slice(b".")?;
-    push_number(line, u64::from(address[3]))
+    match address {
+        IpAddr::V4(address) => push_octets(line, address.octets()),
+        IpAddr::V6(address) => push_six(line, alloc, address),
+    }
 }
 
 /// Appends a status. Errors: out of memory.

@@ -22,6 +22,7 @@ pub fn check_configuration(rt: &HostRuntime, file: &str) -> ExitCode {
         return ExitCode::FAILURE;
     };
     warn_of(rt, "allowed", settings.node.allowed.as_slice());
+    warn_of_six_clients(rt, &settings);
     warn_of_denied(rt, &settings);
     if filters_of(rt, &settings).is_none() {
         return ExitCode::FAILURE;
@@ -42,6 +43,20 @@ fn warn_of(rt: &HostRuntime, key: &str, networks: &[Network]) {
             let _ = eprintln!(rt;
                 "warning: {key}[{i}]: {address}/{prefix} has bits beyond its prefix"
             );
+        }
+    }
+}
+
+/// The same for the networks of clients of IPv6.
+fn warn_of_six_clients(rt: &HostRuntime, settings: &Settings) {
+    if let Some(clients) = &settings.six_clients {
+        for (i, network) in clients.allowed.iter().enumerate() {
+            if six_has_bits_beyond(network) {
+                let (address, prefix) = (Ipv6Addr::from_bits(network.address), network.prefix);
+                let _ = eprintln!(rt;
+                    "warning: allowed6[{i}]: {address}/{prefix} has bits beyond its prefix"
+                );
+            }
         }
     }
 }
@@ -69,14 +84,20 @@ fn warn_of_denied(rt: &HostRuntime, settings: &Settings) {
 /// Prints a warning for each of these networks that has bits beyond its prefix.
 fn warn_of_six(rt: &HostRuntime, networks: &[SixNetwork]) {
     for network in networks {
-        if let Some(rest) = network.address.checked_shl(u32::from(network.prefix))
-            && rest != 0
-        {
+        if six_has_bits_beyond(network) {
             let (address, prefix) = (Ipv6Addr::from_bits(network.address), network.prefix);
             let _ = eprintln!(rt;
                 "warning: deny_origins: {address}/{prefix} has bits beyond its prefix"
             );
         }
+    }
+}
+
+/// Whether the address of a network has a bit that is 1 behind its first `prefix` bits.
+fn six_has_bits_beyond(network: &SixNetwork) -> bool {
+    match network.address.checked_shl(u32::from(network.prefix)) {
+        Some(rest) => rest != 0,
+        None => false,
     }
 }
 

@@ -282,6 +282,7 @@ fn key_of(port: Port) -> &'static str {
         Port::Icp => "icp_port",
         Port::Htcp => "htcp_port",
         Port::Clients => "http_port",
+        Port::SixClients => "http_address6",
         Port::Administration => "admin_port",
     }
 }

@@ -11,6 +11,8 @@ pub enum Port {
     Htcp,
     /// `http_port`.
     Clients,
+    /// `http_port`, at `http_address6`.
+    SixClients,
     /// `admin_port`.
     Administration,
 }

@@ -18,6 +18,7 @@ use crossbeam_channel::{Receiver, Sender, bounded, unbounded};
 use filter_files::Filter;
 use filter_slots::End;
 use futures::channel::oneshot;
+use http_rules::SixEnd;
 use log_writer::{LogTask, run_log};
 use node_core::Event;
 use orders::{InnerOrders, Keeping, Orders, ServerOrders, equipped, server_orders, thread_config};
@@ -244,6 +245,7 @@ where
         let kit = ClientKit::new(self.alloc, rules, outbox).map_err(no_memory)?;
         let clients = self.open_clients(&kit, hurried)?;
         self.add_own(clients)?;
+        self.note_own_six(clients);
         Ok((queries, clients))
     }
 
@@ -266,6 +268,17 @@ where
             port: bound.port(),
         };
         self.site.proxy.add_own(&self.rt, end).map_err(no_memory)
+    }
+
+    /// Has the socket for clients at an address of IPv6, which has the same port as the one that is bound here, never fetched from.
+    fn note_own_six(&self, bound: SocketAddr) {
+        if let Some(address) = self.config.six {
+            let end = SixEnd {
+                address: address.to_bits(),
+                port: bound.port(),
+            };
+            self.site.proxy.note_own_six(&self.rt, end);
+        }
     }
 
     fn open_queries(

@@ -78,6 +78,7 @@ pub(crate) fn passes_of(
 fn ends_of(alloc: Global, ports: &[u16], origins: &OriginRules) -> Result<OriginRules, AllocError> {
     Ok(OriginRules {
         own: Vec::new(alloc),
+        own_six: None,
         denied: copy_of(alloc, origins.denied.as_slice())?,
         ports: Some(copy_of(alloc, ports)?),
         denied_six: match &origins.denied_six {

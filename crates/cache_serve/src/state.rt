@@ -378,6 +378,7 @@ fn origins_of(alloc: Global, settings: &mut Settings) -> Result<OriginRules, All
         own: Vec::new(alloc),
         denied,
         ports: settings.origin_ports.take(),
+        own_six: None,
         denied_six: match settings.origins6.take() {
             Some(networks) => Some(six_networks(alloc, networks.as_slice())?),
             None => None,
@@ -385,8 +386,8 @@ fn origins_of(alloc: Global, settings: &mut Settings) -> Result<OriginRules, All
     })
 }
 
-/// The same networks for the rules of which servers are origins.
-fn six_networks(
+/// The same networks as the rules of HTTP have them.
+pub(crate) fn six_networks(
     alloc: Global,
     networks: &[serve_config::SixNetwork],
 ) -> Result<Vec<SixNetwork>, AllocError> {

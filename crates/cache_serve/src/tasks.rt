@@ -24,7 +24,7 @@ use std::alloc::{AllocError, AllocGlobal, Global};
 use std::fs::Files;
 use std::io;
 use std::io::ErrorKind;
-use std::net::{Net, SocketAddr};
+use std::net::{Ipv6Addr, Net, SocketAddr};
 use std::random::RandomSource;
 use std::sync::atomic::{AtomicBool, AtomicUsize};
 use std::sync::ledger::Ledger;
@@ -54,6 +54,8 @@ pub struct ThreadConfig {
     pub icp: End,
     pub htcp: End,
     pub clients: SocketAddr,
+    /// The address of IPv6 at which clients are served too, at the same port, if there is one.
+    pub six: Option<Ipv6Addr>,
     /// How many threads serve clients: 1 to 16.
     pub client_threads: usize,
     pub admin_port: u16,

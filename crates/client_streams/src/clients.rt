@@ -3,6 +3,7 @@ ghost use Rattle.std.specs.Prelude.{IfSome, IsSomeAnd, box_value};
 ghost use Rattle.futures.specs.Poll.{OnPending};
 ghost use Rattle.futures.specs.Task.{Covers, IsArmed, Keeps};
 
+use crate::listeners::{Listeners, canonical, counted_at};
 use crate::patient::SharedStage;
 use crate::pool::{NoSeat, SeatShare};
 use crate::seats::{SharedSeats, TakenSeat};
@@ -13,7 +14,7 @@ use std::alloc::{AllocError, Global};
 use std::net::SocketAddr;
 use std::sync::Wait;
 use std::time::{Clock, Duration};
-use tokio::net::{TcpListener, TcpStream};
+use tokio::net::TcpStream;
 use tokio::time::{Handle, Sleep};
 
 /// Makes the future that serves a client.
@@ -90,7 +91,7 @@ struct Arrival {
 pub struct ClientLimits {
     /// The most clients.
     pub most: usize,
-    /// The most clients of one address.
+    /// The most clients of one address; of IPv6 those of a network of 64 bits, all of whose addresses one host may have.
     pub an_address: usize,
     /// The pause after a failed accept.
     pub rest: Duration,
@@ -116,10 +117,10 @@ pub struct Stops {
     pub hurry: oneshot::Receiver<()>,
 }
 
-/// The clients of a listener that one thread serves, as a stream of futures. It accepts no more of them, and closes its listener, when `stop` is ready or its
+/// The clients that one thread serves, as a stream of futures. It accepts no more of them, and closes its listeners, when `stop` is ready or its
 /// sender is dropped, and ends when all clients are gone, when the grace has passed, or when `hurry` is ready, whichever comes first;
 /// whoever runs the futures then drops those that are left. Each future holds a seat. A client of an address that has as many seats as
-/// it may is closed. While all seats are taken, the connection that has been idle for longest is closed in favour of the next client,
+/// it may is closed; of IPv6 a network of 64 bits counts as one address. While all seats are taken, the connection that has been idle for longest is closed in favour of the next client,
 /// or one that has been so for longest among another thread's, unless it came less than 250 ms ago and few of its address are served; while
 /// none is idle, that client waits, and further ones wait in the listener's queue. A client that takes no seat holds one of 64 others of its
 /// thread, and is closed where none of these is free. Where an accept fails, as for want of descriptors, a connection that is idle is closed
@@ -133,7 +134,7 @@ pub struct AcceptedClients<A, R: Wait + Clock + Copy> {
     alloc: Global,
     timers: Handle,
     // None once the server is told to stop.
-    listener: Option<TcpListener>,
+    listeners: Option<Listeners>,
     stop: Option<oneshot::Receiver<()>>,
     hurry: Option<oneshot::Receiver<()>>,
     grace: Duration,
@@ -153,13 +154,13 @@ pub struct AcceptedClients<A, R: Wait + Clock + Copy> {
 }
 
 impl<A: Accept, R: Wait + Clock + Copy> AcceptedClients<A, R> {
-    /// The clients of `listener`, with these limits and this part in the seats of all its threads, and so much time for them to end once
+    /// The clients of `listeners`, with these limits and this part in the seats of all its threads, and so much time for them to end once
     /// the server is told to stop.
     pub fn new(
         rt: R,
         alloc: Global,
         timers: Handle,
-        listener: TcpListener,
+        listeners: Listeners,
         stops: Stops,
         grace: Duration,
         accept: A,
@@ -172,7 +173,7 @@ impl<A: Accept, R: Wait + Clock + Copy> AcceptedClients<A, R> {
             rt,
             alloc,
             timers,
-            listener: Some(listener),
+            listeners: Some(listeners),
             stop: Some(stop),
             hurry: Some(hurry),
             grace,
@@ -216,21 +217,22 @@ impl<A: Accept, R: Wait + Clock + Copy> AcceptedClients<A, R> {
             return Poll::Ready(Some(arrival));
         }
         self.has_waited = false;
-        let Some(listener) = &mut self.listener else {
+        let Some(listeners) = &mut self.listeners else {
             return Poll::Ready(None);
         };
-        let Ok((socket, address)) = ready!(listener.poll_accept(cx)) else {
+        let Ok((socket, address)) = ready!(listeners.poll_accept(cx)) else {
             self.rest();
             self.seats.want();
             return Poll::Ready(None);
         };
+        let address = canonical(address);
         Poll::Ready(Some(Arrival { socket, address }))
     }
 
     // The seat for a client at this address. `None` if it has to wait for one. Errors: it is to be closed.
     fn seat(&mut self, address: SocketAddr) -> Result<Option<TakenSeat<R>>, NoSeat> {
         if self.accept.has_seat(address) {
-            return self.seats.take(address.ip());
+            return self.seats.take(counted_at(address.ip()));
         }
         match self.seats.take_refusal() {
             Some(seat) => Ok(Some(seat)),
@@ -254,7 +256,7 @@ impl<A: Accept, R: Wait + Clock + Copy> AcceptedClients<A, R> {
         })
     }
 
-    // Whether the server was told to stop. The first time it closes its listener, and begins the grace.
+    // Whether the server was told to stop. The first time it closes its listeners, and begins the grace.
     fn is_stopped(&mut self, cx: &mut Context<'_>) -> bool
         ensures { Keeps cx.old cx.new }
     {
@@ -265,7 +267,7 @@ impl<A: Accept, R: Wait + Clock + Copy> AcceptedClients<A, R> {
             return false;
         }
         self.stop = None;
-        self.listener = None;
+        self.listeners = None;
         self.arrival = None;
         self.seats.open();
         self.ending = self.timers.sleep(&self.rt, self.grace).ok();

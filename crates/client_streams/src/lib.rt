@@ -1,4 +1,4 @@
-//! A TCP listener as a stream of futures, one per client, with a limit on concurrent clients and a stop signal; and a socket that
+//! A TCP listener, or two, as a stream of futures, one per client, with a limit on concurrent clients and a stop signal; and a socket that
 //! fails when its peer is silent for too long. How a client is served is behind the trait `Accept`. Several threads can serve the
 //! clients of a listener, which then have the limit together.
 //!
@@ -8,12 +8,14 @@
 #![tactic(auto)]
 
 mod clients;
+mod listeners;
 mod patient;
 mod pool;
 mod refusal;
 mod seats;
 
 pub use clients::{Accept, AcceptedClients, ClientLimits, Seated, Stops};
+pub use listeners::Listeners;
 pub use patient::{Patience, Patient, SharedStage, Stage, StreamTimeouts};
 pub use pool::{SeatShare, seat_shares};
 pub use refusal::Refusal;

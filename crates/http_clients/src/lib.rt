@@ -18,5 +18,5 @@ mod tunnel;
 mod upload;
 
 pub use administration::serve_admin;
-pub use server::{ClientSocket, ServeLimits, client_sockets};
+pub use server::{ClientSocket, ServeLimits, client_sockets, listen_at_six};
 pub use serving::serve_clients;

@@ -8,7 +8,7 @@ use crate::requests::Answers;
 use crate::texts::{FORBIDDEN, forbidden};
 use crate::tunnel::Dialer;
 use client_streams::{
-    Accept, AcceptedClients, ClientLimits, Patient, Refusal, SeatShare, SharedStage, Stops,
+    Accept, AcceptedClients, ClientLimits, Listeners, Patient, Refusal, SeatShare, SharedStage, Stops,
     StreamTimeouts, seat_shares,
 };
 use crossbeam_channel::Sender;
@@ -20,7 +20,7 @@ use hyper::server::conn::http1;
 use hyper::server::conn::http1::Connection;
 use std::alloc::{AllocGlobal, Global};
 use std::hash::RandomState;
-use std::net::{IpAddr, Net, SocketAddr};
+use std::net::{IpAddr, Ipv6Addr, Net, SocketAddr, SocketAddrV6};
 use std::random::RandomSource;
 use std::sync::atomic::AtomicUsize;
 use std::sync::{Arc, Wait};
@@ -43,11 +43,13 @@ pub struct ServeLimits {
     pub content: usize,
 }
 
-/// A thread's handle to a listening socket, and its part in the seats of the clients that come there.
+/// A thread's handle to a listening socket, or to two, and its part in the seats of the clients that come there.
 #[derive(Drop)]
 pub struct ClientSocket {
     /// The socket.
     pub listener: net::TcpListener,
+    /// The socket at an address of IPv6, if there is one.
+    pub six: Option<net::TcpListener>,
     /// The seats.
     pub seats: SeatShare,
 }
@@ -61,6 +63,7 @@ impl ClientSocket {
     ) -> io::Result<ClientSocket> {
         Ok(ClientSocket {
             listener: listen(rt, address)?,
+            six: None,
             seats: SeatShare::alone(rt.alloc(), limits)?,
         })
     }
@@ -78,9 +81,31 @@ pub fn client_sockets<R: Net + AllocGlobal>(
     let mut sockets = Vec::with_capacity(rt.alloc(), threads)?;
     for seats in seat_shares(rt.alloc(), limits, threads)? {
         let listener = bound.try_clone()?;
-        sockets.push(ClientSocket { listener, seats })?;
+        sockets.push(ClientSocket {
+            listener,
+            six: None,
+            seats,
+        })?;
     }
     Ok(sockets)
+}
+
+/// Has the threads with these sockets also listen at this address of IPv6, once for all of them, at the port that they listen at. Errors: the
+/// socket cannot be bound, or there are no more descriptors.
+pub fn listen_at_six<R: Net>(
+    rt: &R,
+    sockets: &mut [ClientSocket],
+    address: Ipv6Addr,
+) -> io::Result<()> {
+    let Some(first) = sockets.first() else {
+        return Ok(());
+    };
+    let port = first.listener.local_addr()?.port();
+    let bound = listen(rt, SocketAddr::V6(SocketAddrV6::new(address, port, 0, 0)))?;
+    for socket in sockets.iter_mut() {
+        socket.six = Some(bound.try_clone()?);
+    }
+    Ok(())
 }
 
 // A listening socket with the longest queue that the system allows, whose accept does not block.
@@ -285,14 +310,23 @@ where
     let mut runtime = LocalRuntime::new(&rt)?;
     // The stream of clients ends with the grace.
     runtime.set_shutdown_timeout(Some(Duration::ZERO));
-    let ClientSocket { listener, seats } = socket;
+    let ClientSocket {
+        listener,
+        six,
+        seats,
+    } = socket;
     let listener = TcpListener::from_std(listener, runtime.handle().reactor())?;
+    let six = match six {
+        Some(six) => Some(TcpListener::from_std(six, runtime.handle().reactor())?),
+        None => None,
+    };
     let bound = Bound {
         address: listener.local_addr()?,
         to: bound,
     };
     let http = http_of(rt, &runtime, answers, bound, open, limits)?;
-    run_accepted(rt, runtime, listener, seats, stops, http, limits)
+    let listeners = Listeners::new(listener, six);
+    run_accepted(rt, runtime, listeners, seats, stops, http, limits)
 }
 
 // Runs a server that accepts by `accept`. A function of its own, since of a type that is named little is known here, and much has to be
@@ -300,7 +334,7 @@ where
 fn run_accepted<R, A>(
     rt: R,
     runtime: LocalRuntime,
-    listener: TcpListener,
+    listeners: Listeners,
     seats: SeatShare,
     stops: Stops,
     accept: A,
@@ -315,7 +349,7 @@ where
     let (most, grace) = (limits.connections, limits.grace);
     let alloc = rt.alloc();
     let clients = AcceptedClients::new(
-        rt, alloc, timers, listener, stops, grace, accept, most, seats,
+        rt, alloc, timers, listeners, stops, grace, accept, most, seats,
     )?;
     runtime.run_all(&rt, clients)
 }

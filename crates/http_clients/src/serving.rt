@@ -155,10 +155,7 @@ impl<F: Front + FollowUp + PassOn> Answers for FrontAnswers<F> {
     }
 
     fn allows(&self, address: IpAddr) -> bool {
-        let IpAddr::V4(address) = address else {
-            return false;
-        };
-        if address.is_loopback() {
+        if address.is_ipv4() && address.is_loopback() {
             return true;
         }
         match self.context.front.try_borrow_mut() {

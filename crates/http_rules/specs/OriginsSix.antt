@@ -1,5 +1,5 @@
 -- Which servers with an address of IPv6 may be fetched from as origins. An address is a number of 128 bits here.
-use Rattle.std.specs.Prelude.{ℕ, ◌-◌, ◌*◌, ◌/◌, ◌%◌, ◌^◌, nat_le, not, ◌==◌, ◌&&◌, ◌||◌, Bool, true, Vec, Option, Some, None, is_some, if◌then◌else◌}
+use Rattle.std.specs.Prelude.{ℕ, ◌-◌, ◌*◌, ◌/◌, ◌%◌, ◌^◌, nat_le, not, ◌==◌, ◌&&◌, ◌||◌, Bool, true, false, Vec, Option, Some, None, is_some, if◌then◌else◌}
 use Rattle.std.specs.List.{list_any}
 use Rattle.std.specs.Int.{to_be_bytes, w32}
 use Rattle.std.specs.declared.net.ip_addr.IpAddr.{IpAddr}
@@ -9,6 +9,7 @@ use Rattle.std.specs.Net.Addr.{is_ipv4, ipv4_octets, ipv6_bits}
 use Rattle.std.specs.Net.Socket.{socket_ip, socket_port}
 use Rattle.http_rules.specs.Origins.{admits, is_port}
 use Rattle.http_rules.specs.declared.origins.OriginRules.{OriginRules}
+use Rattle.http_rules.specs.declared.origins_six.SixEnd.{SixEnd}
 use Rattle.http_rules.specs.declared.origins_six.SixNetwork.{SixNetwork}
 
 -- the first `prefix` bits of an address
@@ -51,11 +52,17 @@ is_denied_six None address = true
 is_denied_six (Some denied) address =
     list_any (λ network. is_inside_six address network || is_inside_six (reached_six address) network) denied.items
 
+-- whether a connection to a server reaches the cache's own socket, if it has one of IPv6
+abbrev pub is_own_six : Option SixEnd → ℕ → ℕ → Bool
+is_own_six None address port = false
+is_own_six (Some own) address port = own.address == reached_six address && own.port == port
+
 -- whether a server of IPv6 may be fetched from
 abbrev pub admits_six : OriginRules → ℕ → ℕ → Bool
 admits_six rules address port =
-    not (is_denied_six rules.denied_six address)
-    && (is_port rules.ports port && is_as rules (stands_for address) port)
+    not (is_own_six rules.own_six address port)
+    && (not (is_denied_six rules.denied_six address)
+    && (is_port rules.ports port && is_as rules (stands_for address) port))
 
 -- whether a server may be fetched from, by the kind of its address
 abbrev pub admits_ip : OriginRules → IpAddr → ℕ → Bool

@@ -3,7 +3,7 @@ ghost use Rattle.std.specs.Prelude.{◌≡◌, ◌==◌, IfOk};
 ghost use Rattle.std.specs.List.{list_any};
 ghost use Rattle.http_rules.specs.Origins.{admits, is_own, is_denied, is_port, reached, usual_denials};
 
-use crate::origins_six::SixNetwork;
+use crate::origins_six::{SixEnd, SixNetwork};
 use filter_slots::End;
 use node_core::Network;
 use std::alloc::{AllocError, Global};
@@ -38,6 +38,8 @@ pub struct OriginRules {
     /// The networks of IPv6 that are never fetched from, beside those that stand for an address of IPv4; `None` where servers of IPv6 are
     /// not fetched from at all.
     pub denied_six: Option<Vec<SixNetwork>>,
+    /// The socket of this cache that has an address of IPv6, if there is one.
+    pub own_six: Option<SixEnd>,
 }
 
 impl OriginRules {

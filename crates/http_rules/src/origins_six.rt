@@ -8,6 +8,7 @@ ghost use Rattle.http_rules.specs.OriginsSix.{
   is_as,
   is_denied_six,
   is_inside_six,
+  is_own_six,
   reached_six,
   refuses,
   stands_for,
@@ -31,6 +32,13 @@ impl SixNetwork {
     {
         first_bits(self.prefix, address) == first_bits(self.prefix, self.address)
     }
+}
+
+/// A server with an address of IPv6, as a number, and its port.
+#[derive(Clone, Copy, Debug, PartialEq, Eq)]
+pub struct SixEnd {
+    pub address: u128,
+    pub port: u16,
 }
 
 // The first `prefix` bits of an address, as a number.
@@ -76,14 +84,25 @@ fn stands_for(address: u128) -> Option<u32>
 }
 
 impl OriginRules {
-    /// Whether a server with this address of IPv6, as a number, may be fetched from as an origin: servers of IPv6 are at all, its address is
-    /// in no denied network, its port is one of the ports, where they are given, and if the address stands for one of IPv4, a server there
-    /// may be fetched from.
+    /// Whether a server with this address of IPv6, as a number, may be fetched from as an origin: servers of IPv6 are at all, it is not this
+    /// cache's own socket, its address is in no denied network, its port is one of the ports, where they are given, and if the address stands
+    /// for one of IPv4, a server there may be fetched from.
     pub fn admits_six(&self, address: u128, port: u16) -> bool
         ensures { result ≡ admits_six self.now address port }
     {
-        !self.is_denied_six(address)
-            && (self.is_port(port) && self.is_as(stands_for(address), port))
+        !self.is_own_six(address, port)
+            && (!self.is_denied_six(address)
+                && (self.is_port(port) && self.is_as(stands_for(address), port)))
+    }
+
+    // Whether a connection to this server reaches the socket of this cache that has an address of IPv6.
+    fn is_own_six(&self, address: u128, port: u16) -> bool
+        ensures { result ≡ is_own_six self.now.own_six address port }
+    {
+        match self.own_six {
+            Some(own) => own.address == reached_six(address) && own.port == port,
+            None => false,
+        }
     }
 
     // Whether a server at the address of IPv4 that one of IPv6 stands for may be fetched from, if it stands for one.

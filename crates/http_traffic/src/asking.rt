@@ -3,7 +3,7 @@ use crate::passing::{Coming, Early, Passing, Road, TunnelEnd};
 use futures::channel::oneshot;
 use http_header::HeaderMap;
 use object_store::{Object, SharedObject};
-use std::net::{IpAddr, Ipv4Addr, SocketAddr};
+use std::net::{IpAddr, SocketAddr};
 use std::time::Instant;
 
 /// A request with its complete content.
@@ -139,8 +139,9 @@ pub struct Told<'a> {
 
 /// Accepts requests and has them answered. Called on the thread that serves.
 pub trait Front: Drop {
-    /// Whether clients at this address are admitted. Not asked for 127.0.0.0/8, which always is.
-    fn allows(&mut self, address: Ipv4Addr) -> bool;
+    /// Whether clients at this address are admitted. Not asked for 127.0.0.0/8, which always is, nor for an address of IPv6 that stands for
+    /// one of IPv4.
+    fn allows(&mut self, address: IpAddr) -> bool;
 
     /// How a request with this method is taken.
     fn road(&mut self, method: &str) -> Road {

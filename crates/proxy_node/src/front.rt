@@ -8,7 +8,7 @@ use crossbeam_channel::Sender;
 use forwarding::{Field, KnownKeys, Profile, Waiting, server_in_digits};
 use futures::channel::oneshot;
 use http_rules::{
-    Mirror, PassFault, StaleUse, Stored, StoredAnswer, TargetFault, answer_to, choose, classify,
+    Mirror, PassFault, SixNetwork, StaleUse, Stored, StoredAnswer, TargetFault, answer_to, choose, classify,
     content_range, end_to_end, has_come_back, is_for_a_part, is_in_not_modified, is_plain_request,
     may_validate, mirrored, stale_use, unsatisfied_range,
 };
@@ -19,7 +19,7 @@ use node_core::{Event, Mode, Network};
 use object_store::{CacheKey, Object};
 use std::alloc::{AllocError, Global};
 use std::io;
-use std::net::{Ipv4Addr, SocketAddr};
+use std::net::{IpAddr, SocketAddr};
 use std::sync::atomic::Ordering;
 use std::sync::ledger::Ledger;
 use std::sync::{Arc, Mutex, Wait};
@@ -31,6 +31,8 @@ use traffic_figures::{AnswerNote, Course};
 pub struct FrontRules {
     /// Networks whose clients are admitted.
     pub allowed: Vec<Network>,
+    /// Networks of IPv6 whose clients are admitted.
+    pub allowed_six: Vec<SixNetwork>,
     /// What targets in origin form stand for.
     pub mirrors: Vec<Mirror>,
     /// Takes objects out of the store that a request has changed.
@@ -560,12 +562,23 @@ impl<R: Wait + Clock + Drop, L: Ledger> TakeCalls for NodeFront<R, L> {
 }
 
 impl<R: Wait + Clock + Drop, L: Ledger> NodeFront<R, L> {
-    fn allows(&mut self, address: Ipv4Addr) -> bool {
-        let octets = address.octets();
-        self.rules
-            .allowed
-            .iter()
-            .any(|network| network.contains(octets))
+    fn allows(&mut self, address: IpAddr) -> bool {
+        match address {
+            IpAddr::V4(address) => {
+                let octets = address.octets();
+                self.rules
+                    .allowed
+                    .iter()
+                    .any(|network| network.contains(octets))
+            }
+            IpAddr::V6(address) => {
+                let number = address.to_bits();
+                self.rules
+                    .allowed_six
+                    .iter()
+                    .any(|network| network.contains(number))
+            }
+        }
     }
 
     fn ask(&mut self, asked: &Asked) -> Result<Asking, u16> {

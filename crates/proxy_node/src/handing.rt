@@ -7,13 +7,13 @@ use http_traffic::{
 };
 use object_store::Object;
 use std::io;
-use std::net::{Ipv4Addr, SocketAddr};
+use std::net::{IpAddr, SocketAddr};
 
 /// One call of a front, with its arguments.
 #[derive(Drop)]
 pub enum Call<'a> {
     /// `Front::allows`.
-    Allows(Ipv4Addr),
+    Allows(IpAddr),
     /// `Front::road`.
     Road(&'a str),
     /// `Front::ask`.
@@ -84,7 +84,7 @@ impl<T: TakeCalls> Handed<T> {
 }
 
 impl<T: TakeCalls> Front for Handed<T> {
-    fn allows(&mut self, address: Ipv4Addr) -> bool {
+    fn allows(&mut self, address: IpAddr) -> bool {
         self.whether(Call::Allows(address))
     }
 

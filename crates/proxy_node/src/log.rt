@@ -5,7 +5,6 @@ use http_traffic as traffic;
 use http_traffic::{Asked, Forward, How, Told};
 use log_writer::LogDesk;
 use std::alloc::Global;
-use std::net::IpAddr;
 use std::sync::Wait;
 use std::time::Clock;
 
@@ -38,10 +37,7 @@ impl AccessLog {
 fn entry_of<'a>(told: &Told<'a>, how: How, millis: u64, taken: u64) -> Entry<'a> {
     Entry {
         millis,
-        client: match told.from {
-            IpAddr::V4(address) => address.octets(),
-            IpAddr::V6(_) => [0; 4],
-        },
+        client: told.from,
         method: match told.asked {
             Some(asked) => asked.method.as_bytes(),
             None => b"",

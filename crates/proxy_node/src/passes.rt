@@ -2,7 +2,7 @@
 //! tunnels. The rules of this, and how many are under way.
 use filter_slots::End;
 use forwarding::{Destination, Peer, origin_of, peer_of};
-use http_rules::OriginRules;
+use http_rules::{OriginRules, SixEnd};
 use http_traffic::Ticket;
 use lru::LruCache;
 use object_store::CacheKey;
@@ -158,6 +158,11 @@ impl Passes {
     /// Adds a bound socket of this cache, which no tunnel leads to. Errors: out of memory.
     pub fn add_own<R: Wait>(&self, rt: &R, end: End) -> Result<(), AllocError> {
         Ok(self.ends.lock(rt).own.push(end)?)
+    }
+
+    /// Notes the socket of this cache at an address of IPv6, which no tunnel leads to.
+    pub fn note_own_six<R: Wait>(&self, rt: &R, end: SixEnd) {
+        self.ends.lock(rt).own_six = Some(end);
     }
 
     /// Notes that the answer of this URL is too long to be stored.

@@ -14,7 +14,7 @@ use forwarding::{
 use futures::channel::mpsc::UnboundedSender;
 use futures::channel::oneshot;
 use http_rules::{
-    OriginRules, StaleUse, conditions_for, has_stale_use, has_validator, may_serve_stale,
+    OriginRules, SixEnd, StaleUse, conditions_for, has_stale_use, has_validator, may_serve_stale,
 };
 use http_traffic as serving;
 use http_traffic::{Admit, Early, Job, Order, Passage, Server, Supplier};
@@ -490,6 +490,12 @@ impl<L: Ledger> ProxyState<L> {
     pub fn add_own<R: Wait>(&self, rt: &R, end: End) -> Result<(), AllocError> {
         self.passes.add_own(rt, end)?;
         Ok(self.origins.lock(rt).own.push(end)?)
+    }
+
+    /// Notes the bound socket of this cache at an address of IPv6, which is never fetched from and which no tunnel leads to.
+    pub fn note_own_six<R: Wait>(&self, rt: &R, end: SixEnd) {
+        self.passes.note_own_six(rt, end);
+        self.origins.lock(rt).own_six = Some(end);
     }
 
     /// Records an attempt that could not be started, for some thread to report to the node.

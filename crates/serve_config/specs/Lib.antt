@@ -9,3 +9,4 @@ pub mod Refresh
 pub mod SharedFields
 pub mod Tokens
 pub mod Words
+pub mod SixClients

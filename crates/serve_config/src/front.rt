@@ -1,12 +1,15 @@
 //! How the proxy is reached by clients and administrators.
 ghost use Rattle.std.specs.Prelude.{◌≡◌, IfOk, IfSome, true};
 ghost use Rattle.std.specs.String.{string_bytes};
+ghost use Rattle.serde_json.specs.View.{view};
 ghost use Rattle.serve_config.specs.Addresses.{is_host};
 ghost use Rattle.serve_config.specs.Refresh.{IsVisible};
+ghost use Rattle.serve_config.specs.SixClients.{AreSixClients};
 ghost use Rattle.serve_config.specs.Tokens.{IsToken};
 
 use crate::fault::Fault;
 use crate::place::Place;
+use crate::six_clients::{SixClients, six_clients};
 use crate::token::is_token68;
 use crate::value::{address, port, text, visible};
 use serde_json::Value;
@@ -20,6 +23,7 @@ pub(crate) struct FrontKeys {
     pub(crate) admin_port: u16,
     pub(crate) name: String,
     pub(crate) admin_token: Option<String>,
+    pub(crate) six_clients: Option<SixClients>,
 }
 
 /// Parses what a configuration says about this.
@@ -27,6 +31,7 @@ pub(crate) fn front_keys(alloc: Global, value: &Value) -> Result<FrontKeys, Faul
     ensures host { IfOk result (λ s. is_host s.address ≡ true) }
     ensures name { IfOk result (λ s. IsVisible (string_bytes s.name)) }
     ensures admin_token { IfOk result (λ s. IfSome s.admin_token (λ token. IsToken (string_bytes token))) }
+    ensures six_clients { IfOk result (λ s. AreSixClients (view value.now) s.six_clients) }
 {
     let top = Place::whole();
     Ok(FrontKeys {
@@ -35,6 +40,7 @@ pub(crate) fn front_keys(alloc: Global, value: &Value) -> Result<FrontKeys, Faul
         admin_port: port(alloc, value, top.key("admin_port"))?,
         name: String::from_str(alloc, visible(alloc, value, top.key("name"))?)?,
         admin_token: admin_token(alloc, value)?,
+        six_clients: six_clients(alloc, value)?,
     })
 }
 

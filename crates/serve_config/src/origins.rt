@@ -87,8 +87,8 @@ fn denied(alloc: Global, value: &Value, has_six: bool) -> Result<Networks, Fault
     Ok(Networks { four, six })
 }
 
-// Parses the text of a network of IPv6, such as `2001:db8::/32`; `None` if it is none.
-fn six_network(value: &Value) -> Option<SixNetwork>
+/// Parses the text of a network of IPv6, such as `2001:db8::/32`; `None` if it is none.
+pub(crate) fn six_network(value: &Value) -> Option<SixNetwork>
     ensures { IfSome result (λ network. network.prefix ≤ 128) }
 {
     let (address, bits) = value.as_str()?.split_once('/')?;

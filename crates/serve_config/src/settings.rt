@@ -13,6 +13,7 @@ ghost use Rattle.serve_config.specs.Own.{is_self, shares_port};
 ghost use Rattle.serve_config.specs.Passing.{AreConnectPorts, AreMethods, large_said};
 ghost use Rattle.serve_config.specs.Refresh.{AreRules, AreStaleSeconds, IsVisible};
 ghost use Rattle.serve_config.specs.SharedFields.{AreSharedFields};
+ghost use Rattle.serve_config.specs.SixClients.{AreSixClients};
 ghost use Rattle.serve_config.specs.Tokens.{IsToken};
 ghost use Rattle.serve_config.specs.Words.{form_said, freshness_said, level_said};
 
@@ -29,6 +30,7 @@ use crate::own::{check_apart, check_ports};
 use crate::passing::{Large, PassedMethod};
 use crate::shape::check;
 use crate::shared_fields::SharedField;
+use crate::six_clients::SixClients;
 use crate::web::{WebKeys, web_keys};
 use json_fault::{Expected, expected_at, offset_of};
 use node_core::{Config, Network};
@@ -62,8 +64,10 @@ pub enum LogLevel {
 pub struct Settings {
     /// The IPv4 address of the query sockets and of the client socket.
     pub address: [u8; 4],
-    /// The port for clients.
+    /// The port for clients, at each address where they are served.
     pub http_port: u16,
+    /// Where clients with addresses of IPv6 are served, if they are.
+    pub six_clients: Option<SixClients>,
     /// The port for administration.
     pub admin_port: u16,
     /// The name in Via fields: one or more visible ASCII characters.
@@ -151,6 +155,7 @@ impl Settings {
         ensures origin_ports { IfOk result (λ s. IfSome s.origin_ports (λ ports. ArePorts ports.items)) }
         ensures origins6 { IfOk result (λ s. IfSome s.origins6 (λ networks. AreSixNetworks networks.items)) }
         ensures admin_token { IfOk result (λ s. IfSome s.admin_token (λ token. IsToken (string_bytes token))) }
+        ensures six_clients { IfOk result (λ s. IsSomeAnd (read_json text.now) (λ d. AreSixClients d s.six_clients)) }
         ensures name { IfOk result (λ s. IsVisible (string_bytes s.name)) }
         ensures access_log_format { IfOk result (λ s. option_and_then form_said (read_json text.now) ≡ Some s.access_log_format) }
         ensures log_level { IfOk result (λ s. option_and_then level_said (read_json text.now) ≡ Some s.log_level) }
@@ -190,6 +195,7 @@ impl fmt::Debug for Settings {
         f.debug_struct("Settings")
             .field("address", &self.address)
             .field("http_port", &self.http_port)
+            .field("six_clients", &self.six_clients)
             .field("admin_port", &self.admin_port)
             .field("name", &self.name)
             .field("body_limit", &self.body_limit)
@@ -239,6 +245,7 @@ fn parse_values(alloc: Global, value: &Value) -> Result<Settings, Fault>
     ensures origin_ports { IfOk result (λ s. IfSome s.origin_ports (λ ports. ArePorts ports.items)) }
     ensures origins6 { IfOk result (λ s. IfSome s.origins6 (λ networks. AreSixNetworks networks.items)) }
     ensures admin_token { IfOk result (λ s. IfSome s.admin_token (λ token. IsToken (string_bytes token))) }
+    ensures six_clients { IfOk result (λ s. AreSixClients (view value.now) s.six_clients) }
     ensures name { IfOk result (λ s. IsVisible (string_bytes s.name)) }
     ensures access_log_format { IfOk result (λ s. form_said (view value.now) ≡ Some s.access_log_format) }
     ensures log_level { IfOk result (λ s. level_said (view value.now) ≡ Some s.log_level) }
@@ -277,6 +284,7 @@ fn parse_values(alloc: Global, value: &Value) -> Result<Settings, Fault>
     Ok(Settings {
         address,
         http_port: front.http_port,
+        six_clients: front.six_clients,
         admin_port: front.admin_port,
         name: front.name,
         body_limit: limits.body_limit,

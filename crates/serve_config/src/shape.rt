@@ -38,7 +38,7 @@ const TOP: [Known; 16] = [
 ];
 
 /// The keys that a configuration may leave out.
-const OPTIONAL: [Known; 27] = [
+const OPTIONAL: [Known; 29] = [
     ("receipt_octets", Kind::Number),
     ("book_octets", Kind::Number),
     ("fetch_octets", Kind::Number),
@@ -66,6 +66,8 @@ const OPTIONAL: [Known; 27] = [
     ("fetch_idle", Kind::Number),
     ("keep_alive", Kind::Number),
     ("shared_fields", Kind::Object),
+    ("http_address6", Kind::Text),
+    ("allowed6", Kind::List),
 ];
 
 /// The keys of `filters`, each of which may be left out.
@@ -137,6 +139,7 @@ pub(crate) fn check(alloc: Global, value: &Value) -> Result<(), Fault> {
     check_items(alloc, value, "origin_ports", Kind::Number)?;
     check_items(alloc, value, "methods", Kind::Text)?;
     check_items(alloc, value, "connect_ports", Kind::Number)?;
+    check_items(alloc, value, "allowed6", Kind::Text)?;
     for (i, key) in items(value, "keys").iter().enumerate() {
         check_object(alloc, key, Place::item("keys", i), &KEY, &[])?;
     }

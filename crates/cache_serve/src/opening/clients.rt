@@ -7,7 +7,7 @@ use crate::tasks::{
 use client_streams::Stops;
 use crossbeam_channel::Receiver;
 use futures::channel::oneshot;
-use http_clients::{ClientSocket, client_sockets};
+use http_clients::{ClientSocket, client_sockets, listen_at_six};
 use proxy_node::{FrontRules, Outbox, ProxyState, ThreadSeat};
 use std::alloc::{AllocError, AllocGlobal, Global};
 use std::fs::Files;
@@ -103,7 +103,7 @@ where
         })
     }
 
-    /// Binds the socket for clients, and starts the threads that serve them there. Returns where it is bound, once all of them do.
+    /// Binds the sockets for clients, and starts the threads that serve them there. Returns where that of IPv4 is bound, once all of them do.
     pub(super) fn open_clients(
         &mut self,
         kit: &ClientKit,
@@ -114,16 +114,21 @@ where
         self.opened_clients(heard)
     }
 
-    /// What each thread that serves clients is started with: a handle to the one socket for them.
+    /// What each thread that serves clients is started with: a handle to the one socket for them, and to that at an address of IPv6.
     fn client_places(
         &mut self,
         hurried: Vec<oneshot::Receiver<()>>,
     ) -> Result<Vec<ClientPlace>, ServeFault> {
         let config = self.config;
         let (limits, threads) = (config.limits.clients.connections, config.client_threads);
-        let sockets = client_sockets(&self.rt, config.clients, limits, threads).map_err(
+        let mut sockets = client_sockets(&self.rt, config.clients, limits, threads).map_err(
             |error| socket_fault(Port::Clients, &error),
         )?;
+        if let Some(address) = config.six {
+            listen_at_six(&self.rt, &mut sockets, address).map_err(
+                |error| socket_fault(Port::SixClients, &error),
+            )?;
+        }
         places_of(self.alloc, sockets, hurried).map_err(no_memory)
     }
 

@@ -5,18 +5,18 @@ use crate::limits::{
 };
 use crate::passing::allows_own;
 use crate::site::Equipment;
-use crate::state::Given;
+use crate::state::{Given, six_networks};
 use crate::tasks::ThreadConfig;
 use filter_files::Filter;
 use futures::channel::oneshot;
-use http_rules::Mirror;
+use http_rules::{Mirror, SixNetwork};
 use log_writer::LogTask;
 use node_core::{Config, Network};
 use proxy_node::{FrontRules, Purger};
 use serve_config::{FilterFile, MirrorPath, Settings};
 use std::alloc::{AllocError, AllocGlobal, Global};
 use std::fs::Files;
-use std::net::{Ipv4Addr, SocketAddr, SocketAddrV4};
+use std::net::{Ipv4Addr, Ipv6Addr, SocketAddr, SocketAddrV4};
 use std::thread::Threads;
 use std::time::Duration;
 use std::{mem, thread};
@@ -166,6 +166,7 @@ pub(super) fn thread_config<R: Threads + Files + AllocGlobal>(
     let client_threads = client_threads(rt, settings);
     if let Some(files) = most_files(rt) {
         let most = limits.clients.connections.most;
+        let files = files.saturating_sub(six_files(settings, client_threads));
         limits.clients.connections.most = connections_within(files, client_threads, most);
     }
     limits.fetching = Duration::from_secs(u64::from(settings.fetch_seconds));
@@ -177,6 +178,7 @@ pub(super) fn thread_config<R: Threads + Files + AllocGlobal>(
         icp: settings.node.icp,
         htcp: settings.node.htcp,
         clients: SocketAddr::V4(SocketAddrV4::new(address, settings.http_port)),
+        six: six_address(settings),
         client_threads,
         admin_port: settings.admin_port,
         body_limit: settings.body_limit as usize,
@@ -184,6 +186,21 @@ pub(super) fn thread_config<R: Threads + Files + AllocGlobal>(
         streams: settings.streams,
         stop_after: settings.stop_after,
         limits,
+    }
+}
+
+/// The address of IPv6 at which clients are served too, if there is one.
+fn six_address(settings: &Settings) -> Option<Ipv6Addr> {
+    let clients = settings.six_clients.as_ref()?;
+    Some(Ipv6Addr::from_bits(clients.address))
+}
+
+/// The open files of the socket there: its own, and the handle of each of so many threads.
+fn six_files(settings: &Settings, threads: usize) -> usize {
+    if settings.six_clients.is_some() {
+        threads.saturating_add(1)
+    } else {
+        0
     }
 }
 
@@ -199,6 +216,7 @@ fn keep_of(seconds: u32) -> Option<Duration> {
 fn front_rules(alloc: Global, settings: &mut Settings) -> Result<FrontRules, AllocError> {
     Ok(FrontRules {
         allowed: networks_of(alloc, &settings.node)?,
+        allowed_six: six_allowed(alloc, settings)?,
         mirrors: mirrors_of(alloc, mem::replace(&mut settings.mirrors, Vec::new(alloc)))?,
         purger: purger_of(alloc, &settings.node)?,
     })
@@ -216,6 +234,14 @@ fn mirrors_of(alloc: Global, settings: Vec<MirrorPath>) -> Result<Vec<Mirror>, A
         }
     }
     Ok(mirrors)
+}
+
+/// The networks of IPv6 whose clients are admitted; none where no clients are served at an address of IPv6.
+fn six_allowed(alloc: Global, settings: &Settings) -> Result<Vec<SixNetwork>, AllocError> {
+    match &settings.six_clients {
+        Some(clients) => six_networks(alloc, clients.allowed.as_slice()),
+        None => Ok(Vec::new(alloc)),
+    }
 }
 
 fn networks_of(alloc: Global, config: &Config) -> Result<Vec<Network>, AllocError> {
