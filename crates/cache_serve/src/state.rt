@@ -10,7 +10,9 @@ use capture_tap::Tap;
 use crossbeam_channel::Sender;
 use forwarding::{Field, Mailbox, Peer, Profile};
 use futures::channel::oneshot;
-use http_rules::{OriginRules, RefreshRule, SixNetwork, UrlPlace, loop_mark, usual_denials};
+use http_rules::{
+    OriginRules, RefreshRule, SixNetwork, UrlPlace, loop_mark, usual_denials, usual_six_denials,
+};
 use mio_queries::Timeline;
 use node_book::{BOOK_OCTETS, BookFault, Booked, Desk, RECEIPT_OCTETS, Seat};
 use node_core::{Config, Node};
@@ -370,6 +372,8 @@ fn random_mark<R: RandomSource>(rt: &R, alloc: Global, name: &[u8]) -> Result<Ve
 
 /// Which servers may be fetched from as origins; the sockets of this cache are added once they are bound.
 fn origins_of(alloc: Global, settings: &mut Settings) -> Result<OriginRules, AllocError> {
+    let is_usual = settings.deny_origins.is_none();
+    let denied_six = denied_six(alloc, settings.origins6.take(), is_usual)?;
     let denied = match settings.deny_origins.take() {
         Some(denied) => denied,
         None => usual_denials(alloc, settings.address)?,
@@ -379,11 +383,25 @@ fn origins_of(alloc: Global, settings: &mut Settings) -> Result<OriginRules, All
         denied,
         ports: settings.origin_ports.take(),
         own_six: None,
-        denied_six: match settings.origins6.take() {
-            Some(networks) => Some(six_networks(alloc, networks.as_slice())?),
-            None => None,
-        },
+        denied_six,
     })
+}
+
+/// The networks of IPv6 that are never fetched from, where servers of IPv6 are fetched from at all.
+fn denied_six(
+    alloc: Global,
+    networks: Option<Vec<serve_config::SixNetwork>>,
+    is_usual: bool,
+) -> Result<Option<Vec<SixNetwork>>, AllocError> {
+    let Some(networks) = networks else {
+        return Ok(None);
+    };
+    let denied = if is_usual {
+        usual_six_denials(alloc)?
+    } else {
+        six_networks(alloc, networks.as_slice())?
+    };
+    Ok(Some(denied))
 }
 
 /// The same networks as the rules of HTTP have them.

@@ -1,5 +1,5 @@
 //! Which servers with an address of IPv6 may be fetched from as origins.
-ghost use Rattle.std.specs.Prelude.{◌≡◌, ◌%◌, ◌^◌, ◌||◌};
+ghost use Rattle.std.specs.Prelude.{◌≡◌, ◌%◌, ◌^◌, ◌||◌, IfOk};
 ghost use Rattle.std.specs.List.{list_any};
 ghost use Rattle.http_rules.specs.OriginsSix.{
   admits_at,
@@ -12,10 +12,12 @@ ghost use Rattle.http_rules.specs.OriginsSix.{
   reached_six,
   refuses,
   stands_for,
+  usual_six_denials,
 };
 
 use crate::origins::OriginRules;
 use filter_slots::End;
+use std::alloc::{AllocError, Global};
 use std::net::{IpAddr, SocketAddr};
 
 /// A network of IPv6: an address as a number, and how many of its first bits all addresses of the network have, at most 128.
@@ -53,6 +55,17 @@ fn first_bits(prefix: u8, address: u128) -> u128
 
 // The first 96 bits of 64:ff9b::/96.
 const NAT64: u128 = 0x64_ff9b_0000_0000_0000_0000;
+
+// ::ffff:0.0.0.0, and ::ffff:127.0.0.1, which a connection to it reaches.
+const MAPPED_NONE: u128 = 0xffff_0000_0000;
+
+const MAPPED_LOOPBACK: u128 = 0xffff_7f00_0001;
+
+// fd00:ec2::254, at which a cloud (AWS) tells each of its hosts what that is trusted with.
+const METADATA: SixNetwork = SixNetwork {
+    address: 0xfd00_0ec2_0000_0000_0000_0000_0000_0254,
+    prefix: 128,
+};
 
 // The last 32 bits of an address.
 fn last_bits(address: u128) -> u32
@@ -163,5 +176,18 @@ fn is_in_one(networks: &[SixNetwork], address: u128) -> bool
 fn reached_six(address: u128) -> u128
     ensures { result ≡ reached_six address }
 {
-    if address == 0 { 1 } else { address }
+    match address {
+        0 => 1,
+        MAPPED_NONE => MAPPED_LOOPBACK,
+        _ => address,
+    }
+}
+
+/// The networks of IPv6 that are never fetched from where the configuration says nothing: fd00:ec2::254 alone, the metadata of a cloud.
+pub fn usual_six_denials(alloc: Global) -> Result<Vec<SixNetwork>, AllocError>
+    ensures { IfOk result (λ networks. networks.items ≡ usual_six_denials) }
+{
+    let mut denied = Vec::new(alloc);
+    denied.push(METADATA)?;
+    Ok(denied)
 }
