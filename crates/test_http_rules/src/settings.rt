@@ -329,7 +329,10 @@ const GUARDS: [(&str, &str); 38] = [
 
 // The same, for the keys about clients of IPv6.
 const SIX_CLIENTS: [(&str, &str); 21] = [
-    (r#""http_address6": "2001:db8::1", "allowed6": ["2001:db8::/32", "::/0", "::1/128"]"#, "read"),
+    (
+        r#""http_address6": "2001:db8::1", "allowed6": ["2001:db8::/32", "::/0", "::1/128"]"#,
+        "read",
+    ),
     (r#""http_address6": "::1", "allowed6": []"#, "read"),
     (r#""http_address6": "::2", "allowed6": []"#, "read"),
     (r#""http_address6": "fec0::1", "allowed6": []"#, "read"),

@@ -110,12 +110,24 @@ fn front_of(alloc: Global, form: Form, segments: [u16; 8], front: &[u8]) -> Resu
 // single one, small letters, and an address of IPv4 in its own form.
 const SIX: [([u16; 8], &[u8]); 7] = [
     ([0x2001, 0xdb8, 0, 0, 0, 0, 0, 1], b"2001:db8::1 - - ["),
-    ([0x2001, 0xdb8, 0, 1, 1, 1, 1, 1], b"2001:db8:0:1:1:1:1:1 - - ["),
+    (
+        [0x2001, 0xdb8, 0, 1, 1, 1, 1, 1],
+        b"2001:db8:0:1:1:1:1:1 - - [",
+    ),
     ([0x2001, 0, 0, 1, 0, 0, 0, 1], b"2001:0:0:1::1 - - ["),
-    ([0x2001, 0xdb8, 0, 0, 1, 0, 0, 1], b"2001:db8::1:0:0:1 - - ["),
-    ([0xfe80, 0xabcd, 0xef, 0xf, 0, 0, 0, 0], b"fe80:abcd:ef:f:: - - ["),
+    (
+        [0x2001, 0xdb8, 0, 0, 1, 0, 0, 1],
+        b"2001:db8::1:0:0:1 - - [",
+    ),
+    (
+        [0xfe80, 0xabcd, 0xef, 0xf, 0, 0, 0, 0],
+        b"fe80:abcd:ef:f:: - - [",
+    ),
     ([0, 0, 0, 0, 0, 0, 0, 1], b"::1 - - ["),
-    ([0, 0, 0, 0, 0, 0xffff, 0xc000, 0x0201], b"::ffff:192.0.2.1 - - ["),
+    (
+        [0, 0, 0, 0, 0, 0xffff, 0xc000, 0x0201],
+        b"::ffff:192.0.2.1 - - [",
+    ),
 ];
 
 #[test]
@@ -124,7 +136,8 @@ fn addresses_of_six(rt: HostRuntime) -> Result<(), Fail> {
     for (segments, front) in SIX {
         assert!(rt; front_of(alloc, Form::Common, segments, front)?);
     }
-    let json = b"{\"time\":\"2026-11-25T06:14:12.345Z\",\"client\":\"2001:db8::1\",\"method\":\"GET\",";
+    let json =
+        b"{\"time\":\"2026-11-25T06:14:12.345Z\",\"client\":\"2001:db8::1\",\"method\":\"GET\",";
     assert!(rt; front_of(alloc, Form::Json, [0x2001, 0xdb8, 0, 0, 0, 0, 0, 1], json)?);
     Ok(())
 }

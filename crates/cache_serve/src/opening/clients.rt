@@ -125,9 +125,10 @@ where
             |error| socket_fault(Port::Clients, &error),
         )?;
         if let Some(address) = config.six {
-            listen_at_six(&self.rt, &mut sockets, address).map_err(
-                |error| socket_fault(Port::SixClients, &error),
-            )?;
+            listen_at_six(&self.rt, &mut sockets, address).map_err(|error| socket_fault(
+                Port::SixClients,
+                &error,
+            ))?;
         }
         places_of(self.alloc, sockets, hurried).map_err(no_memory)
     }
