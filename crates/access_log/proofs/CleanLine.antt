@@ -2,6 +2,10 @@
 use Rattle.std.proofs.Common.{ℕ, ◌+◌, ◌/◌, ◌%◌, ◌<◌, Bool, true, false, List, [], ◌∷◌, ◌++◌, length, nat_eq, refl, sym, subst, arith}
 use Rattle.std.specs.Prelude.{codes, decimal, Option, Some, None}
 use Rattle.std.proofs.lemmas.List.Folds.{list_all-append}
+use Rattle.std.specs.declared.net.ip_addr.IpAddr.{IpAddr}
+use Rattle.std.specs.declared.net.ip_addr.IpAddr.TheVariants.{V4, V6}
+use Rattle.std.specs.Net.Addr.{IsIpv4Addr, IsIpv6Addr, MatchIp, ipv4_octets, ipv6_segments}
+use Rattle.access_log.proofs.CleanAddress.{clean_six}
 use Rattle.httpdate.specs.declared.date.HttpDate.{HttpDate}
 use Rattle.httpdate.specs.Text.{two_digits}
 use Rattle.access_log.specs.declared.entry.Entry.{Entry}
@@ -14,7 +18,7 @@ use Rattle.access_log.specs.declared.entry.Supplier.TheVariants.{Origin, Neighbo
 use Rattle.access_log.specs.declared.stamp.Stamp.{Stamp}
 use Rattle.access_log.specs.Escaped.{is_printable, escaped, escaped_or_dash}
 use Rattle.access_log.specs.Stamp.{Shows, common_time, json_time, three_digits}
-use Rattle.access_log.specs.Line.{shown_moment, address_text, status_text, course_text, supplier_text, request_text, truth_text}
+use Rattle.access_log.specs.Line.{shown_moment, address_text, octets_text, status_text, course_text, supplier_text, request_text, truth_text}
 use Rattle.access_log.specs.Pieces.{common_asked, common_answered, common_course, common_pieces, named_text, member_text, json_asked, json_answered, json_course, json_pieces, pieces_of}
 use Rattle.access_log.proofs.Clean.{Clean, clean_both, clean_either, clean_one, clean_decimal, clean_two, clean_escaped}
 use Rattle.access_log.proofs.Places.{month_names}
@@ -61,9 +65,14 @@ clean_json_time stamp millis h =
     simp (list_all-append is_printable, h.year, h.month, h.day, h.time, three)
 
 -- words
-clean_address : (address : List ℕ) → Clean (address_text address)
+clean_octets : (octets : List ℕ) → Clean (octets_text octets)
+unfolding octets_text
+clean_octets octets = simp (list_all-append is_printable, clean_decimal)
+
+clean_address : (address : IpAddr) → MatchIp address IsIpv4Addr IsIpv6Addr → Clean (address_text address)
 unfolding address_text
-clean_address address = simp (list_all-append is_printable, clean_decimal)
+clean_address (V4 address) valid = clean_octets (ipv4_octets address)
+clean_address (V6 address) valid = clean_six (ipv6_segments address) valid.1
 
 clean_status : (status : Option ℕ) → Clean (status_text status)
 unfolding status_text
@@ -100,11 +109,11 @@ clean_request entry =
     clean_either (nat_eq (length entry.method.now) 0) (codes "-") (escaped Common entry.method.now ++ codes " " ++ escaped Common entry.url.now ++ codes " HTTP/1.1")
     refl (simp (list_all-append is_printable, clean_escaped))
 
-clean_common_asked : (stamp : Stamp) (entry : Entry) → CleanStamp stamp → Clean (common_asked stamp entry)
+clean_common_asked : (stamp : Stamp) (entry : Entry) → CleanStamp stamp → Clean (address_text entry.client) → Clean (common_asked stamp entry)
 unfolding common_asked
-clean_common_asked stamp entry h =
+clean_common_asked stamp entry h client =
     let time = clean_common_time stamp h in
-    simp (list_all-append is_printable, clean_address, time, clean_request)
+    simp (list_all-append is_printable, client, time, clean_request)
 
 clean_common_answered : (entry : Entry) → Clean (common_answered entry)
 unfolding common_answered
@@ -114,11 +123,11 @@ clean_common_course : (entry : Entry) → Clean (common_course entry)
 unfolding common_course
 clean_common_course entry = simp (list_all-append is_printable, clean_course, clean_supplier, clean_decimal)
 
-clean_common_pieces : (stamp : Stamp) (entry : Entry) → CleanStamp stamp → Clean (common_pieces stamp entry)
+clean_common_pieces : (stamp : Stamp) (entry : Entry) → CleanStamp stamp → Clean (address_text entry.client) → Clean (common_pieces stamp entry)
 unfolding common_pieces
-clean_common_pieces stamp entry h =
+clean_common_pieces stamp entry h client =
     clean_both (common_asked stamp entry ++ common_answered entry) (common_course entry)
-    (clean_both (common_asked stamp entry) (common_answered entry) (clean_common_asked stamp entry h) (clean_common_answered entry))
+    (clean_both (common_asked stamp entry) (common_answered entry) (clean_common_asked stamp entry h client) (clean_common_answered entry))
     (clean_common_course entry)
 
 -- JSON
@@ -130,13 +139,13 @@ clean_member : (name text : List ℕ) → Clean name → Clean (member_text name
 unfolding member_text
 clean_member name text h = clean_either (nat_eq (length text) 0) [] (named_text name text) refl (clean_named name text h)
 
-clean_json_asked : (stamp : Stamp) (entry : Entry) → CleanStamp stamp → Clean (json_asked stamp entry)
+clean_json_asked : (stamp : Stamp) (entry : Entry) → CleanStamp stamp → Clean (address_text entry.client) → Clean (json_asked stamp entry)
 unfolding json_asked
-clean_json_asked stamp entry h =
+clean_json_asked stamp entry h client =
     let time = clean_json_time stamp (shown_moment entry.millis) h in
     let method = clean_named (codes "method") entry.method.now refl in
     let url = clean_named (codes "url") entry.url.now refl in
-    simp (list_all-append is_printable, time, clean_address, method, url)
+    simp (list_all-append is_printable, time, client, method, url)
 
 clean_json_answered : (entry : Entry) → Clean (json_answered entry)
 unfolding json_answered
@@ -146,17 +155,17 @@ clean_json_course : (entry : Entry) → Clean (json_course entry)
 unfolding json_course
 clean_json_course entry = simp (list_all-append is_printable, clean_course, clean_supplier, clean_truth)
 
-clean_json_pieces : (stamp : Stamp) (entry : Entry) → CleanStamp stamp → Clean (json_pieces stamp entry)
+clean_json_pieces : (stamp : Stamp) (entry : Entry) → CleanStamp stamp → Clean (address_text entry.client) → Clean (json_pieces stamp entry)
 unfolding json_pieces
-clean_json_pieces stamp entry h =
-    let asked = clean_json_asked stamp entry h in
+clean_json_pieces stamp entry h client =
+    let asked = clean_json_asked stamp entry h client in
     let answered = clean_json_answered entry in
     let course = clean_json_course entry in
     let referer = clean_member (codes "referer") entry.referer.now refl in
     let agent = clean_member (codes "agent") entry.agent.now refl in
     simp (list_all-append is_printable, asked, answered, course, referer, agent)
 
-pub clean_pieces : (form : Form) (date : HttpDate) (stamp : Stamp) (entry : Entry) → Shows date stamp → Clean (pieces_of form stamp entry)
+pub clean_pieces : (form : Form) (date : HttpDate) (stamp : Stamp) (entry : Entry) → Shows date stamp → MatchIp entry.client IsIpv4Addr IsIpv6Addr → Clean (pieces_of form stamp entry)
 unfolding pieces_of
-clean_pieces Common date stamp entry shows = clean_common_pieces stamp entry (clean_stamp date stamp shows)
-clean_pieces Json date stamp entry shows = clean_json_pieces stamp entry (clean_stamp date stamp shows)
+clean_pieces Common date stamp entry shows valid = clean_common_pieces stamp entry (clean_stamp date stamp shows) (clean_address entry.client valid)
+clean_pieces Json date stamp entry shows valid = clean_json_pieces stamp entry (clean_stamp date stamp shows) (clean_address entry.client valid)

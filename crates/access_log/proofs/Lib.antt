@@ -1,4 +1,5 @@
 pub mod Clean
+pub mod CleanAddress
 pub mod Places
 pub mod CleanLine
 pub mod Shape

@@ -8,8 +8,8 @@ use crate::requests::Answers;
 use crate::texts::{FORBIDDEN, forbidden};
 use crate::tunnel::Dialer;
 use client_streams::{
-    Accept, AcceptedClients, ClientLimits, Listeners, Patient, Refusal, SeatShare, SharedStage, Stops,
-    StreamTimeouts, seat_shares,
+    Accept, AcceptedClients, ClientLimits, Listeners, Patient, Refusal, SeatShare, SharedStage,
+    Stops, StreamTimeouts, seat_shares,
 };
 use crossbeam_channel::Sender;
 use futures::Future;

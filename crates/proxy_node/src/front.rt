@@ -8,9 +8,9 @@ use crossbeam_channel::Sender;
 use forwarding::{Field, KnownKeys, Profile, Waiting, server_in_digits};
 use futures::channel::oneshot;
 use http_rules::{
-    Mirror, PassFault, SixNetwork, StaleUse, Stored, StoredAnswer, TargetFault, answer_to, choose, classify,
-    content_range, end_to_end, has_come_back, is_for_a_part, is_in_not_modified, is_plain_request,
-    may_validate, mirrored, stale_use, unsatisfied_range,
+    Mirror, PassFault, SixNetwork, StaleUse, Stored, StoredAnswer, TargetFault, answer_to, choose,
+    classify, content_range, end_to_end, has_come_back, is_for_a_part, is_in_not_modified,
+    is_plain_request, may_validate, mirrored, stale_use, unsatisfied_range,
 };
 use http_traffic::{
     Asked, Asking, FollowUp, Forward, Front, How, Outcome, PassOn, Shape, Supplier, Told,

@@ -14,7 +14,7 @@ use http_traffic::{
 };
 use std::alloc::{AllocGlobal, Global};
 use std::io::{Read, Write};
-use std::net::{Ipv4Addr, Net, SocketAddr, SocketAddrV4, TcpListener, TcpStream};
+use std::net::{IpAddr, Ipv4Addr, Net, SocketAddr, SocketAddrV4, TcpListener, TcpStream};
 use std::random::RandomSource;
 use std::sync::atomic::{AtomicU64, AtomicUsize, Ordering};
 use std::sync::{Arc, Wait};
@@ -71,7 +71,7 @@ impl<R: Wait + AllocGlobal + Copy> Passer<R> {
 }
 
 impl<R: Wait + AllocGlobal + Copy> Front for Passer<R> {
-    fn allows(&mut self, _address: Ipv4Addr) -> bool {
+    fn allows(&mut self, _address: IpAddr) -> bool {
         false
     }
 

@@ -18,7 +18,7 @@ use http_traffic::{
 use name_lookup::{NameDesk, NameLimits, hand_over, open_names};
 use object_store::{Object, SharedObject};
 use std::alloc::Global;
-use std::net::{Ipv4Addr, SocketAddr, SocketAddrV4, TcpListener};
+use std::net::{IpAddr, Ipv4Addr, SocketAddr, SocketAddrV4, TcpListener};
 use std::sync::{Arc, Mutex, Wait};
 use std::test::Fail;
 use std::thread;
@@ -97,7 +97,7 @@ impl<R: Wait + Clock + Copy> Asks<R> {
 }
 
 impl<R: Wait + Clock + Copy> Front for Asks<R> {
-    fn allows(&mut self, _address: Ipv4Addr) -> bool {
+    fn allows(&mut self, _address: IpAddr) -> bool {
         false
     }
 

@@ -262,7 +262,11 @@ fn sockets_apart<R: Net + AllocGlobal>(
     let mut sockets = Vec::new(rt.alloc());
     for seats in seat_shares(rt.alloc(), connections, 2)? {
         let ClientSocket { listener, .. } = ClientSocket::bind(rt, local(), connections)?;
-        sockets.push(ClientSocket { listener, seats })?;
+        sockets.push(ClientSocket {
+            listener,
+            six: None,
+            seats,
+        })?;
     }
     Ok(sockets)
 }

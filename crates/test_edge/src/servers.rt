@@ -1,14 +1,16 @@
 //! Tests of the server for clients.
 use crate::clients::{exchange, has, is_ended_after};
 use crate::limits::{client_limits, serve_limits};
-use client_streams::{Accept, AcceptedClients, Patient, Refusal, SeatShare, SharedStage, Stops};
+use client_streams::{
+    Accept, AcceptedClients, Listeners, Patient, Refusal, SeatShare, SharedStage, Stops,
+};
 use crossbeam_channel::{Sender, unbounded};
 use futures::channel::oneshot;
 use http_clients::{ClientSocket, serve_clients};
 use http_traffic::{Asked, Asking, FollowUp, Forward, Front, How, Outcome, PassOn, Supplier, Told};
 use object_store::{Object, SharedObject};
 use std::alloc::{AllocError, AllocGlobal, Global};
-use std::net::{Ipv4Addr, Net, SocketAddr, SocketAddrV4};
+use std::net::{IpAddr, Ipv4Addr, Net, SocketAddr, SocketAddrV4};
 use std::random::RandomSource;
 use std::sync::atomic::{AtomicU64, AtomicUsize, Ordering};
 use std::sync::{Arc, Wait};
@@ -128,7 +130,7 @@ impl<R: AllocGlobal + Copy> Script<R> {
 }
 
 impl<R: Wait + AllocGlobal + Copy> Front for Script<R> {
-    fn allows(&mut self, address: Ipv4Addr) -> bool {
+    fn allows(&mut self, address: IpAddr) -> bool {
         false
     }
 
@@ -491,8 +493,9 @@ where
     let limits = client_limits(64, 64);
     let grace = Duration::from_millis(200);
     let seats = SeatShare::alone(alloc, limits)?;
+    let listeners = Listeners::new(listener, None);
     let clients = AcceptedClients::new(
-        rt, alloc, timers, listener, stops, grace, accept, limits, seats,
+        rt, alloc, timers, listeners, stops, grace, accept, limits, seats,
     )?;
     runtime.run_all(&rt, clients)
 }

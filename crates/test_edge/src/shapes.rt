@@ -7,7 +7,7 @@ use http_clients::{ClientSocket, serve_clients};
 use http_traffic::{Asked, Asking, FollowUp, Front, PassOn, Road, Shape, Told};
 use object_store::Object;
 use std::alloc::{AllocError, AllocGlobal, Global};
-use std::net::{Ipv4Addr, Net, SocketAddr, SocketAddrV4};
+use std::net::{IpAddr, Ipv4Addr, Net, SocketAddr, SocketAddrV4};
 use std::sync::Wait;
 use std::test::Fail;
 use std::thread;
@@ -41,7 +41,7 @@ fn shape_named(alloc: Global, name: &[u8]) -> Result<Shape, AllocError> {
 }
 
 impl<R: Wait + AllocGlobal + Copy> Front for Shaping<R> {
-    fn allows(&mut self, address: Ipv4Addr) -> bool {
+    fn allows(&mut self, address: IpAddr) -> bool {
         self.script.allows(address)
     }
 

@@ -320,7 +320,7 @@ fn a_second_stop_ends_the_grace(rt: HostRuntime) -> Result<(), Fail> {
 #[test]
 fn a_refused_client_is_told(rt: HostRuntime) -> Result<(), Fail> {
     let alloc = rt.alloc();
-    // Every client of another address than IPv4's is refused. Where there is no IPv6, there is nothing to be refused.
+    // The front refuses each client that it is asked about, as it is about any of IPv6. Where there is no IPv6, there is nothing to be refused.
     let address = IpAddr::V6(Ipv6Addr::LOCALHOST);
     if TcpListener::bind(&rt, SocketAddr::new(address, 0)).is_err() {
         return Ok(());

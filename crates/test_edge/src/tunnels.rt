@@ -11,7 +11,7 @@ use http_traffic::{
 use std::alloc::{AllocGlobal, Global};
 use std::io::{Read, Write};
 use std::net::{
-    Ipv4Addr, Net, OpenStream, Shutdown, SocketAddr, SocketAddrV4, TcpListener, TcpStream,
+    IpAddr, Ipv4Addr, Net, OpenStream, Shutdown, SocketAddr, SocketAddrV4, TcpListener, TcpStream,
 };
 use std::random::RandomSource;
 use std::sync::atomic::{AtomicUsize, Ordering};
@@ -104,7 +104,7 @@ impl<R: Wait + AllocGlobal + Copy> Tunnels<R> {
 }
 
 impl<R: Wait + AllocGlobal + Copy> Front for Tunnels<R> {
-    fn allows(&mut self, _address: Ipv4Addr) -> bool {
+    fn allows(&mut self, _address: IpAddr) -> bool {
         false
     }
 

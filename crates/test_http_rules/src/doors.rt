@@ -3,7 +3,9 @@
 use crate::heads::head_of;
 use crate::rows::{Question, all_hold};
 use filter_slots::End;
-use http_rules::{OriginRules, SixNetwork, has_come_back, is_authorized, loop_mark, usual_denials};
+use http_rules::{
+    OriginRules, SixEnd, SixNetwork, has_come_back, is_authorized, loop_mark, usual_denials,
+};
 use node_core::Network;
 use std::alloc::Global;
 use std::net::SocketAddr;
@@ -27,6 +29,7 @@ fn rules_of(alloc: Global, denied: &[Network], ports: Option<&[u16]>) -> Result<
             None => None,
         },
         denied_six: Some(vec![in alloc; DOCUMENTS]?),
+        own_six: None,
     })
 }
 
@@ -153,6 +156,30 @@ impl Question<Six> for AdmitsAt<'_> {
 fn servers_of_six(rt: HostRuntime) -> Result<(), Fail> {
     let rules = rules_of(rt.alloc(), &DENIED_NETWORKS, Some(&[80, 8080]))?;
     let told = all_hold(rt.alloc(), &SIX, &AdmitsAt { rules: &rules });
+    drop(rules);
+    told
+}
+
+// The same for a cache with one more socket, at ::1, which :: reaches too. No other address does, and ::1 has no other port of it.
+const OWN_SIX: [Six; 8] = [
+    ("[::1]:3128", false),
+    ("[::]:3128", false),
+    ("[::1]:3129", false),
+    ("[::1]:80", true),
+    ("[::2]:3128", true),
+    ("[::ffff:127.0.0.1]:3128", true),
+    ("[2001:db9::1]:3128", true),
+    ("127.0.0.1:3128", true),
+];
+
+#[test]
+fn own_socket_of_six(rt: HostRuntime) -> Result<(), Fail> {
+    let mut rules = rules_of(rt.alloc(), &[], None)?;
+    rules.own_six = Some(SixEnd {
+        address: 1,
+        port: 3128,
+    });
+    let told = all_hold(rt.alloc(), &OWN_SIX, &AdmitsAt { rules: &rules });
     drop(rules);
     told
 }

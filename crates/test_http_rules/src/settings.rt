@@ -327,6 +327,85 @@ const GUARDS: [(&str, &str); 38] = [
     ),
 ];
 
+// The same, for the keys about clients of IPv6.
+const SIX_CLIENTS: [(&str, &str); 21] = [
+    (
+        r#""http_address6": "2001:db8::1", "allowed6": ["2001:db8::/32", "::/0", "::1/128"]"#,
+        "read",
+    ),
+    (r#""http_address6": "::1", "allowed6": []"#, "read"),
+    (r#""http_address6": "::2", "allowed6": []"#, "read"),
+    (r#""http_address6": "fec0::1", "allowed6": []"#, "read"),
+    (
+        r#""http_address6": "::1""#,
+        "config fault 3\nhttp_address6: given without allowed6",
+    ),
+    (
+        r#""allowed6": ["::/0"]"#,
+        "config fault 3\nallowed6: given without http_address6",
+    ),
+    (
+        r#""allowed6": []"#,
+        "config fault 3\nallowed6: given without http_address6",
+    ),
+    (
+        r#""http_address6": "0::0", "allowed6": []"#,
+        "config fault 3\nhttp_address6: \"0::0\" is every address of this host, also those of IPv4: name one of IPv6",
+    ),
+    (
+        r#""http_address6": "::ffff:10.0.0.1", "allowed6": []"#,
+        "config fault 3\nhttp_address6: \"::ffff:10.0.0.1\" stands for an address of IPv4, which belongs into address",
+    ),
+    (
+        r#""http_address6": "fe80::1", "allowed6": []"#,
+        "config fault 3\nhttp_address6: \"fe80::1\" is an address of a link alone",
+    ),
+    (
+        r#""http_address6": "febf::1", "allowed6": []"#,
+        "config fault 3\nhttp_address6: \"febf::1\" is an address of a link alone",
+    ),
+    (
+        r#""http_address6": "ff02::1", "allowed6": []"#,
+        "config fault 3\nhttp_address6: \"ff02::1\" is the address of no host",
+    ),
+    (
+        r#""http_address6": "10.0.0.1", "allowed6": []"#,
+        "config fault 3\nhttp_address6: \"10.0.0.1\" is no address of IPv6",
+    ),
+    (
+        r#""http_address6": "[::1]", "allowed6": []"#,
+        "config fault 3\nhttp_address6: \"[::1]\" is no address of IPv6",
+    ),
+    (
+        r#""http_address6": "::1%lo", "allowed6": []"#,
+        "config fault 3\nhttp_address6: \"::1%lo\" is no address of IPv6",
+    ),
+    (
+        r#""http_address6": "::1", "allowed6": ["::1/128", "10.0.0.0/8"]"#,
+        "config fault 3\nallowed6[1]: \"10.0.0.0/8\" is no network of IPv6",
+    ),
+    (
+        r#""http_address6": "::1", "allowed6": ["::1"]"#,
+        "config fault 3\nallowed6[0]: \"::1\" is no network of IPv6",
+    ),
+    (
+        r#""http_address6": "::1", "allowed6": ["::/129"]"#,
+        "config fault 3\nallowed6[0]: \"::/129\" is no network of IPv6",
+    ),
+    (
+        r#""http_address6": 1, "allowed6": []"#,
+        "config fault 2\nhttp_address6: not a text",
+    ),
+    (
+        r#""http_address6": "::1", "allowed6": "::/0""#,
+        "config fault 2\nallowed6: not a list",
+    ),
+    (
+        r#""http_address6": "::1", "allowed6": [6]"#,
+        "config fault 2\nallowed6[0]: not a text",
+    ),
+];
+
 /// Parses the good configuration with one more key.
 pub(crate) fn told_with(alloc: Global, key: &str) -> Result<String, Fail> {
     let new = format!(in alloc; "{key}, \"volume\"")?;
@@ -345,6 +424,11 @@ impl Question<(&'static str, &'static str)> for ToldWith {
 #[test]
 fn guards(rt: HostRuntime) -> Result<(), Fail> {
     all_hold(rt.alloc(), &GUARDS, &ToldWith)
+}
+
+#[test]
+fn clients_of_six(rt: HostRuntime) -> Result<(), Fail> {
+    all_hold(rt.alloc(), &SIX_CLIENTS, &ToldWith)
 }
 
 fn add_times(text: &mut String, part: &str, count: usize) -> Result<(), Fail> {
@@ -396,6 +480,7 @@ fn has_none(settings: &Settings) -> bool {
         && settings.deny_origins.is_none()
         && settings.origin_ports.is_none()
         && settings.origins6.is_none()
+        && settings.six_clients.is_none()
         && settings.admin_token.is_none()
         && settings.shelf_octets.is_none()
 }

@@ -1,10 +1,12 @@
 //! Lines of the access log, in both forms (`access_log`).
 use access_log::{Course, Entry, Form, Supplier, line_of};
+use std::alloc::Global;
+use std::net::{IpAddr, Ipv4Addr, Ipv6Addr};
 use std::test::Fail;
 
 const USUAL: Entry<'static> = Entry {
     millis: 1_795_587_252_345,
-    client: [192, 168, 0, 250],
+    client: IpAddr::V4(Ipv4Addr::new(192, 168, 0, 250)),
     method: b"GET",
     url: b"http://a.example/x?y=1",
     referer: b"",
@@ -23,7 +25,7 @@ const USUAL: Entry<'static> = Entry {
 fn lines_are_as_analysers_read_them(rt: HostRuntime) -> Result<(), Fail> {
     let absent = Entry {
         millis: 0,
-        client: [0, 0, 0, 0],
+        client: IpAddr::V4(Ipv4Addr::new(0, 0, 0, 0)),
         method: b"",
         url: b"",
         agent: b"",
@@ -91,6 +93,52 @@ fn lines_are_as_analysers_read_them(rt: HostRuntime) -> Result<(), Fail> {
         let line = line_of(rt.alloc(), form, &entry)?;
         assert_eq!(rt; line.as_slice(), wanted);
     }
+    Ok(())
+}
+
+// The front of a line of this form that has the address of IPv6 with these segments.
+fn front_of(alloc: Global, form: Form, segments: [u16; 8], front: &[u8]) -> Result<bool, Fail> {
+    let entry = Entry {
+        client: IpAddr::V6(Ipv6Addr::from_segments(segments)),
+        ..USUAL
+    };
+    let line = line_of(alloc, form, &entry)?;
+    Ok(line.as_slice().starts_with(front))
+}
+
+// RFC 5952, sections 4.1 to 4.3 and 5: no zeros in front of a group, the longest run of groups of zero as ::, of two the first, but never a
+// single one, small letters, and an address of IPv4 in its own form.
+const SIX: [([u16; 8], &[u8]); 7] = [
+    ([0x2001, 0xdb8, 0, 0, 0, 0, 0, 1], b"2001:db8::1 - - ["),
+    (
+        [0x2001, 0xdb8, 0, 1, 1, 1, 1, 1],
+        b"2001:db8:0:1:1:1:1:1 - - [",
+    ),
+    ([0x2001, 0, 0, 1, 0, 0, 0, 1], b"2001:0:0:1::1 - - ["),
+    (
+        [0x2001, 0xdb8, 0, 0, 1, 0, 0, 1],
+        b"2001:db8::1:0:0:1 - - [",
+    ),
+    (
+        [0xfe80, 0xabcd, 0xef, 0xf, 0, 0, 0, 0],
+        b"fe80:abcd:ef:f:: - - [",
+    ),
+    ([0, 0, 0, 0, 0, 0, 0, 1], b"::1 - - ["),
+    (
+        [0, 0, 0, 0, 0, 0xffff, 0xc000, 0x0201],
+        b"::ffff:192.0.2.1 - - [",
+    ),
+];
+
+#[test]
+fn addresses_of_six(rt: HostRuntime) -> Result<(), Fail> {
+    let alloc = rt.alloc();
+    for (segments, front) in SIX {
+        assert!(rt; front_of(alloc, Form::Common, segments, front)?);
+    }
+    let json =
+        b"{\"time\":\"2026-11-25T06:14:12.345Z\",\"client\":\"2001:db8::1\",\"method\":\"GET\",";
+    assert!(rt; front_of(alloc, Form::Json, [0x2001, 0xdb8, 0, 0, 0, 0, 0, 1], json)?);
     Ok(())
 }
 
