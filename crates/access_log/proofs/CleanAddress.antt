@@ -1,4 +1,4 @@
--- The text of an address of IPv6 is printable ASCII.
+-- What a line has of an address is printable ASCII.
 use Rattle.std.proofs.Common.{◌≡◌, ℕ, true, List, [], ◌∷◌, ◌++◌, take, drop, All, inl, inr, refl, arith}
 use Rattle.std.specs.Prelude.{bytes_eq, codes}
 use Rattle.std.specs.Net.Addr.{octets_of}
@@ -9,7 +9,12 @@ use Rattle.std.proofs.lemmas.List.Folds.{list_all-append}
 use Rattle.std.proofs.NetLemmas.Alphabet.{IsHexOrColon, All-hex_groups_text}
 use Rattle.std.proofs.NetLemmas.Texts.{AllSegments}
 use Rattle.access_log.specs.Escaped.{is_printable}
+use Rattle.access_log.specs.Line.{octets_text}
 use Rattle.access_log.proofs.Clean.{Clean, and_true, clean_both, clean_decimal, clean_either, printable}
+
+pub clean_octets : (octets : List ℕ) → Clean (octets_text octets)
+unfolding octets_text
+clean_octets octets = simp (list_all-append is_printable, clean_decimal)
 
 one_hex : (octet : ℕ) → IsHexOrColon octet → is_printable octet ≡ true
 one_hex octet (inl h) = printable octet (omega (arith, h.0)) (omega (arith, h.1))

@@ -2,10 +2,6 @@
 use Rattle.std.proofs.Common.{ℕ, ◌+◌, ◌/◌, ◌%◌, ◌<◌, Bool, true, false, List, [], ◌∷◌, ◌++◌, length, nat_eq, refl, sym, subst, arith}
 use Rattle.std.specs.Prelude.{codes, decimal, Option, Some, None}
 use Rattle.std.proofs.lemmas.List.Folds.{list_all-append}
-use Rattle.std.specs.declared.net.ip_addr.IpAddr.{IpAddr}
-use Rattle.std.specs.declared.net.ip_addr.IpAddr.TheVariants.{V4, V6}
-use Rattle.std.specs.Net.Addr.{IsIpv4Addr, IsIpv6Addr, MatchIp, ipv4_octets, ipv6_segments}
-use Rattle.access_log.proofs.CleanAddress.{clean_six}
 use Rattle.httpdate.specs.declared.date.HttpDate.{HttpDate}
 use Rattle.httpdate.specs.Text.{two_digits}
 use Rattle.access_log.specs.declared.entry.Entry.{Entry}
@@ -18,7 +14,7 @@ use Rattle.access_log.specs.declared.entry.Supplier.TheVariants.{Origin, Neighbo
 use Rattle.access_log.specs.declared.stamp.Stamp.{Stamp}
 use Rattle.access_log.specs.Escaped.{is_printable, escaped, escaped_or_dash}
 use Rattle.access_log.specs.Stamp.{Shows, common_time, json_time, three_digits}
-use Rattle.access_log.specs.Line.{shown_moment, address_text, octets_text, status_text, course_text, supplier_text, request_text, truth_text}
+use Rattle.access_log.specs.Line.{shown_moment, address_text, status_text, course_text, supplier_text, request_text, truth_text}
 use Rattle.access_log.specs.Pieces.{common_asked, common_answered, common_course, common_pieces, named_text, member_text, json_asked, json_answered, json_course, json_pieces, pieces_of}
 use Rattle.access_log.proofs.Clean.{Clean, clean_both, clean_either, clean_one, clean_decimal, clean_two, clean_escaped}
 use Rattle.access_log.proofs.Places.{month_names}
@@ -65,15 +61,6 @@ clean_json_time stamp millis h =
     simp (list_all-append is_printable, h.year, h.month, h.day, h.time, three)
 
 -- words
-clean_octets : (octets : List ℕ) → Clean (octets_text octets)
-unfolding octets_text
-clean_octets octets = simp (list_all-append is_printable, clean_decimal)
-
-clean_address : (address : IpAddr) → MatchIp address IsIpv4Addr IsIpv6Addr → Clean (address_text address)
-unfolding address_text
-clean_address (V4 address) valid = clean_octets (ipv4_octets address)
-clean_address (V6 address) valid = clean_six (ipv6_segments address) valid.1
-
 clean_status : (status : Option ℕ) → Clean (status_text status)
 unfolding status_text
 clean_status None = refl
@@ -165,7 +152,7 @@ clean_json_pieces stamp entry h client =
     let agent = clean_member (codes "agent") entry.agent.now refl in
     simp (list_all-append is_printable, asked, answered, course, referer, agent)
 
-pub clean_pieces : (form : Form) (date : HttpDate) (stamp : Stamp) (entry : Entry) → Shows date stamp → MatchIp entry.client IsIpv4Addr IsIpv6Addr → Clean (pieces_of form stamp entry)
+pub clean_pieces : (form : Form) (date : HttpDate) (stamp : Stamp) (entry : Entry) → Shows date stamp → Clean (address_text entry.client) → Clean (pieces_of form stamp entry)
 unfolding pieces_of
-clean_pieces Common date stamp entry shows valid = clean_common_pieces stamp entry (clean_stamp date stamp shows) (clean_address entry.client valid)
-clean_pieces Json date stamp entry shows valid = clean_json_pieces stamp entry (clean_stamp date stamp shows) (clean_address entry.client valid)
+clean_pieces Common date stamp entry shows client = clean_common_pieces stamp entry (clean_stamp date stamp shows) client
+clean_pieces Json date stamp entry shows client = clean_json_pieces stamp entry (clean_stamp date stamp shows) client

@@ -12,6 +12,7 @@ mod json;
 mod laws;
 mod line;
 mod parts;
+mod printable;
 mod stamp;
 
 pub use entry::{Course, Entry, Form, Supplier};

@@ -6,6 +6,7 @@ ghost use Rattle.access_log.specs.Pieces.{pieces_of};
 use crate::common::push_common_line;
 use crate::entry::{Entry, Form};
 use crate::json::push_json_line;
+use crate::printable::address_is_printable;
 use crate::stamp::{Stamp, date_of, stamp_of};
 use std::alloc::{AllocError, Global};
 
@@ -39,6 +40,7 @@ pub fn line_of(alloc: Global, form: Form, entry: &Entry) -> Result<Vec<u8>, Allo
     let entry = *entry;
     let date = date_of(entry.millis);
     let stamp = stamp_of(&date);
+    address_is_printable(entry.client);
     let mut line = Vec::new(alloc);
     push_line_text(&mut line, alloc, form, &stamp, &entry)?;
     line.extend_from_slice(b"\n")?;

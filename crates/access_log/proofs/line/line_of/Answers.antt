@@ -1,4 +1,4 @@
-use Rattle.std.proofs.Common.{◌++◌, List, [], ◌∷◌, ℕ, ap, rules, sym, ◌∙◌}
+use Rattle.std.proofs.Common.{◌++◌, List, [], ◌∷◌, ℕ, ap, sym, ◌∙◌}
 use Rattle.access_log.specs.Pieces.{pieces_of}
 use Rattle.access_log.proofs.CleanLine.{clean_pieces}
 use Rattle.access_log.proofs.Shape.{line_in_pieces}
@@ -22,5 +22,5 @@ returns-clause-safe c = (
   c.in_ok-extend_from_slice.ensures.items
       ∙ ap (λ (xs : List ℕ). xs ++ 10 ∷ []) c.in_ok-push_line_text.ensures
       ∙ ap (λ (xs : List ℕ). xs ++ pieces_of c.args.form c.stamp_of-stamp.result c.args.entry.now ++ 10 ∷ []) c.new-line.ensures.items,
-  clean_pieces c.args.form c.date_of-date.result c.stamp_of-stamp.result c.args.entry.now c.stamp_of-stamp.ensures (search rules),
+  clean_pieces c.args.form c.date_of-date.result c.stamp_of-stamp.result c.args.entry.now c.stamp_of-stamp.ensures c.address_is_printable.ensures,
 )
