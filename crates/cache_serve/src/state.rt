@@ -18,7 +18,9 @@ use node_book::{BOOK_OCTETS, BookFault, Booked, Desk, RECEIPT_OCTETS, Seat};
 use node_core::{Config, Node};
 use object_shelf::Shelf;
 use object_store::MOST_KEY_OCTETS;
-use proxy_node::{AccessLog, NeighbourEnds, Notices, PartKeys, Passes, ProxyState, no_failures};
+use proxy_node::{
+    AccessLog, NeighbourEnds, Notices, PartKeys, Passes, ProxyState, UnaskedKeys, no_failures,
+};
 use serve_config::{Freshness, Settings, SharedField, UrlPart};
 use std::alloc::{AllocError, Global};
 use std::mem;
@@ -283,6 +285,7 @@ fn state_of<L: Ledger>(
         fetching: given.fetching,
         profile,
         shelf,
+        unasked: Mutex::new(UnaskedKeys::new(alloc)?),
         serve_stale,
         tells_stored,
         changed: Mutex::new(Vec::new(alloc)),

@@ -51,23 +51,6 @@ pub fn stale_object(alloc: Global, object: &Object, age: u32) -> Result<SharedOb
     SharedObject::new(alloc, object.with_head(alloc, fields, age, 0)?)
 }
 
-/// An object without its validators, so that its server is not asked about it any more. Errors: out of memory.
-pub fn unasked_object(alloc: Global, object: &Object) -> Result<SharedObject, AllocError> {
-    let mut fields = Vec::new(alloc);
-    for (name, value) in object.head() {
-        if !is_validator(name.as_slice()) {
-            fields.push((name.to_vec(alloc)?, value.to_vec(alloc)?))?;
-        }
-    }
-    let (age, life) = (object.age(), object.life());
-    SharedObject::new(alloc, object.with_head(alloc, fields, age, life)?)
-}
-
-/// Whether fields with this name are validators.
-fn is_validator(name: &[u8]) -> bool {
-    name == b"etag".as_slice() || name == b"last-modified".as_slice()
-}
-
 /// What a client gets whose URL is one of a server that may not be fetched from.
 const REFUSAL: &[u8] = b"403 Forbidden: this proxy may not fetch from this address or port\n";
 

@@ -22,6 +22,7 @@ mod passes;
 mod proxy_state;
 mod results;
 mod storage;
+mod unasked;
 
 pub use front::{FrontRules, NodeFront, ServeFront};
 pub use handing::{Call, Handed, Returned, TakeCalls};
@@ -36,3 +37,4 @@ pub use passes::{LargeKeys, Passes, Places};
 pub use proxy_state::{Lanes, Origins, ProxyState, no_failures};
 pub use results::Results;
 pub use storage::Purger;
+pub use unasked::UnaskedKeys;

@@ -5,12 +5,11 @@ use crate::neighbour_counts::NeighbourEnds;
 use crate::notices::Notices;
 use crate::parts::PartKeys;
 use crate::passes::Passes;
+use crate::unasked::UnaskedKeys;
 use capture_tap::Tap;
 use crossbeam_channel::Sender;
 use filter_slots::{End, Moment};
-use forwarding::{
-    Destination, Field, Flight, Mailbox, Peer, Profile, origin_of, peer_of, unasked_object, via,
-};
+use forwarding::{Destination, Field, Flight, Mailbox, Peer, Profile, origin_of, peer_of, via};
 use futures::channel::mpsc::UnboundedSender;
 use futures::channel::oneshot;
 use http_rules::{
@@ -89,6 +88,8 @@ pub struct ProxyState<L: Ledger> {
     /// What origins are asked about, and what may be served while it is stale; `None` if they are asked for whole objects alone. Locked
     /// to look for an object, to put one there, or to take one away.
     pub shelf: Option<Mutex<Shelf>>,
+    /// The keys there whose origins are not asked. Locked to note, to forget, or to look for one.
+    pub unasked: Mutex<UnaskedKeys>,
     /// For how many seconds after it went stale an object may be served whose origin is down, if its own directives allow no more.
     pub serve_stale: u32,
     /// The keys of what reloads have found changed and has not been fetched anew for all yet. Locked to add or remove one.
@@ -185,19 +186,6 @@ fn stale_in(entry: &Entry, now: Moment, occasion: StaleUse, serve_stale: u32) ->
     Some(Stale {
         object: entry.object.share().ok()?,
         age: object.age().saturating_add(stay),
-    })
-}
-
-/// An entry of the shelf whose object is not asked about any more. `None` if there is no use for it then, or if out of memory.
-/// `serve_stale` are the operator's seconds.
-fn unasked(alloc: Global, entry: &Entry, serve_stale: u32) -> Option<Entry> {
-    let object = entry.object.get();
-    if !has_stale_use(object.head(), serve_stale) {
-        return None;
-    }
-    Some(Entry {
-        object: unasked_object(alloc, object).ok()?,
-        at: entry.at,
     })
 }
 
@@ -366,6 +354,9 @@ impl<L: Ledger> ProxyState<L> {
             None => true,
         };
         if !is_plain || !matches!(wanted.source, Source::Origin) {
+            return None;
+        }
+        if self.unasked.lock(rt).has(key) {
             return None;
         }
         let shelf = shelf.lock(rt);
@@ -559,22 +550,24 @@ impl<L: Ledger> ProxyState<L> {
         }
     }
 
-    /// Has what is on the shelf under a key not be asked about any more. What may be of use once it is stale stays there for that, unless
-    /// memory is short.
-    pub fn ask_no_more<R: Wait>(&self, rt: &R, alloc: Global, key: &CacheKey) {
+    /// Has what is on the shelf under a key not be asked about any more. What may be of use once it is stale stays there for that.
+    pub fn ask_no_more<R: Wait>(&self, rt: &R, key: CacheKey) {
+        if self.has_use_when_stale(rt, key.as_slice()) {
+            self.unasked.lock(rt).note(key);
+        } else {
+            self.unshelve(rt, &key);
+        }
+    }
+
+    /// Whether what is on the shelf under a key may be of use once it is stale.
+    fn has_use_when_stale<R: Wait>(&self, rt: &R, key: &[u8]) -> bool {
         let Some(shelf) = &self.shelf else {
-            return;
+            return false;
         };
-        let mut shelf = shelf.lock(rt);
-        let kept = match shelf.get(key.as_slice()) {
-            Some(entry) => unasked(alloc, entry, self.serve_stale),
-            None => None,
-        };
-        shelf.remove(key.as_slice());
-        if let Some(Entry { object, at }) = kept
-            && let Ok(key) = key.share()
-        {
-            let _ = shelf.put(key, object, at);
+        let shelf = shelf.lock(rt);
+        match shelf.get(key) {
+            Some(entry) => has_stale_use(entry.object.get().head(), self.serve_stale),
+            None => false,
         }
     }
 

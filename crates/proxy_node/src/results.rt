@@ -172,35 +172,36 @@ impl<R: Wait + Clock + Drop, L: Ledger> Results<R, L> {
         whole
     }
 
-    // Puts an object on the shelf that is stored, and that can be asked about or may be of use once it is stale. Where memory is short,
-    // or if it is too large for the shelf, it is not put there.
-    fn shelve(&self, key: &CacheKey, object: &SharedObject) {
+    // Puts an object on the shelf that is stored, and that can be asked about or may be of use once it is stale. Returns whether it is there:
+    // `false` also where memory is short, or if it is too large for the shelf.
+    fn shelve(&self, key: &CacheKey, object: &SharedObject) -> bool {
         let proxy = self.node.proxy();
         let Some(shelf) = &proxy.shelf else {
-            return;
+            return false;
         };
         let head = object.get().head();
         if !has_validator(head) && !has_stale_use(head, proxy.serve_stale) {
-            return;
+            return false;
         }
-        if let Ok(key) = key.share()
-            && let Ok(object) = object.share()
-        {
-            let now = now(&self.rt, &proxy.timeline);
-            let _ = shelf.lock(&self.rt).put(key, object, now);
-        }
+        let (Ok(own), Ok(object)) = (key.share(), object.share()) else {
+            return false;
+        };
+        let now = now(&self.rt, &proxy.timeline);
+        let put = shelf.lock(&self.rt).put(own, object, now);
+        proxy.unasked.lock(&self.rt).forget(key.as_slice());
+        put.is_ok()
     }
 
     // Has the shelf follow what a fetch brought: what is stored is put there if the origin has given it itself, since its 304 would
     // otherwise confirm what a neighbour made of it; and what the origin has something else for now is taken away, for all but the one
-    // client of a private fetch.
+    // client of a private fetch. So what is there is never older than what was stored.
     fn follow(&self, key: Option<&CacheKey>, flight: Flight, object: &SharedObject) {
         let Some(key) = key else {
             return;
         };
         if object.get().life() > 0 {
-            if flight.is_origin() {
-                self.shelve(key, object);
+            if !flight.is_origin() || !self.shelve(key, object) {
+                self.node.proxy().unshelve(&self.rt, key);
             }
         } else if flight.mode == Mode::Shared && supersedes(object.get().status()) {
             self.node.proxy().unshelve(&self.rt, key);
@@ -288,7 +289,8 @@ impl<R: Wait + Clock + Drop, L: Ledger> Results<R, L> {
             asked,
             is_outdated,
         } = landed;
-        let is_unkept = is_outdated || (asked.is_some() && hides_rules(self.alloc, &page.head));
+        let is_by_rules = key.is_some() || asked.is_some();
+        let is_unkept = is_outdated || (is_by_rules && hides_rules(self.alloc, &page.head));
         let page = self.whole_of(key.as_ref(), flight, asked, page)?;
         let mut life = self.life_of(key.as_ref(), flight, &page);
         if is_unkept {
@@ -338,15 +340,15 @@ impl<R: Wait + Clock + Drop, L: Ledger> Results<R, L> {
 
     // What the node is told of a fetch.
     fn delivery(&self, fetch: u32, landed: Landed, end: FetchEnd) -> Delivery {
+        if is_unanswered(&landed, &end)
+            && let Some(key) = self.key_of(fetch)
+        {
+            self.node.proxy().ask_no_more(&self.rt, key);
+        }
         if is_down(landed.flight, &end)
             && let Some(stale) = self.stale(fetch)
         {
             return stale;
-        }
-        if is_unanswered(&landed, &end)
-            && let Some(key) = self.key_of(fetch)
-        {
-            self.node.proxy().ask_no_more(&self.rt, self.alloc, &key);
         }
         if is_too_long(landed.flight, &end)
             && let Some(key) = self.key_of(fetch)

@@ -1,0 +1,41 @@
+//! What origins are not asked about.
+use lru::LruCache;
+use object_store::CacheKey;
+use std::alloc::{AllocError, Global};
+
+/// The most keys that are known at a time.
+const MOST_KEYS: usize = 1_024;
+
+/// Keys of what is on the shelf and its origin is not asked about: it was, and has not answered as it should.
+#[derive(Drop)]
+pub struct UnaskedKeys {
+    // The ones that were noted last before the others.
+    keys: LruCache<CacheKey, ()>,
+}
+
+impl UnaskedKeys {
+    /// None yet. Errors: out of memory.
+    pub fn new(alloc: Global) -> Result<UnaskedKeys, AllocError> {
+        Ok(UnaskedKeys {
+            keys: LruCache::unbounded(alloc)?,
+        })
+    }
+
+    /// Notes a key. Of 1,024 others the one that was noted first is forgotten. Where memory is short, nothing is noted.
+    pub(crate) fn note(&mut self, key: CacheKey) {
+        let _ = self.keys.put(key, ());
+        if self.keys.len() > MOST_KEYS {
+            let _ = self.keys.pop_lru();
+        }
+    }
+
+    /// Forgets a key, under which there is something else now.
+    pub(crate) fn forget(&mut self, key: &[u8]) {
+        let _ = self.keys.pop(key);
+    }
+
+    /// Whether this key was noted.
+    pub(crate) fn has(&self, key: &[u8]) -> bool {
+        self.keys.peek(key).is_some()
+    }
+}
