@@ -39,16 +39,20 @@ pub fn confirmed(alloc: Global, head: &HeaderMap, object: &Object) -> Option<Pag
     })
 }
 
-/// Whether a response with this head names its Cache-Control in Connection, so that what it brings up to date does not have it. The rules
-/// that it states hold all the same (RFC 9111, section 5.2). `true` also where that cannot be told.
+/// The fields whose rules say whether and for how long a response is kept.
+const RULES: [&str; 3] = ["cache-control", "expires", "vary"];
+
+/// Whether a response with this head names one of its rules in Connection, so that what is stored of it does not have that. The rules hold
+/// all the same (RFC 9111, section 5.2, of Cache-Control). `true` also where that cannot be told.
 pub fn hides_rules(alloc: Global, head: &HeaderMap) -> bool {
-    if !head.contains_key("connection") || !head.contains_key("cache-control") {
+    if !head.contains_key("connection") {
         return false;
     }
-    match end_to_end(alloc, head) {
-        Ok(fields) => !has_rules(fields.as_slice()),
-        Err(_) => true,
-    }
+    let Ok(fields) = end_to_end(alloc, head) else {
+        return true;
+    };
+    RULES.iter().any(|name| head.contains_key(*name)
+        && !has_field(fields.as_slice(), name.as_bytes()))
 }
 
 /// Whether a 304 with this head has other values of Cache-Control than the object that it is about.
@@ -66,11 +70,9 @@ pub fn has_other_rules(head: &HeaderMap, object: &Object) -> bool {
     head.contains_key("cache-control") && stored.next().is_some()
 }
 
-/// Whether one of these fields is Cache-Control.
-fn has_rules(fields: &[(Vec<u8>, Vec<u8>)]) -> bool {
-    fields
-        .iter()
-        .any(|(name, _)| name.as_slice() == b"cache-control".as_slice())
+/// Whether one of these fields has this name.
+fn has_field(fields: &[(Vec<u8>, Vec<u8>)], name: &[u8]) -> bool {
+    fields.iter().any(|(own, _)| own.as_slice() == name)
 }
 
 /// The octets of all names and values of these fields.
