@@ -195,12 +195,11 @@ fn six_address(settings: &Settings) -> Option<Ipv6Addr> {
     Some(Ipv6Addr::from_bits(clients.address))
 }
 
-/// The open files of the socket there: its own, and the handle of each of so many threads.
+/// The open files of the socket there: the handle of each of so many threads.
 fn six_files(settings: &Settings, threads: usize) -> usize {
-    if settings.six_clients.is_some() {
-        threads.saturating_add(1)
-    } else {
-        0
+    match &settings.six_clients {
+        Some(_) => threads,
+        None => 0,
     }
 }
 
