@@ -261,6 +261,8 @@ fn reason_of(kind: ErrorKind) -> &'static str {
         ErrorKind::AddrInUse => ": another program has it",
         ErrorKind::AddrNotAvailable => ": the address is none of this host",
         ErrorKind::PermissionDenied => ": not permitted, as ports below 1024 are not to every user",
+        ErrorKind::Uncategorized =>
+            ": too few open files, or no addresses of that kind on this system",
         _ => "",
     }
 }

@@ -379,7 +379,7 @@ fn origins_of(alloc: Global, settings: &mut Settings) -> Result<OriginRules, All
     let denied_six = denied_six(alloc, settings.origins6.take(), is_usual)?;
     let denied = match settings.deny_origins.take() {
         Some(denied) => denied,
-        None => usual_denials(alloc, settings.address)?,
+        None => usual_denials(alloc, judged_address(settings))?,
     };
     Ok(OriginRules {
         own: Vec::new(alloc),
@@ -388,6 +388,15 @@ fn origins_of(alloc: Global, settings: &mut Settings) -> Result<OriginRules, All
         own_six: None,
         denied_six,
     })
+}
+
+/// The address by which it is judged whether this host's own servers are usually fetched from: that of the sockets, or none where clients of
+/// other hosts come at an address of IPv6, which any but ::1 (RFC 4291, section 2.5.3) is.
+fn judged_address(settings: &Settings) -> [u8; 4] {
+    match &settings.six_clients {
+        Some(clients) if clients.address != 1 => [0; 4],
+        _ => settings.address,
+    }
 }
 
 /// The networks of IPv6 that are never fetched from, where servers of IPv6 are fetched from at all.
