@@ -19,7 +19,7 @@ pub fn most_files<R: Files + AllocGlobal>(rt: &R) -> Option<usize> {
 }
 
 /// How many connections of clients there may be, of at most `most`, where the program may open so many files and so many threads serve
-/// clients: what is left beside the program's own and those to servers, but at least half of what is left beside its own, and one.
+/// clients: what is left beside the program's own and those to servers, but at least half of what is left beside its own; 0 where nothing is.
 pub fn connections_within(files: usize, threads: usize, most: usize) -> usize
     ensures { result ≤ most }
 {
@@ -27,5 +27,5 @@ pub fn connections_within(files: usize, threads: usize, most: usize) -> usize
         .saturating_sub(OWN_FILES)
         .saturating_sub(threads.saturating_mul(THREAD_FILES));
     let beside_servers = left.saturating_sub(SERVER_FILES);
-    beside_servers.max(left / 2).max(1).min(most)
+    beside_servers.max(left.saturating_sub(left / 2)).min(most)
 }

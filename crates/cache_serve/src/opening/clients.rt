@@ -114,13 +114,17 @@ where
         self.opened_clients(heard)
     }
 
-    /// What each thread that serves clients is started with: a handle to the one socket for them, and to that at an address of IPv6.
+    /// What each thread that serves clients is started with: a handle to the one socket for them, and to that at an address of IPv6. Errors
+    /// also if too few files may be open for any client.
     fn client_places(
         &mut self,
         hurried: Vec<oneshot::Receiver<()>>,
     ) -> Result<Vec<ClientPlace>, ServeFault> {
         let config = self.config;
         let (limits, threads) = (config.limits.clients.connections, config.client_threads);
+        if limits.most == 0 {
+            return Err(ServeFault::Bind(Port::Clients, ErrorKind::Uncategorized));
+        }
         let mut sockets = client_sockets(&self.rt, config.clients, limits, threads).map_err(
             |error| socket_fault(Port::Clients, &error),
         )?;
