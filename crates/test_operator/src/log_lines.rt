@@ -4,20 +4,23 @@ use std::alloc::Global;
 use std::net::{IpAddr, Ipv4Addr, Ipv6Addr};
 use std::test::Fail;
 
-const USUAL: Entry<'static> = Entry {
-    millis: 1_795_587_252_345,
-    client: IpAddr::V4(Ipv4Addr::new(192, 168, 0, 250)),
-    method: b"GET",
-    url: b"http://a.example/x?y=1",
-    referer: b"",
-    agent: b"curl/8.5.0",
-    status: Some(200),
-    octets: 1234,
-    taken: 12,
-    course: Course::Miss,
-    supplier: Some(Supplier::Origin),
-    is_whole: true,
-};
+// An entry with usual values.
+fn usual() -> Entry<'static> {
+    Entry {
+        millis: 1_795_587_252_345,
+        client: IpAddr::V4(Ipv4Addr::new(192, 168, 0, 250)),
+        method: b"GET",
+        url: b"http://a.example/x?y=1",
+        referer: b"",
+        agent: b"curl/8.5.0",
+        status: Some(200),
+        octets: 1234,
+        taken: 12,
+        course: Course::Miss,
+        supplier: Some(Supplier::Origin),
+        is_whole: true,
+    }
+}
 
 // 2026-11-25 is 20,782 days after 1970-01-01: 56 years of 365 days with 14 leap days, and 328 days of 2026. 20,782 * 86,400 is
 // 1,795,564,800, and 06:14:12 is 22,452 s.
@@ -35,7 +38,7 @@ fn lines_are_as_analysers_read_them(rt: HostRuntime) -> Result<(), Fail> {
         course: Course::Own,
         supplier: None,
         is_whole: false,
-        ..USUAL
+        ..usual()
     };
     let hostile = Entry {
         millis: 4_294_967_295_007,
@@ -44,23 +47,23 @@ fn lines_are_as_analysers_read_them(rt: HostRuntime) -> Result<(), Fail> {
         agent: b"\xc3\xa9\t",
         course: Course::Collapsed,
         supplier: Some(Supplier::Neighbour(3)),
-        ..USUAL
+        ..usual()
     };
     let leap = Entry {
         millis: 951_782_400_999,
         course: Course::Hit,
         supplier: None,
-        ..USUAL
+        ..usual()
     };
     let rows: [(Form, Entry, &[u8]); 7] = [
         (
             Form::Common,
-            USUAL,
+            usual(),
             b"192.168.0.250 - - [25/Nov/2026:06:14:12 +0000] \"GET http://a.example/x?y=1 HTTP/1.1\" 200 1234 \"-\" \"curl/8.5.0\" \"miss origin\" 12\n",
         ),
         (
             Form::Json,
-            USUAL,
+            usual(),
             b"{\"time\":\"2026-11-25T06:14:12.345Z\",\"client\":\"192.168.0.250\",\"method\":\"GET\",\"url\":\"http://a.example/x?y=1\",\"status\":200,\"octets\":1234,\"ms\":12,\"how\":\"miss\",\"source\":\"origin\",\"whole\":true,\"agent\":\"curl/8.5.0\"}\n",
         ),
         (
@@ -100,7 +103,7 @@ fn lines_are_as_analysers_read_them(rt: HostRuntime) -> Result<(), Fail> {
 fn front_of(alloc: Global, form: Form, segments: [u16; 8], front: &[u8]) -> Result<bool, Fail> {
     let entry = Entry {
         client: IpAddr::V6(Ipv6Addr::from_segments(segments)),
-        ..USUAL
+        ..usual()
     };
     let line = line_of(alloc, form, &entry)?;
     Ok(line.as_slice().starts_with(front))
@@ -149,7 +152,7 @@ fn long_texts_and_late_moments_are_cut(rt: HostRuntime) -> Result<(), Fail> {
     let entry = Entry {
         millis: u64::MAX,
         url: long.as_slice(),
-        ..USUAL
+        ..usual()
     };
     let line = line_of(rt.alloc(), Form::Common, &entry)?;
     let front = b"192.168.0.250 - - [31/Dec/9999:23:59:59 +0000] \"GET \\x0A\\x0A";
@@ -158,7 +161,7 @@ fn long_texts_and_late_moments_are_cut(rt: HostRuntime) -> Result<(), Fail> {
     assert!(rt; line.as_slice().ends_with(back));
     assert_eq!(rt; line.len(), front.len() - 8 + 4 * 8_192 + back.len() - 4);
     for millis in [253_402_300_799_999, 253_402_300_800_000, u64::MAX] {
-        let late = Entry { millis, ..USUAL };
+        let late = Entry { millis, ..usual() };
         let line = line_of(rt.alloc(), Form::Json, &late)?;
         assert!(rt;
             line.as_slice()
