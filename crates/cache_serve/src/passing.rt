@@ -3,6 +3,7 @@ use forwarding::Peer;
 use http_rules::{OriginRules, is_unsafe};
 use neighbours::Role;
 use node_core::Config;
+use object_store::KeyHashes;
 use proxy_node::{LargeKeys, Passes, Places};
 use serve_config::{Large, Settings};
 use std::alloc::{AllocError, Global};
@@ -54,6 +55,7 @@ pub(crate) fn allows_own(config: &Config) -> bool {
 pub(crate) fn passes_of(
     alloc: Global,
     settings: &mut Settings,
+    hashes: KeyHashes,
     origins: &OriginRules,
     connecting: Duration,
 ) -> Result<Passes, AllocError> {
@@ -63,7 +65,7 @@ pub(crate) fn passes_of(
         has_six: origins.denied_six.is_some(),
         ends: Mutex::new(ends_of(alloc, connect_ports.as_slice(), origins)?),
         connect_ports,
-        large: large_of(alloc, settings.large)?,
+        large: large_of(alloc, settings.large, hashes)?,
         streams: Places::new(alloc, settings.streams)?,
         tunnels: Places::new(alloc, settings.tunnels)?,
         stream_still: Duration::from_secs(STREAM_SECONDS),
@@ -97,10 +99,14 @@ fn copy_of<T: Copy + Drop>(alloc: Global, items: &[T]) -> Result<Vec<T>, AllocEr
 }
 
 /// Room for the URLs of large answers, where these are passed on.
-fn large_of(alloc: Global, large: Large) -> Result<Option<Mutex<LargeKeys>>, AllocError> {
+fn large_of(
+    alloc: Global,
+    large: Large,
+    hashes: KeyHashes,
+) -> Result<Option<Mutex<LargeKeys>>, AllocError> {
     match large {
         Large::Refuse => Ok(None),
-        Large::Stream => Ok(Some(Mutex::new(LargeKeys::new(alloc)?))),
+        Large::Stream => Ok(Some(Mutex::new(LargeKeys::new(alloc, hashes)?))),
     }
 }
 

@@ -17,7 +17,7 @@ use mio_queries::Timeline;
 use node_book::{BOOK_OCTETS, BookFault, Booked, Desk, RECEIPT_OCTETS, Seat};
 use node_core::{Config, Node};
 use object_shelf::Shelf;
-use object_store::MOST_KEY_OCTETS;
+use object_store::{KeyHashes, MOST_KEY_OCTETS};
 use proxy_node::{
     AccessLog, NeighbourEnds, Notices, PartKeys, Passes, ProxyState, UnaskedKeys, no_failures,
 };
@@ -50,6 +50,7 @@ pub(crate) struct Given {
 #[derive(Drop)]
 struct Run {
     loop_mark: Vec<u8>,
+    hashes: KeyHashes,
     started: Option<Instant>,
     timeline: Timeline,
     figures: Figures,
@@ -105,9 +106,9 @@ pub(crate) fn proxy_of<R: RandomSource + Clock, L: Ledger>(
 {
     let sizes = sizes_of(&settings);
     let run = run_of(rt, alloc, &settings)?;
-    let kept = kept_in(alloc, &mut settings, given.connecting).map_err(no_memory)?;
+    let kept = kept_in(alloc, &mut settings, run.hashes, given.connecting).map_err(no_memory)?;
     let Settings { node: config, .. } = settings;
-    let (desk, seats) = open_desk(alloc, blank, config, sizes)?;
+    let (desk, seats) = open_desk(alloc, blank, config, run.hashes, sizes)?;
     let proxy = state_of(alloc, desk, kept, run, given, end).map_err(no_memory)?;
     Ok((proxy, seats))
 }
@@ -119,20 +120,23 @@ fn run_of<R: RandomSource + Clock>(
     settings: &Settings,
 ) -> Result<Run, ServeFault> {
     let loop_mark = random_mark(rt, alloc, settings.name.as_bytes())?;
+    let hashes = KeyHashes::seeded(random_number(rt)?);
     let started = Instant::now(rt).ok();
     let neighbours = settings.node.neighbours.len();
-    begun(alloc, loop_mark, started, neighbours).map_err(no_memory)
+    begun(alloc, loop_mark, hashes, started, neighbours).map_err(no_memory)
 }
 
 /// A run that began at this moment, with so many neighbours.
 fn begun(
     alloc: Global,
     loop_mark: Vec<u8>,
+    hashes: KeyHashes,
     started: Option<Instant>,
     neighbours: usize,
 ) -> Result<Run, AllocError> {
     Ok(Run {
         loop_mark,
+        hashes,
         started,
         timeline: Timeline::new(alloc)?,
         figures: Figures::new(alloc, neighbours)?,
@@ -144,10 +148,11 @@ fn begun(
 fn kept_in(
     alloc: Global,
     settings: &mut Settings,
+    hashes: KeyHashes,
     connecting: Duration,
 ) -> Result<Kept, AllocError> {
     Ok(Kept {
-        rules: rules_in(alloc, settings, connecting)?,
+        rules: rules_in(alloc, settings, hashes, connecting)?,
         peers: peers_of(alloc, &settings.node)?,
         ends: NeighbourEnds::new(alloc, settings.node.neighbours.as_slice())?,
         admin_port: settings.admin_port,
@@ -159,17 +164,18 @@ fn kept_in(
 fn rules_in(
     alloc: Global,
     settings: &mut Settings,
+    hashes: KeyHashes,
     connecting: Duration,
 ) -> Result<Rules, AllocError> {
     let origins = origins_of(alloc, settings)?;
-    let passes = passes_of(alloc, settings, &origins, connecting)?;
+    let passes = passes_of(alloc, settings, hashes, &origins, connecting)?;
     Ok(Rules {
         origins,
         profile: profile_of(alloc, settings)?,
-        shelf: shelf_of(alloc, settings)?,
+        shelf: shelf_of(alloc, settings, hashes)?,
         serve_stale: settings.serve_stale,
         tells_stored: tells_stored(settings),
-        parts: parts_of(alloc, settings)?,
+        parts: parts_of(alloc, settings, hashes)?,
         passes,
         shared_fields: shared_fields_of(alloc, settings)?,
     })
@@ -197,15 +203,20 @@ fn profile_of(alloc: Global, settings: &mut Settings) -> Result<Profile, AllocEr
 
 /// The shelf of what origins are asked about: as large as the settings say, or a quarter of the store. `None` by the published rules,
 /// and where it has no octet.
-fn shelf_of(alloc: Global, settings: &Settings) -> Result<Option<Mutex<Shelf>>, AllocError> {
+fn shelf_of(
+    alloc: Global,
+    settings: &Settings,
+    hashes: KeyHashes,
+) -> Result<Option<Mutex<Shelf>>, AllocError> {
     let octets = settings.shelf_octets.unwrap_or(settings.node.octets / 4);
     if matches!(settings.freshness, Freshness::Published) || octets == 0 {
         return Ok(None);
     }
-    match Shelf::new(alloc, settings.node.entries, octets) {
-        Ok(shelf) => Ok(Some(Mutex::new(shelf))),
-        Err(_) => Err(AllocError),
-    }
+    let Ok(mut shelf) = Shelf::new(alloc, settings.node.entries, octets) else {
+        return Err(AllocError);
+    };
+    shelf.hash_by(alloc, hashes)?;
+    Ok(Some(Mutex::new(shelf)))
 }
 
 /// The most octets of an object's head and body whose client is told that it was stored: with any key, what has no more is within the
@@ -218,10 +229,17 @@ fn tells_stored(settings: &Settings) -> Option<u32> {
 }
 
 /// The URLs of which parts are asked for. `None` by the published rules.
-fn parts_of(alloc: Global, settings: &Settings) -> Result<Option<Mutex<PartKeys>>, AllocError> {
+fn parts_of(
+    alloc: Global,
+    settings: &Settings,
+    hashes: KeyHashes,
+) -> Result<Option<Mutex<PartKeys>>, AllocError> {
     match settings.freshness {
         Freshness::Published => Ok(None),
-        Freshness::Rfc9111 => Ok(Some(Mutex::new(PartKeys::new(alloc, settings.body_limit)?))),
+        Freshness::Rfc9111 => {
+            let parts = PartKeys::new(alloc, hashes, settings.body_limit)?;
+            Ok(Some(Mutex::new(parts)))
+        }
     }
 }
 
@@ -285,7 +303,7 @@ fn state_of<L: Ledger>(
         fetching: given.fetching,
         profile,
         shelf,
-        unasked: Mutex::new(UnaskedKeys::new(alloc)?),
+        unasked: Mutex::new(UnaskedKeys::new(alloc, run.hashes)?),
         serve_stale,
         tells_stored,
         changed: Mutex::new(Vec::new(alloc)),
@@ -323,13 +341,15 @@ fn open_desk<L: Ledger>(
     alloc: Global,
     blank: Blank,
     config: Config,
+    hashes: KeyHashes,
     sizes: BookSizes,
 ) -> Result<(Desk<L>, Vec<Seat<L>>), ServeFault>
     requires name { blank.name ≡ L.name }
     requires parts { blank.parts ≡ L.parts }
     requires seats { blank.parts ≡ SEATS }
 {
-    let node = Node::new(alloc, config).map_err(ServeFault::Node)?;
+    let mut node = Node::new(alloc, config).map_err(ServeFault::Node)?;
+    node.hash_by(alloc, hashes).map_err(no_memory)?;
     let booked = book_of(alloc, node, sizes.volume, sizes.octets)?;
     desk_of(alloc, blank, booked, sizes.room)
 }
@@ -366,11 +386,16 @@ fn desk_of<L: Ledger>(
 /// The element of CDN-Loop of a cache with this name, with a number that no other run of any cache has. Errors: the system has no
 /// random numbers, or out of memory.
 fn random_mark<R: RandomSource>(rt: &R, alloc: Global, name: &[u8]) -> Result<Vec<u8>, ServeFault> {
+    loop_mark(alloc, name, random_number(rt)?).map_err(no_memory)
+}
+
+/// A random number. Errors: the system has none.
+fn random_number<R: RandomSource>(rt: &R) -> Result<u64, ServeFault> {
     let mut number = [0; 8];
     if rt.fill_bytes(&mut number).is_err() {
         return Err(ServeFault::NoMemory);
     }
-    loop_mark(alloc, name, u64::from_be_bytes(number)).map_err(no_memory)
+    Ok(u64::from_be_bytes(number))
 }
 
 /// Which servers may be fetched from as origins; the sockets of this cache are added once they are bound.

@@ -5,6 +5,7 @@ ghost use Rattle.http_rules.specs.Targets.{target_key};
 use http_rules::{TargetFault, key_of};
 use object_store::CacheKey;
 use std::alloc::{AllocError, Global};
+use std::hash::{FoldHasher, Hasher};
 use std::marker::Model;
 
 // The most keys that are remembered, each at a place of its own.
@@ -131,11 +132,9 @@ impl KnownKeys {
     }
 }
 
-// The place of a target (the hash function of Fowler, Noll and Vo, variant 1a).
+// The place of a target.
 fn place_of(target: &[u8]) -> usize {
-    let mut sum: usize = 0xcbf2_9ce4_8422_2325;
-    for &octet in target {
-        sum = (sum ^ octet as usize).wrapping_mul(0x0100_0000_01b3);
-    }
-    (sum >> 32) % PLACES
+    let mut hasher = FoldHasher::default();
+    hasher.write(target);
+    (hasher.finish() >> 32) as usize % PLACES
 }

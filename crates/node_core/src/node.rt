@@ -25,7 +25,7 @@ use crate::stats::{Counters, Stats};
 use bpf_check::Checked;
 use filter_slots::{Datagram, End, Judged, Moment, Slot, Slots, Socket, cut};
 use neighbours::{Neighbour, Table};
-use object_store::{CacheKey, Store};
+use object_store::{CacheKey, KeyHashes, Store};
 use plain_node::{Config, Core, Mode, NodeFault, Out, Outcome};
 use std::alloc::Global;
 use std::marker::Model;
@@ -72,6 +72,14 @@ impl Node {
                 htcp: Counters::ZERO,
             },
         })
+    }
+
+    /// Hashes keys so from now on, in the store and among the pending fetches; until it is told, a node hashes without a secret. Nothing
+    /// else changes. Errors: allocation failure, or a reference count at its maximum; the node goes on then.
+    pub fn hash_by(&mut self, alloc: Global, hashes: KeyHashes) -> Result<(), NoMemory>
+        ensures { self.new ≡ self.old }
+    {
+        self.core.hash_by(alloc, hashes)
     }
 
     /// An equal node with its own memory; programs and objects are shared. Errors: allocation failure, or a reference count at

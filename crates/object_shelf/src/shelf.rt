@@ -6,8 +6,8 @@ ghost use Rattle.object_store.specs.Store.{AreLimits, IsStoreFault, IsPutFault, 
 ghost use Rattle.object_shelf.specs.Shelf.{IsShelf, after_object, entry_of};
 
 use bpf_run::Moment;
-use object_store::{CacheKey, Entry, PutFault, SharedObject, Store, StoreFault};
-use std::alloc::Global;
+use object_store::{CacheKey, Entry, KeyHashes, PutFault, SharedObject, Store, StoreFault};
+use std::alloc::{AllocError, Global};
 use std::marker::Model;
 
 /// The objects that were put here last, by key, limited in number and in octets. Objects are shared with whoever else has them.
@@ -37,6 +37,14 @@ impl Shelf {
     {
         let store = Store::new(alloc, objects, octets)?;
         Ok(Shelf { store })
+    }
+
+    /// Hashes keys so from now on. What is here stays. Errors: an allocation failed, or a reference count would overflow; then it goes on
+    /// as before.
+    pub fn hash_by(&mut self, alloc: Global, hashes: KeyHashes) -> Result<(), AllocError>
+        ensures { self.new ≡ self.old }
+    {
+        self.store.hash_by(alloc, hashes)
     }
 
     /// Publishes the invariant: what is here is within the limits, each object under a key of its own. Does nothing at run time.

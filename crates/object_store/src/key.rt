@@ -118,34 +118,55 @@ impl Eq for CacheKey {
     ghost laws = { nat_list_eq_equiv };
 }
 
+// All octets at once, in place of one after the other as a slice does it.
 impl Hash for CacheKey {
-    ghost use Rattle.std.specs.Hash as fed;
+    ghost use Rattle.std.specs.Prelude.{◌∷◌, []};
     ghost use Rattle.std.specs.Cmp.Rules.{hashing};
     ghost use Rattle.std.proofs.Common.{rules};
 
-    ghost hash_input = { fed.slice fed.u8 };
+    ghost hash_input = { λ k. k ∷ [] };
 
     ghost respects_eq = { Prim.search (hashing, rules) };
 
     fn hash<H: Hasher>(&self, state: &mut H) {
-        self.as_slice().hash(state);
+        state.write(self.as_slice());
     }
 }
 
-// Allows a lookup by octets without making a key.
-impl Equivalent<CacheKey> for &[u8] {
-    ghost use Rattle.std.specs.Prelude.{bytes_eq};
+/// The octets of a key that is looked up, so that none has to be made for it.
+#[derive(Clone, Copy, PartialEq, Eq)]
+pub struct KeyOctets<'a> {
+    /// The octets.
+    pub octets: &'a [u8],
+}
+
+// As a key with these octets.
+impl<'a> Hash for KeyOctets<'a> {
+    ghost use Rattle.std.specs.Prelude.{◌∷◌, []};
+    ghost use Rattle.std.specs.Cmp.Rules.{hashing};
+    ghost use Rattle.std.proofs.Common.{rules};
+
+    ghost hash_input = { λ q. q.octets.now ∷ [] };
+
+    ghost respects_eq = { Prim.search (hashing, rules) };
+
+    fn hash<H: Hasher>(&self, state: &mut H) {
+        state.write(self.octets);
+    }
+}
+
+impl<'a> Equivalent<CacheKey> for KeyOctets<'a> {
+    ghost use Rattle.std.specs.Prelude.{bytes_eq, ◌∷◌, []};
     ghost use Rattle.std.specs.Cmp.Lexicographic.{bytes_decides, nat_list_eq_equiv};
-    ghost use Rattle.std.specs.Hash as fed;
     ghost use Rattle.std.proofs.Common.{ap};
 
-    ghost equivalent = { λ q k. bytes_eq q.now k };
+    ghost equivalent = { λ q k. bytes_eq q.octets.now k };
 
-    ghost respects_hash = { λ q k h. ap (fed.slice fed.u8) ((bytes_decides q.now k).0 h) };
+    ghost respects_hash = { λ q k h. ap (λ octets. octets ∷ []) ((bytes_decides q.octets.now k).0 h) };
 
-    ghost respects_eq = { λ q x y. nat_list_eq_equiv.congr q.now x y };
+    ghost respects_eq = { λ q x y. nat_list_eq_equiv.congr q.octets.now x y };
 
     fn equivalent(&self, key: &CacheKey) -> bool {
-        *self == key.as_slice()
+        self.octets == key.as_slice()
     }
 }

@@ -5,12 +5,13 @@ ghost use Rattle.lru.specs.LruCache.{lru_cache};
 ghost use Rattle.object_store.specs.Pairs.{IsWithin, cut, entry_at, total_size, size_of, without};
 
 use crate::entry::{Entry, size};
+use crate::hashing::KeyHashes;
 use crate::key::CacheKey;
 use lru::LruCache;
 use std::alloc::{AllocError, AllocFailed, Global};
 
 /// The LRU map of a store.
-pub(crate) type Pairs = LruCache<CacheKey, Entry>;
+pub(crate) type Pairs = LruCache<CacheKey, Entry, KeyHashes>;
 
 // Inserts a pair of size `octets` at the front, replacing the old one of its key. Returns the new total size.
 pub(crate) fn put_pair(
@@ -71,12 +72,16 @@ fn drop_last(pairs: &mut Pairs, sum: u64) -> u64
     }
 }
 
-// Copies the map, inserting from the least recently used pair on. Keys and objects are shared.
-pub(crate) fn copy_pairs(pairs: &Pairs, alloc: Global) -> Result<Pairs, AllocError>
+// Copies the map into one that hashes so, inserting from the least recently used pair on. Keys and objects are shared.
+pub(crate) fn copy_pairs(
+    pairs: &Pairs,
+    alloc: Global,
+    hashes: KeyHashes,
+) -> Result<Pairs, AllocError>
     ensures { IfOk result (λ copy. copy ≡ lru_cache pairs.now.entries (2 ^ 64 - 1)) }
 {
     let _ = pairs.len();
-    let mut copy = LruCache::unbounded(alloc)?;
+    let mut copy = LruCache::unbounded_with_hasher(alloc, hashes)?;
     let mut rest = pairs.iter();
     'least: while let Some((key, entry)) = rest.next_back() {
         let key = key.share()?;

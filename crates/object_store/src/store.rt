@@ -8,7 +8,8 @@ ghost use Rattle.object_store.specs.Lending.{ends_as};
 
 use crate::entry::{Entry, size};
 use crate::faults::{PutFault, StoreFault};
-use crate::key::CacheKey;
+use crate::hashing::KeyHashes;
+use crate::key::{CacheKey, KeyOctets};
 use crate::pairs::{Pairs, copy_pairs, evict, newest_pairs, put_pair};
 use bpf_run::Moment;
 use lru::LruCache;
@@ -29,6 +30,8 @@ pub struct Store {
     most_octets: u32,
     sum: u64,
     pairs: Pairs,
+    // How `pairs` hashes keys.
+    hashes: KeyHashes,
     // Number of pairs evicted since the store was made, modulo 2^64. No contract mentions it.
     evicted: u64,
 }
@@ -53,7 +56,8 @@ impl Store {
         if entries == 0 || entries > MOST_ENTRIES || octets == 0 || octets > MOST_OCTETS {
             return Err(StoreFault::Limits);
         }
-        let Ok(pairs) = LruCache::unbounded(alloc) else {
+        let hashes = KeyHashes::seeded(0);
+        let Ok(pairs) = LruCache::unbounded_with_hasher(alloc, hashes) else {
             return Err(StoreFault::NoMemory);
         };
         Ok(Store {
@@ -61,20 +65,32 @@ impl Store {
             most_octets: octets,
             sum: 0,
             pairs,
+            hashes,
             evicted: 0,
         })
+    }
+
+    /// Hashes keys so from now on; until it is told, a store hashes without a secret. What it holds stays. Errors: an allocation
+    /// failed, or a reference count would overflow; then it goes on as before.
+    pub fn hash_by(&mut self, alloc: Global, hashes: KeyHashes) -> Result<(), AllocError>
+        ensures { self.new ≡ self.old }
+    {
+        self.pairs = copy_pairs(&self.pairs, alloc, hashes)?;
+        self.hashes = hashes;
+        Ok(())
     }
 
     /// A copy that shares keys and objects. Errors: an allocation failed, or a reference count would overflow.
     pub fn copy(&self, alloc: Global) -> Result<Store, AllocError>
         ensures { IfOk result (λ store. store ≡ self.now) }
     {
-        let pairs = copy_pairs(&self.pairs, alloc)?;
+        let pairs = copy_pairs(&self.pairs, alloc, self.hashes)?;
         Ok(Store {
             most_entries: self.most_entries,
             most_octets: self.most_octets,
             sum: self.sum,
             pairs,
+            hashes: self.hashes,
             evicted: self.evicted,
         })
     }
@@ -154,7 +170,7 @@ impl Store {
     pub fn peek_octets(&self, key: &[u8], now: Moment) -> Option<&Entry>
         ensures { option_copied result ≡ fresh_at key.now now self.now }
     {
-        let entry = self.pairs.peek(key)?;
+        let entry = self.pairs.peek(KeyOctets { octets: key })?;
         if entry.is_fresh(now) {
             Some(entry)
         } else {
@@ -173,7 +189,7 @@ impl Store {
     pub fn holds_octets(&self, key: &[u8]) -> bool
         ensures { result ≡ is_some (entry_at key.now self.now.pairs) }
     {
-        self.pairs.contains(key)
+        self.pairs.contains(KeyOctets { octets: key })
     }
 
     /// Removes and returns the entry of a key.
@@ -190,7 +206,7 @@ impl Store {
         ensures changed { self.new ≡ after_remove key.now self.old }
     {
         let _ = self.pairs.len();
-        let Some(removed) = self.pairs.pop(key) else {
+        let Some(removed) = self.pairs.pop(KeyOctets { octets: key }) else {
             return None;
         };
         self.sum -= size(key.len(), &removed);

@@ -5,7 +5,7 @@ ghost use Rattle.pending_fetch.specs.Fetches.{shares};
 ghost use Rattle.pending_fetch.specs.Indexes.{number_under};
 
 use crate::kept::KeptFetch;
-use object_store::CacheKey;
+use object_store::{CacheKey, KeyHashes, KeyOctets};
 use std::alloc::{AllocError, Global};
 use std::collections::HashMap;
 use std::marker::Model;
@@ -13,7 +13,7 @@ use std::marker::Model;
 /// A hash map from the keys of the shared fetches to their numbers. Contracts see the list of its entries.
 #[derive(Drop)]
 pub struct Keys {
-    map: HashMap<CacheKey, u32>,
+    map: HashMap<CacheKey, u32, KeyHashes>,
 }
 
 impl Model for Keys {
@@ -25,12 +25,12 @@ impl Model for Keys {
 }
 
 impl Keys {
-    /// An empty index. Does not allocate.
-    pub fn new(alloc: Global) -> Keys
+    /// An empty index that hashes keys so. Does not allocate.
+    pub fn new(alloc: Global, hashes: KeyHashes) -> Keys
         ensures { (key : List ℕ) → number_under key result ≡ None }
     {
         Keys {
-            map: HashMap::new(alloc),
+            map: HashMap::with_hasher(alloc, hashes),
         }
     }
 
@@ -38,7 +38,7 @@ impl Keys {
     pub fn number_of(&self, key: &[u8]) -> Option<u32>
         ensures { result ≡ number_under key.now self.now }
     {
-        self.map.get(key).copied()
+        self.map.get(KeyOctets { octets: key }).copied()
     }
 
     /// Adds a fetch if it is shared; a private one is not indexed. On an error (out of memory, or too many owners of the key)
@@ -62,7 +62,7 @@ impl Keys {
         ensures { (key : List ℕ) → number_under key self.new ≡ (if shares key fetch.now then None else number_under key self.old) }
     {
         if fetch.is_shared() {
-            self.map.remove(fetch.key().as_slice());
+            self.map.remove(fetch.key());
         }
     }
 }

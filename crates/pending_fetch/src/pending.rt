@@ -26,7 +26,7 @@ use crate::slots::{
 };
 use crate::undecided::Undecided;
 use neighbours::{Moment, Table};
-use object_store::CacheKey;
+use object_store::{CacheKey, KeyHashes};
 use peer_select::{Kind, Round, matching_law, unchanged_law};
 use std::alloc::{AllocError, Global};
 use std::marker::Model;
@@ -39,6 +39,8 @@ pub struct Pending {
     order: Order,
     slots: FetchSlab,
     keys: Keys,
+    // How `keys` hashes them.
+    hashes: KeyHashes,
     clients: WaitingClients,
     undecided: Vec<Undecided>,
 }
@@ -66,11 +68,13 @@ impl Pending {
         let clients = WaitingClients::new(alloc)?;
         let undecided = Vec::with_capacity(alloc, MAX_PENDING_FETCHES)?;
         let order = Order::new(alloc)?;
+        let hashes = KeyHashes::seeded(0);
         Ok(Pending {
             last: 0,
             order,
             slots: FetchSlab::new(alloc),
-            keys: Keys::new(alloc),
+            keys: Keys::new(alloc, hashes),
+            hashes,
             clients,
             undecided,
         })
@@ -82,7 +86,7 @@ impl Pending {
         ensures { IfOk result (λ pending. pending ≡ self.now) }
     {
         let clients = self.clients.copy(alloc)?;
-        let keys = keys_of(&self.slots, alloc)?;
+        let keys = keys_of(&self.slots, alloc, self.hashes)?;
         let slots = self.slots.copy(alloc)?;
         let undecided = copy_of_queue(&self.undecided, alloc)?;
         let order = self.order.copy(alloc)?;
@@ -91,9 +95,20 @@ impl Pending {
             order,
             slots,
             keys,
+            hashes: self.hashes,
             clients,
             undecided,
         })
+    }
+
+    /// Hashes keys so from now on; until it is told, a table hashes without a secret. What is pending stays. Errors: out of memory, or
+    /// too many owners of a key; then it goes on as before.
+    pub fn hash_by(&mut self, alloc: Global, hashes: KeyHashes) -> Result<(), AllocError>
+        ensures { self.new ≡ self.old }
+    {
+        self.keys = keys_of(&self.slots, alloc, hashes)?;
+        self.hashes = hashes;
+        Ok(())
     }
 
     /// States for callers that the list is legal (specs/Legal.antt); does nothing at run time.

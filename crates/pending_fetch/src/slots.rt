@@ -15,15 +15,16 @@ use crate::kept::KeptFetch;
 use crate::keys::Keys;
 use crate::order::Order;
 use neighbours::Table;
+use object_store::KeyHashes;
 use peer_select::Kind;
 use std::alloc::{AllocError, Global};
 
-/// The index of the shared fetches by key.
-pub fn keys_of(slots: &FetchSlab, alloc: Global) -> Result<Keys, AllocError>
+/// The index of the shared fetches by key, which hashes keys so.
+pub fn keys_of(slots: &FetchSlab, alloc: Global, hashes: KeyHashes) -> Result<Keys, AllocError>
     requires { is_alone slots.now ≡ true }
     ensures { IfOk result (λ keys. (key : List ℕ) → number_under key keys ≡ shared_number key slots.now) }
 {
-    let mut keys = Keys::new(alloc);
+    let mut keys = Keys::new(alloc, hashes);
     for place in 0..slots.len() {
         keys.open(slots.get(place))?;
     }

@@ -17,7 +17,7 @@ use crate::action::Out;
 use crate::config::{Config, NodeFault, Rules};
 use filter_slots::{Datagram, Moment, Socket};
 use neighbours::{ConfigFault, Table};
-use object_store::{CacheKey, Store};
+use object_store::{CacheKey, KeyHashes, Store};
 use pending_fetch::Pending;
 use std::alloc::Global;
 use std::marker::Model;
@@ -95,6 +95,15 @@ impl Core {
             pending,
             clock: start(),
         })
+    }
+
+    /// Hashes keys so from now on; until it is told, a node hashes without a secret. Nothing else changes. Errors: out of memory, or
+    /// too many owners of an object or key; the node goes on then.
+    pub fn hash_by(&mut self, alloc: Global, hashes: KeyHashes) -> Result<(), NoMemory>
+        ensures { self.new ≡ self.old }
+    {
+        self.store.hash_by(alloc, hashes)?;
+        self.pending.hash_by(alloc, hashes)
     }
 
     /// An owned copy; objects and keys are reference-counted and shared. Errors: out of memory, or too many owners of an

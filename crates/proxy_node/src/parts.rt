@@ -1,7 +1,7 @@
 //! URLs of which nothing is stored and parts were asked for a short time ago.
 use http_rules::PartRequests;
 use lru::LruCache;
-use object_store::CacheKey;
+use object_store::{CacheKey, KeyHashes};
 use std::alloc::{AllocError, Global};
 
 /// The most URLs whose requests for parts are counted.
@@ -11,23 +11,23 @@ const PART_KEYS: usize = 1_024;
 #[derive(Drop)]
 pub struct PartKeys {
     // The ones of which parts were asked for last before the others.
-    requests: LruCache<CacheKey, PartRequests>,
+    requests: LruCache<CacheKey, PartRequests, KeyHashes>,
     // The most octets that a stored body has.
     limit: u32,
 }
 
 impl PartKeys {
-    /// None yet. Stored bodies have at most `limit` octets. Errors: out of memory.
-    pub fn new(alloc: Global, limit: u32) -> Result<PartKeys, AllocError> {
+    /// None yet; keys are hashed so. Stored bodies have at most `limit` octets. Errors: out of memory.
+    pub fn new(alloc: Global, hashes: KeyHashes, limit: u32) -> Result<PartKeys, AllocError> {
         Ok(PartKeys {
-            requests: LruCache::unbounded(alloc)?,
+            requests: LruCache::unbounded_with_hasher(alloc, hashes)?,
             limit,
         })
     }
 
     // The requests for parts of this URL.
     fn requests_for(&self, key: &CacheKey) -> PartRequests {
-        match self.requests.peek(key.as_slice()) {
+        match self.requests.peek(key) {
             Some(requests) => *requests,
             None => PartRequests::none(),
         }
@@ -39,7 +39,7 @@ impl PartKeys {
     pub fn note(&mut self, key: CacheKey, now: u64) -> bool {
         let requests = self.requests_for(&key);
         if requests.is_third(now, self.limit) {
-            let _ = self.requests.pop(key.as_slice());
+            let _ = self.requests.pop(&key);
             return true;
         }
         self.put(key, requests.with_request(now));

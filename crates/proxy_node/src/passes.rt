@@ -5,7 +5,7 @@ use forwarding::{Destination, Peer, origin_of, peer_of};
 use http_rules::{OriginRules, SixEnd};
 use http_traffic::Ticket;
 use lru::LruCache;
-use object_store::CacheKey;
+use object_store::{CacheKey, KeyHashes};
 use serve_config::PassedMethod;
 use std::alloc::{AllocError, Global};
 use std::net::SocketAddr;
@@ -23,14 +23,14 @@ const LARGE_SECONDS: u64 = 60;
 #[derive(Drop)]
 pub struct LargeKeys {
     // Until when this is known of each, the ones that were noted last before the others.
-    until: LruCache<CacheKey, Instant>,
+    until: LruCache<CacheKey, Instant, KeyHashes>,
 }
 
 impl LargeKeys {
-    /// None yet. Errors: out of memory.
-    pub fn new(alloc: Global) -> Result<LargeKeys, AllocError> {
+    /// None yet; keys are hashed so. Errors: out of memory.
+    pub fn new(alloc: Global, hashes: KeyHashes) -> Result<LargeKeys, AllocError> {
         Ok(LargeKeys {
-            until: LruCache::unbounded(alloc)?,
+            until: LruCache::unbounded_with_hasher(alloc, hashes)?,
         })
     }
 
@@ -48,7 +48,7 @@ impl LargeKeys {
 
     // Whether the answer of this URL is known to be too long.
     fn has(&self, now: Instant, key: &CacheKey) -> bool {
-        match self.until.peek(key.as_slice()) {
+        match self.until.peek(key) {
             Some(end) => now < *end,
             None => false,
         }

@@ -1,6 +1,6 @@
 //! What origins are not asked about.
 use lru::LruCache;
-use object_store::CacheKey;
+use object_store::{CacheKey, KeyHashes, KeyOctets};
 use std::alloc::{AllocError, Global};
 
 /// The most keys that are known at a time.
@@ -10,14 +10,14 @@ const MOST_KEYS: usize = 1_024;
 #[derive(Drop)]
 pub struct UnaskedKeys {
     // The ones that were noted last before the others.
-    keys: LruCache<CacheKey, ()>,
+    keys: LruCache<CacheKey, (), KeyHashes>,
 }
 
 impl UnaskedKeys {
-    /// None yet. Errors: out of memory.
-    pub fn new(alloc: Global) -> Result<UnaskedKeys, AllocError> {
+    /// None yet; keys are hashed so. Errors: out of memory.
+    pub fn new(alloc: Global, hashes: KeyHashes) -> Result<UnaskedKeys, AllocError> {
         Ok(UnaskedKeys {
-            keys: LruCache::unbounded(alloc)?,
+            keys: LruCache::unbounded_with_hasher(alloc, hashes)?,
         })
     }
 
@@ -31,11 +31,11 @@ impl UnaskedKeys {
 
     /// Forgets a key, under which there is something else now.
     pub(crate) fn forget(&mut self, key: &[u8]) {
-        let _ = self.keys.pop(key);
+        let _ = self.keys.pop(KeyOctets { octets: key });
     }
 
     /// Whether this key was noted.
     pub(crate) fn has(&self, key: &[u8]) -> bool {
-        self.keys.peek(key).is_some()
+        self.keys.peek(KeyOctets { octets: key }).is_some()
     }
 }
