@@ -42,10 +42,14 @@ stands_for address =
     else if address / 2 ^ 96 == 536936448 then Some (4294967295 - address % 2 ^ 32)
     else None
 
--- whether a server at this address of IPv4 may be fetched from, if there is one
+-- whether a server at this address of IPv4, as a number, may be fetched from
+abbrev pub admits_four : OriginRules → ℕ → ℕ → Bool
+admits_four rules address port = admits rules (record { addr = to_be_bytes w32 address; port = port })
+
+-- the same, if there is an address
 abbrev pub is_as : OriginRules → Option ℕ → ℕ → Bool
 is_as rules None port = true
-is_as rules (Some address) port = admits rules (record { addr = to_be_bytes w32 address; port = port })
+is_as rules (Some address) port = admits_four rules address port
 
 -- the address that a connection to an address reaches: Linux takes :: for ::1, and ::ffff:0.0.0.0 for ::ffff:127.0.0.1
 abbrev pub reached_six : ℕ → ℕ

@@ -58,7 +58,7 @@ pub use freshness::{Kept, may_keep};
 pub use loops::{has_come_back, loop_mark};
 pub use mirrors::{Mirror, mirrored};
 pub use origins::{OriginRules, usual_denials};
-pub use origins_six::{SixEnd, SixNetwork, usual_six_denials};
+pub use origins_six::{SixEnd, SixNetwork, embedded_law, usual_six_denials};
 pub use parts::PartRequests;
 pub use passing::{is_unsafe, onward};
 pub use plain::is_plain_request;

@@ -1,8 +1,10 @@
 //! Which servers with an address of IPv6 may be fetched from as origins.
-ghost use Rattle.std.specs.Prelude.{◌≡◌, ◌%◌, ◌^◌, ◌||◌, IfOk};
+ghost use Rattle.std.specs.Prelude.{◌≡◌, ◌<◌, ◌≤◌, ◌+◌, ◌-◌, ◌*◌, ◌%◌, ◌^◌, ◌||◌, ℕ, IfOk, true};
 ghost use Rattle.std.specs.List.{list_any};
+ghost use Rattle.http_rules.specs.declared.origins.OriginRules.{OriginRules};
 ghost use Rattle.http_rules.specs.OriginsSix.{
   admits_at,
+  admits_four,
   admits_six,
   first_bits,
   is_as,
@@ -191,3 +193,18 @@ pub fn usual_six_denials(alloc: Global) -> Result<Vec<SixNetwork>, AllocError>
     denied.push(METADATA)?;
     Ok(denied)
 }
+
+/// What admits a server at an address of IPv6 in which there is one of IPv4 admits a server at that too, in each way in which one is there:
+/// behind 96 bits of 0 (RFC 4291, section 2.5.5.1), behind ::ffff:0:0/96 (2.5.5.2), ::ffff:0:0:0/96 (RFC 2765, section 2.1) and 64:ff9b::/96
+/// (RFC 6052, section 2.1), in 2002::/16 (RFC 3056, section 2), and turned at the end of 2001::/32 (RFC 4380, section 4). What admits ::1 or
+/// :: admits 127.0.0.1, and what admits an address of a link alone (fe80::/10) admits 169.254.0.0.
+pub fn embedded_law()
+    ensures loopback { (rules : OriginRules) (address port : ℕ) → address ≤ 1 → admits_six rules address port ≡ true → admits_four rules 2130706433 port ≡ true }
+    ensures link { (rules : OriginRules) (rest port : ℕ) → rest < 2 ^ 118 → admits_six rules (1018 * 2 ^ 118 + rest) port ≡ true → admits_four rules 2851995648 port ≡ true }
+    ensures compatible { (rules : OriginRules) (four port : ℕ) → four < 2 ^ 32 → 1 < four → admits_six rules four port ≡ true → admits_four rules four port ≡ true }
+    ensures mapped { (rules : OriginRules) (four port : ℕ) → four < 2 ^ 32 → admits_six rules (65535 * 2 ^ 32 + four) port ≡ true → admits_four rules four port ≡ true }
+    ensures translated { (rules : OriginRules) (four port : ℕ) → four < 2 ^ 32 → admits_six rules (65535 * 2 ^ 48 + four) port ≡ true → admits_four rules four port ≡ true }
+    ensures nat64 { (rules : OriginRules) (four port : ℕ) → four < 2 ^ 32 → admits_six rules (100 * 2 ^ 112 + 65435 * 2 ^ 96 + four) port ≡ true → admits_four rules four port ≡ true }
+    ensures six_to_four { (rules : OriginRules) (four rest port : ℕ) → four < 2 ^ 32 → rest < 2 ^ 80 → admits_six rules (8194 * 2 ^ 112 + four * 2 ^ 80 + rest) port ≡ true → admits_four rules four port ≡ true }
+    ensures teredo { (rules : OriginRules) (four rest port : ℕ) → four < 2 ^ 32 → rest < 2 ^ 64 → admits_six rules (536936448 * 2 ^ 96 + rest * 2 ^ 32 + (4294967295 - four)) port ≡ true → admits_four rules four port ≡ true }
+{}
