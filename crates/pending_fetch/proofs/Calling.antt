@@ -112,6 +112,21 @@ indexed_closed number f list new keys fewer clients after h e is forgotten put =
           ∙ ap (λ o. if is_number number o then None else o) (h.waiting other) ∙ wait_without number list h.legal.once other;
     })
 
+-- a client that doesn't wait leaves
+pub indexed_absent : (client : ℕ) (list : List PendingFetch) (keys : Keyed) (clients after : Waiting) → IsIndexed list keys clients → number_beside clients client ≡ None →
+    ((other : ℕ) → number_beside after other ≡ (if client == other then None else number_beside clients other)) → IsIndexed list keys after
+indexed_absent client list keys clients after h e put = record {
+  legal = h.legal;
+  alone = h.alone;
+  keyed = h.keyed;
+  waiting = λ other. put other
+      ∙ elim (eqb client other) as (λ v. eqb client other ≡ v → (if v then None else number_beside clients other) ≡ number_beside clients other) [
+        | true ↦ λ t. let same : client ≡ other = grind (arith, nat_tests) in sym (ap (number_beside clients) (sym same) ∙ e)
+        | false ↦ λ t. refl
+      ] refl
+      ∙ h.waiting other;
+}
+
 pub many_wait : (list : List PendingFetch) (keys : Keyed) (clients : Waiting) → IsIndexed list keys clients → is_sorted clients ≡ true → length clients ≡ length (all_waiters list)
 many_wait list keys clients h s = as_many clients list s h.legal.once h.waiting
 

@@ -301,9 +301,7 @@ queue_gone number room after f old new queue more over h same d e o is put =
       | false ↦ λ t. refl
     ] o)
 
-pub cut_lent : (queue lent : List Undecided) (number i : ℕ) → lent ≡ queue → (i < length lent) × ((d : Undecided) → (get_or lent i d).number ≡ number) → IsDistinct nat_eq (numbers_queued queue) →
-    take i queue ++ drop (i + 1) queue ≡ dequeued number queue
-cut_lent queue lent number i e at d =
-    let P : List Undecided → Type 0 = λ q. (i < length q) × ((d : Undecided) → (get_or q i d).number ≡ number) in
-    let here : P queue = subst P e at in
-    cut_dequeued queue number i here.0 here.1 d
+pub first_is : (queue : List Undecided) (first : Undecided) (number len : ℕ) → len ≡ length queue → (len == 0) ≡ false → first ≡ get_or queue 0 first → (first.number == number) ≡ true →
+    (0 < length queue) × ((d : Undecided) → (get_or queue 0 d).number ≡ number)
+first_is [] first number len l some e h = absurd cc
+first_is (u ∷ queue) first number len l some e h = (omega arith, λ d. ap (λ (x : Undecided). x.number) (sym e) ∙ eqb-true first.number number h)

@@ -49,6 +49,10 @@ at_place xs x i e l =
     let inside : nat_lt (position_or_len (λ n. n == x) xs) (length xs) ≡ true = grind arith in
     ap (λ v. cond v (Some (position_or_len (λ n. n == x) xs)) None) inside ∙ ap (λ n. Some n) e
 
+-- the index of a number that stands at it
+pub placed_at : (xs : List ℕ) (x i : ℕ) → is_climbing xs ≡ true → i < length xs → get_or xs i 0 ≡ x → Some i ≡ position (λ n. n == x) xs
+placed_at xs x i climbs l e = sym (at_place xs x i (at_first xs x i climbs l e) l)
+
 past_all : (xs : List ℕ) (x : ℕ) → position_or_len (λ n. n == x) xs ≡ length xs → position (λ n. n == x) xs ≡ None
 past_all xs x e =
     let outside : nat_lt (position_or_len (λ n. n == x) xs) (length xs) ≡ false = grind arith in

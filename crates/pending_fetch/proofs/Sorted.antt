@@ -1,11 +1,12 @@
 -- Sorted clients: the result of a binary search, insertion, removal, and filtering.
-use Rattle.std.proofs.Common.{◌≡◌, ℕ, zero, suc, ◌+◌, ◌<◌, ◌≤◌, ◌≢◌, Bool, true, false, not, eqb, nat_lt, ◌&&◌, ◌||◌, ◌==◌, List, [], ◌∷◌, ◌++◌, length, take, drop, filter, get_or, refl, ap, sym, ◌∙◌, subst, arith, if◌then◌else◌, Some, None, Option, Result, Ok, Err, IfOk, IfErr}
+use Rattle.std.proofs.Common.{◌≡◌, ℕ, zero, suc, ◌+◌, ◌-◌, ◌<◌, ◌≤◌, ◌≢◌, Bool, true, false, not, eqb, nat_lt, ◌&&◌, ◌||◌, ◌==◌, List, [], ◌∷◌, ◌++◌, length, take, drop, filter, get_or, refl, ap, sym, ◌∙◌, subst, arith, if◌then◌else◌, Some, None, Option, Result, Ok, Err, IfOk, IfErr}
 use Rattle.std.specs.List.{insert, list_all, list_any}
 use Rattle.std.specs.List.Sorted.{IsSearchInRange, IsBinarySearchResult, IsNonDecreasingBy}
 use Rattle.std.specs.Ordering.{nat_cmp, ordering_index}
 use Rattle.std.proofs.lemmas.Cmp.{ranked}
 use Rattle.std.proofs.lemmas.List.Sorted.{IsNonDecreasingBy-from_default}
 use Rattle.std.proofs.lemmas.Bool.Decides.{nat_tests}
+use Rattle.std.proofs.lemmas.List.{get_or_default, length-append}
 use Rattle.pending_fetch.specs.Indexes.{Waiting, number_beside, is_number, is_sorted, client_at, IsAt, IsGapFor}
 
 -- what holds of all holds at an index, and conversely
@@ -79,6 +80,110 @@ module _ (l : Waiting) (sorted : is_sorted l ≡ true) (client : ℕ) where
       greater_after = λ j le lt. ranked _ client _ (sym ((parted comparisons_rise).1 j (0, 0) le lt));
     };
   }
+
+-- a client greater than all
+pub gap_none : (l : Waiting) (client : ℕ) → length l ≡ 0 → IsGapFor l client (length l)
+gap_none l client e = record {
+  in_range = omega arith;
+  smaller_before = λ j lt. absurd (omega (arith, lt, e));
+  greater_after = λ j le lt. absurd (omega (arith, le, lt));
+}
+
+pub gap_past : (l : Waiting) (client n : ℕ) (last : ℕ × ℕ) → is_sorted l ≡ true → n ≡ length l → n ≢ 0 → last ≡ get_or l (n - 1) last → nat_lt last.0 client ≡ true → IsGapFor l client (length l)
+gap_past l client n last sorted e some read under = record {
+  in_range = omega arith;
+  smaller_before = λ j lt.
+      let i : ℕ = n - 1 in
+      let at_end : i + 1 ≡ length l = omega (arith, some, e) in
+      let same : client_at l i ≡ last.0 = ap (λ (pair : ℕ × ℕ). pair.0) (sym (read ∙ get_or_default l i last (0, 0) (omega (arith, at_end)))) in
+      let rise : client_at l j ≤ client_at l i = grind (arith, rising l j i sorted, λ (at : j ≡ i). ap (client_at l) at) in
+      let above : last.0 < client = grind (arith, nat_tests) in
+      omega (arith, rise, same, above);
+  greater_after = λ j le lt. absurd (omega (arith, le, lt));
+}
+
+-- at the end
+pub insert_last : (l : Waiting) (i : ℕ) (x : ℕ × ℕ) → i ≡ length l → l ++ x ∷ [] ≡ insert l i x
+insert_last [] zero x e = refl
+insert_last [] (suc i) x e = absurd (omega (arith, e))
+insert_last (y ∷ l) zero x e = absurd (omega (arith, e))
+insert_last (y ∷ l) (suc i) x e = ap (λ k. y ∷ k) (insert_last l i x (omega (arith, e)))
+
+-- two lists, one after the other
+all_front : (p : ℕ × ℕ → Bool) (a b : Waiting) → list_all p (a ++ b) ≡ true → list_all p a ≡ true
+all_front p [] b h = refl
+all_front p (x ∷ a) b h =
+    let here : p x ≡ true = grind arith in
+    let rest : list_all p (a ++ b) ≡ true = grind arith in
+    rw (here, all_front p a b rest) refl
+
+pub sorted_front : (a b : Waiting) → is_sorted (a ++ b) ≡ true → is_sorted a ≡ true
+sorted_front [] b h = refl
+sorted_front (x ∷ a) b h =
+    let above : list_all (λ (other : ℕ × ℕ). nat_lt x.0 other.0) (a ++ b) ≡ true = grind arith in
+    let rest : is_sorted (a ++ b) ≡ true = grind arith in
+    rw (all_front (λ (other : ℕ × ℕ). nat_lt x.0 other.0) a b above, sorted_front a b rest) refl
+
+pub sorted_back : (a b : Waiting) → is_sorted (a ++ b) ≡ true → is_sorted b ≡ true
+sorted_back [] b h = h
+sorted_back (x ∷ a) b h = let rest : is_sorted (a ++ b) ≡ true = grind arith in sorted_back a b rest
+
+at_front : (a b : Waiting) (j : ℕ) → j < length a → client_at (a ++ b) j ≡ client_at a j
+at_front [] b j k = absurd (omega (arith, k))
+at_front (x ∷ a) b zero k = refl
+at_front (x ∷ a) b (suc j) k = at_front a b j (omega (arith, k))
+
+at_back : (a b : Waiting) (i n : ℕ) → n ≡ length a + i → client_at (a ++ b) n ≡ client_at b i
+at_back [] b i n e = let same : n ≡ i = omega (arith, e) in ap (client_at b) same
+at_back (x ∷ a) b i zero e = absurd (omega (arith, e))
+at_back (x ∷ a) b i (suc n) e = at_back a b i n (omega (arith, e))
+
+rising_from_first : (l : Waiting) (i : ℕ) → is_sorted l ≡ true → i < length l → client_at l 0 ≤ client_at l i
+rising_from_first l zero sorted k = omega arith
+rising_from_first l (suc i) sorted k = omega (arith, rising l 0 (suc i) sorted (omega arith) k)
+
+pub found_front : (a b : Waiting) (client i : ℕ) → IsAt a client i → IsAt (a ++ b) client i
+found_front a b client i at = record { in_range = omega (arith, at.in_range, length-append a b); has_client = at_front a b i at.in_range ∙ at.has_client }
+
+pub found_back : (a b : Waiting) (client i n : ℕ) → n ≡ length a + i → IsAt b client i → IsAt (a ++ b) client n
+found_back a b client i n e at = record { in_range = omega (arith, e, at.in_range, length-append a b); has_client = at_back a b i n e ∙ at.has_client }
+
+pub gap_front : (a b : Waiting) (client i : ℕ) → is_sorted (a ++ b) ≡ true → (0 < length b → client < client_at b 0) → IsGapFor a client i → IsGapFor (a ++ b) client i
+gap_front a b client i sorted before gap = record {
+  in_range = omega (arith, gap.in_range, length-append a b);
+  smaller_before = λ j lt. omega (arith, at_front a b j (omega (arith, lt, gap.in_range)), gap.smaller_before j lt);
+  greater_after = λ j le lt.
+      elim (nat_lt j (length a)) as (λ v. nat_lt j (length a) ≡ v → client < client_at (a ++ b) j) [
+        | true ↦ λ t. let inside : j < length a = grind arith in omega (arith, at_front a b j inside, gap.greater_after j le inside)
+        | false ↦ λ t.
+            let past : length a ≤ j = grind arith in
+            let split : j ≡ length a + (j - length a) = omega (arith, past) in
+            let inside : j - length a < length b = omega (arith, past, lt, length-append a b) in
+            omega (arith, at_back a b (j - length a) j split, rising_from_first b (j - length a) (sorted_back a b sorted) inside, before (omega (arith, inside)))
+      ] refl;
+}
+
+pub absent_front : (a b : Waiting) (client : ℕ) (r : Result ℕ ℕ) → is_sorted (a ++ b) ≡ true → (0 < length b → client < client_at b 0) → IfErr r (IsGapFor a client) → IfErr r (IsGapFor (a ++ b) client)
+absent_front a b client (Ok i) sorted before h = tt
+absent_front a b client (Err i) sorted before h = gap_front a b client i sorted before h
+
+pub gap_back : (a b : Waiting) (client i n : ℕ) → is_sorted (a ++ b) ≡ true → (0 < length b) × (client_at b 0 ≤ client) → n ≡ length a + i → IsGapFor b client i → IsGapFor (a ++ b) client n
+gap_back a b client i n sorted reached e gap = record {
+  in_range = omega (arith, e, gap.in_range, length-append a b);
+  smaller_before = λ j lt.
+      elim (nat_lt j (length a)) as (λ v. nat_lt j (length a) ≡ v → client_at (a ++ b) j < client) [
+        | true ↦ λ t.
+            let inside : j < length a = grind arith in
+            omega (arith, rising (a ++ b) j (length a) sorted inside (omega (arith, reached.0, length-append a b)), at_back a b 0 (length a) (omega arith), reached.1)
+        | false ↦ λ t.
+            let past : length a ≤ j = grind arith in
+            let split : j ≡ length a + (j - length a) = omega (arith, past) in
+            omega (arith, at_back a b (j - length a) j split, gap.smaller_before (j - length a) (omega (arith, past, lt, e)))
+      ] refl;
+  greater_after = λ j le lt.
+      let split : j ≡ length a + (j - length a) = omega (arith, le, e) in
+      omega (arith, at_back a b (j - length a) j split, gap.greater_after (j - length a) (omega (arith, le, e)) (omega (arith, le, e, lt, length-append a b)));
+}
 
 none_before_at : (l : Waiting) (client i : ℕ) → is_sorted l ≡ true → IsAt l client i → NoneBefore l client i
 none_before_at l client i sorted at j lt same = omega (arith, rising l j i sorted lt at.in_range, at.has_client)

@@ -1,6 +1,6 @@
 //! The fetch numbers in the order of opening, with binary search while they are ascending.
 
-ghost use Rattle.std.specs.Prelude.{◌≡◌, ◌<◌, ◌≤◌, ◌+◌, ◌%◌, ◌==◌, ◌++◌, ◌∷◌, [], ℕ, List, length, take, drop, position, true, IfOk, vec_capacity};
+ghost use Rattle.std.specs.Prelude.{◌≡◌, ◌<◌, ◌≤◌, ◌+◌, ◌%◌, ◌==◌, ◌++◌, ◌∷◌, [], ℕ, List, length, take, drop, position, slice_index_or, true, IfOk, IfSome, vec_capacity};
 ghost use Rattle.pending_fetch.specs.Numbers.{is_taken, next_of, nth_after, rises_to};
 ghost use Rattle.pending_fetch.specs.Bounds.{most_fetches};
 
@@ -118,7 +118,7 @@ fn copy_of(list: &[u32], alloc: Global) -> Result<Vec<u32>, AllocError>
     Ok(copy)
 }
 
-// The index of a number: by binary search if the list is ascending, else by linear search.
+// The index of a number: in a run from the first on or by binary search if the list is ascending, else by linear search.
 fn place_in(list: &[u32], top: Option<u32>, number: u32) -> Option<usize>
     requires { rises_to top list.now ≡ true }
     ensures { result ≡ position (λ n. n == number) list.now }
@@ -134,7 +134,22 @@ fn place_in_rising(list: &[u32], top: u32, number: u32) -> Option<usize>
     ensures { result ≡ position (λ n. n == number) list.now }
 {
     let _ = top;
+    if let Some(place) = place_in_run(list, number) {
+        return Some(place);
+    }
     list.binary_search(&number).ok()
+}
+
+// The index of a number if no number between it and the first is missing, as while no fetch between them was closed.
+fn place_in_run(list: &[u32], number: u32) -> Option<usize>
+    ensures { IfSome result (λ place. (place < length list.now) × (slice_index_or list.now place 0 ≡ number)) }
+{
+    let first = *list.first()?;
+    let place = number.checked_sub(first)? as usize;
+    if place < list.len() && list[place] == number {
+        return Some(place);
+    }
+    None
 }
 
 // The `top` after `number` is appended: `number` if the list stays ascending, else `None`.

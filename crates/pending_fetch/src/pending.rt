@@ -29,6 +29,7 @@ use neighbours::{Moment, Table};
 use object_store::{CacheKey, KeyHashes};
 use peer_select::{Kind, Round, matching_law, unchanged_law};
 use std::alloc::{AllocError, Global};
+use std::collections::VecDeque;
 use std::marker::Model;
 
 /// The pending fetches in the order of opening: at most 256, with at most 1,024 waiting clients in all. Private indexes hold
@@ -42,11 +43,12 @@ pub struct Pending {
     // How `keys` hashes them.
     hashes: KeyHashes,
     clients: WaitingClients,
-    undecided: Vec<Undecided>,
+    undecided: VecDeque<Undecided>,
 }
 
 impl Model for Pending {
-    ghost use Rattle.std.specs.Prelude.{◌≡◌, vec_capacity};
+    ghost use Rattle.std.specs.Prelude.{◌≡◌};
+    ghost use Rattle.std.specs.VecDeque.{deque_capacity};
     ghost use Rattle.pending_fetch.specs.Fetches.{Fetches, numbers};
     ghost use Rattle.pending_fetch.specs.Indexes.{IsIndexed};
     ghost use Rattle.pending_fetch.specs.Queue.{IsQueue};
@@ -56,7 +58,7 @@ impl Model for Pending {
     ghost view = { λ p. record { last = p.last; list = p.slots } };
 
     ghost invariant = { λ p. IsIndexed p.slots p.keys p.clients
-        × IsQueue (vec_capacity p.undecided) p.undecided.items p.slots
+        × IsQueue (deque_capacity p.undecided) p.undecided.items p.slots
         × (p.order ≡ numbers p.slots) };
 }
 
@@ -66,7 +68,7 @@ impl Pending {
         ensures { IfOk result (λ pending. pending ≡ record { last = 0; list = [] }) }
     {
         let clients = WaitingClients::new(alloc)?;
-        let undecided = Vec::with_capacity(alloc, MAX_PENDING_FETCHES)?;
+        let undecided = VecDeque::with_capacity(alloc, MAX_PENDING_FETCHES)?;
         let order = Order::new(alloc)?;
         let hashes = KeyHashes::seeded(0);
         Ok(Pending {
@@ -228,11 +230,10 @@ impl Pending {
     pub fn leave(&mut self, client: u64)
         ensures { self.new ≡ record self.old { list = left client self.old.list } }
     {
-        let Some(number) = self.clients.number_of(client) else {
+        let Some(number) = self.clients.leave(client) else {
             return;
         };
         leave_in(&mut self.slots, &self.order, number, client);
-        self.clients.leave(client);
     }
 
     /// The waiters of the fetch with this number, in the order of joining; empty if there is no such fetch.

@@ -1,10 +1,9 @@
-use Rattle.std.proofs.Common.{rules}
-use Rattle.std.proofs.lemmas.List.Sorted.{answers_always}
-use Rattle.pending_fetch.proofs.Sorted.{searched}
+use Rattle.std.proofs.Common.{true, ap, ◌∙◌}
+use Rattle.pending_fetch.specs.Indexes.{is_sorted}
 use Rattle.pending_fetch.proofs.clients.WaitingClients.search.Goals as goal
 
+pub search_both-requires : goal.search_both-requires
+search_both-requires c = ap is_sorted c.as_slices.ensures.items ∙ c.self.invariant.1
+
 pub returns : goal.returns
-returns c =
-    let facts = c.binary_search_by_key.ensures in
-    let by_key = facts.position (λ pair. pair.0) (answers_always _ _ _ (λ f a r g called. search rules)) in
-    rw (← c.self.view_is, ← c.deref.ensures.value) (searched _ (rw c.deref.ensures.value c.self.invariant.1) c.args.client _ facts.bound by_key)
+returns c = rw (← c.self.view_is, ← c.as_slices.ensures.items) c.search_both.ensures

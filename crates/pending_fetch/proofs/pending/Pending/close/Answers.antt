@@ -1,4 +1,5 @@
-use Rattle.std.proofs.Common.{ℕ, None, Some, refl, length, ap, sym, ◌∙◌, arith, vec_capacity, ◌==◌, if◌then◌else◌}
+use Rattle.std.proofs.Common.{ℕ, None, Some, refl, length, ap, sym, ◌∙◌, arith, ◌==◌, if◌then◌else◌}
+use Rattle.std.specs.VecDeque.{deque_capacity}
 use Rattle.pending_fetch.specs.Fetches.{Fetches, PendingFetch, without, numbers}
 use Rattle.std.specs.List.{list_any}
 use Rattle.pending_fetch.specs.Queue.{queue_of}
@@ -11,7 +12,7 @@ pub invariant_of-self : goal.invariant_of-self
 invariant_of-self c =
     let same = gone_already c.args.number c.self.inside.slots c.take_out.new.slots c.take_out.ensures.list (sym c.take_out.ensures.taken ∙ c.in_default.is) in (
       indexed_kept c.self.inside.slots c.take_out.new.slots c.self.inside.keys c.self.inside.keys c.self.inside.clients c.self.invariant.0 same (λ k. refl),
-      queue_kept (vec_capacity c.self.inside.undecided) c.self.inside.slots c.take_out.new.slots c.self.inside.undecided.items c.self.invariant.1 (ap queue_of same),
+      queue_kept (deque_capacity c.self.inside.undecided) c.self.inside.slots c.take_out.new.slots c.self.inside.undecided.items c.self.invariant.1 (ap queue_of same),
       c.take_out.ensures.order,
     )
 
@@ -25,13 +26,13 @@ close-requires-2 c = λ other.
     ∙ sym (ap (list_any (λ waiter. waiter == other)) c.waiters.ensures)
 
 pub close_entry-requires : goal.close_entry-requires
-close_entry-requires c = entries_distinct (vec_capacity c.self.inside.undecided) c.self.inside.undecided.items c.self.inside.slots c.self.invariant.1 c.self.invariant.0.legal.numbered
+close_entry-requires c = entries_distinct (deque_capacity c.self.inside.undecided) c.self.inside.undecided.items c.self.inside.slots c.self.invariant.1 c.self.invariant.0.legal.numbered
 
 pub invariant_of-self-2 : goal.invariant_of-self-2
 invariant_of-self-2 c = (
   indexed_closed c.args.number c.in-Some.fetch c.self.inside.slots c.take_out.new.slots c.self.inside.keys c.close.new.self c.self.inside.clients c.close-2.new.self c.self.invariant.0 (sym c.take_out.ensures.taken ∙ c.in-Some.is) c.take_out.ensures.list c.close.ensures
       (λ other. c.close-2.ensures other ∙ ap (λ w. if list_any (λ waiter. waiter == other) w then None else number_beside c.self.inside.clients other) c.waiters.ensures),
-  queue_gone c.args.number (vec_capacity c.self.inside.undecided) (vec_capacity c.close_entry.new.queue) c.in-Some.fetch c.self.inside.slots c.take_out.new.slots c.self.inside.undecided.items c.close_entry.new.queue.items
+  queue_gone c.args.number (deque_capacity c.self.inside.undecided) (deque_capacity c.close_entry.new.queue) c.in-Some.fetch c.self.inside.slots c.take_out.new.slots c.self.inside.undecided.items c.close_entry.new.queue.items
       c.is_decided.result c.self.invariant.1 c.close_entry.ensures.room c.self.invariant.0.legal.numbered (sym c.take_out.ensures.taken ∙ c.in-Some.is) c.is_decided.ensures c.take_out.ensures.list c.close_entry.ensures.items,
   c.take_out.ensures.order,
 )

@@ -14,7 +14,7 @@ invariant_of-result c =
       indexed_copied c.self.inside.slots c.self.inside.slots c.in_ok-slots.slots c.self.inside.keys c.in_ok-keys.keys c.self.inside.clients c.in_ok-clients.clients c.self.invariant.0 refl same c.in_ok-keys.ensures c.in_ok-clients.ensures,
       record {
         roomy = c.in_ok-undecided.ensures.room;
-        queue_is = c.in_ok-undecided.ensures.items ∙ c.deref.ensures.value ∙ c.self.invariant.1.queue_is ∙ ap queue_of (sym same);
+        queue_is = c.in_ok-undecided.ensures.items ∙ c.self.invariant.1.queue_is ∙ ap queue_of (sym same);
       },
       c.in_ok-order.ensures ∙ c.self.invariant.2 ∙ ap numbers (sym same),
     )

@@ -1,4 +1,5 @@
-use Rattle.std.proofs.Common.{ℕ, None, Some, refl, length, ap, sym, ◌∙◌, arith, vec_capacity}
+use Rattle.std.proofs.Common.{ℕ, None, Some, refl, length, ap, sym, ◌∙◌, arith}
+use Rattle.std.specs.VecDeque.{deque_capacity}
 use Rattle.pending_fetch.specs.Fetches.{Fetches, PendingFetch, changed, with_end, has_number}
 use Rattle.std.proofs.Common.{true, if◌then◌else◌}
 use Rattle.pending_fetch.proofs.Keeping.{Keeps-end}
@@ -7,12 +8,12 @@ use Rattle.pending_fetch.proofs.Calling.{put_view, KeepsKey-end, indexed_changed
 use Rattle.pending_fetch.proofs.pending.Pending.expire.Goals as goal
 
 pub settle-requires : goal.settle-requires
-settle-requires c = entries_distinct (vec_capacity c.self.inside.undecided) c.self.inside.undecided.items c.self.inside.slots c.self.invariant.1 c.self.invariant.0.legal.numbered
+settle-requires c = entries_distinct (deque_capacity c.self.inside.undecided) c.self.inside.undecided.items c.self.inside.slots c.self.invariant.1 c.self.invariant.0.legal.numbered
 
 pub invariant_of-self : goal.invariant_of-self
 invariant_of-self c = (
   indexed_changed with_end c.args.number c.self.inside.slots c.expire_in-found.new.slots c.self.inside.keys c.self.inside.clients (Keeps-end c.matching_law.ensures.start_ended) KeepsKey-end c.self.invariant.0 c.expire_in-found.ensures.list,
-  queue_after with_end c.args.number (vec_capacity c.self.inside.undecided) (vec_capacity c.settle.new.queue) c.self.inside.slots c.expire_in-found.new.slots c.self.inside.undecided.items c.settle.new.queue.items c.decided_where.result
+  queue_after with_end c.args.number (deque_capacity c.self.inside.undecided) (deque_capacity c.settle.new.queue) c.self.inside.slots c.expire_in-found.new.slots c.self.inside.undecided.items c.settle.new.queue.items c.decided_where.result
       (Keeps-end c.matching_law.ensures.start_ended) (λ f d. c.unchanged_law.ensures.expired f.round)
       c.self.invariant.0.legal.numbered c.self.invariant.1 c.settle.ensures.room c.expire_in-found.ensures.list
       (c.decided_where.ensures ∙ ap (λ b. if b then Some true else None) c.expire_in-found.ensures.found ∙ ended_found c.unchanged_law.ensures.expired c.args.number c.self.inside.slots)

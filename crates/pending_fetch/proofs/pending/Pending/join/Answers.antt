@@ -1,4 +1,5 @@
-use Rattle.std.proofs.Common.{ℕ, None, Some, refl, length, ap, sym, ◌∙◌, arith, vec_capacity}
+use Rattle.std.proofs.Common.{ℕ, None, Some, refl, length, ap, sym, ◌∙◌, arith}
+use Rattle.std.specs.VecDeque.{deque_capacity}
 use Rattle.pending_fetch.specs.Fetches.{Fetches, PendingFetch, with_waiter}
 use Rattle.pending_fetch.specs.Calls.{join_fault, join_answer, join_list}
 use Rattle.pending_fetch.specs.Queue.{queue_of}
@@ -45,7 +46,7 @@ pub invariant_of-self : goal.invariant_of-self
 invariant_of-self c = (
   indexed_joined c.args.client c.in-Some.number c.as_slice.result.now c.self.inside.slots c.join_in.new.slots c.args.self.now.list c.self.inside.keys c.self.inside.clients c.join.new.self c.self.invariant.0 (ap (λ (w : Fetches). w.list) c.self.view_is)
       (sym c.number_of.ensures ∙ c.in-Some.is) (sym c.join_fault.ensures ∙ c.in_default-join_fault.is) c.join_in.ensures c.join.ensures,
-  queue_kept (vec_capacity c.self.inside.undecided) c.self.inside.slots c.join_in.new.slots c.self.inside.undecided.items c.self.invariant.1
+  queue_kept (deque_capacity c.self.inside.undecided) c.self.inside.slots c.join_in.new.slots c.self.inside.undecided.items c.self.invariant.1
       (ap queue_of c.join_in.ensures ∙ queue-same (with_waiter c.args.client) (λ f. refl) (λ f. refl) c.in-Some.number c.self.inside.slots),
   order_changed (with_waiter c.args.client) (λ f. refl) c.in-Some.number c.self.inside.order c.self.inside.slots c.join_in.new.slots c.self.invariant.2 c.join_in.ensures,
 )

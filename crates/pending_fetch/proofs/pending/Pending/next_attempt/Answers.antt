@@ -1,4 +1,5 @@
-use Rattle.std.proofs.Common.{ℕ, None, Some, refl, length, ap, sym, ◌∙◌, arith, vec_capacity}
+use Rattle.std.proofs.Common.{ℕ, None, Some, refl, length, ap, sym, ◌∙◌, arith}
+use Rattle.std.specs.VecDeque.{deque_capacity}
 use Rattle.pending_fetch.specs.Fetches.{Fetches, PendingFetch, changed, with_next, fetch_of}
 use Rattle.pending_fetch.specs.Calls.{may_advance}
 use Rattle.pending_fetch.specs.Queue.{queue_of}
@@ -10,7 +11,7 @@ use Rattle.pending_fetch.proofs.pending.Pending.next_attempt.Goals as goal
 pub invariant_of-self : goal.invariant_of-self
 invariant_of-self c = (
   indexed_changed with_next c.args.number c.self.inside.slots c.advance_in.new.slots c.self.inside.keys c.self.inside.clients Keeps-next KeepsKey-next c.self.invariant.0 c.advance_in.ensures.list,
-  queue_kept (vec_capacity c.self.inside.undecided) c.self.inside.slots c.advance_in.new.slots c.self.inside.undecided.items c.self.invariant.1
+  queue_kept (deque_capacity c.self.inside.undecided) c.self.inside.slots c.advance_in.new.slots c.self.inside.undecided.items c.self.invariant.1
       (ap queue_of c.advance_in.ensures.list ∙ queue-same with_next next_number next_round c.args.number c.self.inside.slots),
   order_changed with_next next_number c.args.number c.self.inside.order c.self.inside.slots c.advance_in.new.slots c.self.invariant.2 c.advance_in.ensures.list,
 )

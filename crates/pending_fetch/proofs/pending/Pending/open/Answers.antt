@@ -1,4 +1,5 @@
-use Rattle.std.proofs.Common.{ℕ, None, Some, refl, length, ap, sym, ◌∙◌, arith, vec_capacity}
+use Rattle.std.proofs.Common.{ℕ, None, Some, refl, length, ap, sym, ◌∙◌, arith}
+use Rattle.std.specs.VecDeque.{deque_capacity}
 use Rattle.pending_fetch.specs.Fetches.{Fetches, PendingFetch, numbers, opened_fetch}
 use Rattle.std.proofs.Common.{◌++◌, ◌∷◌, []}
 use Rattle.pending_fetch.specs.Queue.{queue_of, entry_at, listed, entry_of}
@@ -10,7 +11,7 @@ pub invariant_of-self : goal.invariant_of-self
 invariant_of-self c = (
   indexed_kept c.self.inside.slots c.open.new.self c.self.inside.keys c.open.new.keys c.self.inside.clients c.self.invariant.0 (on_err _ _ _ c.open.result c.open.ensures.err (sym c.is_err.ensures.value ∙ c.if-is_err.true))
       (on_err _ _ _ c.open.result c.open.ensures.unkeyed (sym c.is_err.ensures.value ∙ c.if-is_err.true)),
-  queue_kept (vec_capacity c.self.inside.undecided) c.self.inside.slots c.open.new.self c.self.inside.undecided.items c.self.invariant.1 (ap queue_of (on_err _ _ _ c.open.result c.open.ensures.err (sym c.is_err.ensures.value ∙ c.if-is_err.true))),
+  queue_kept (deque_capacity c.self.inside.undecided) c.self.inside.slots c.open.new.self c.self.inside.undecided.items c.self.invariant.1 (ap queue_of (on_err _ _ _ c.open.result c.open.ensures.err (sym c.is_err.ensures.value ∙ c.if-is_err.true))),
   c.self.invariant.2 ∙ ap numbers (sym (on_err _ _ _ c.open.result c.open.ensures.err (sym c.is_err.ensures.value ∙ c.if-is_err.true))),
 )
 
@@ -25,8 +26,8 @@ join-requires-clause-absent c = nobody_beside c.args.client c.self.inside.slots 
 
 pub enqueue-requires-clause-few : goal.enqueue-requires-clause-few
 enqueue-requires-clause-few c =
-    queue_room (vec_capacity c.self.inside.undecided) c.self.inside.undecided.items c.args.self.now.list
-    (queue_seen (vec_capacity c.self.inside.undecided) c.self.inside.undecided.items c.self.inside.slots c.args.self.now.list (ap (λ (w : Fetches). w.list) c.self.view_is) c.self.invariant.1)
+    queue_room (deque_capacity c.self.inside.undecided) c.self.inside.undecided.items c.args.self.now.list
+    (queue_seen (deque_capacity c.self.inside.undecided) c.self.inside.undecided.items c.self.inside.slots c.args.self.now.list (ap (λ (w : Fetches). w.list) c.self.view_is) c.self.invariant.1)
     (not_full c.args.self.now.list (sym c.is_full.ensures ∙ c.if-is_full.false)).0
 
 pub push-requires : goal.push-requires
@@ -38,7 +39,7 @@ invariant_of-self-2 c =
       indexed_opened c.next_number-number.result c.self.inside.last c.self.inside.slots c.open.new.self c.self.inside.keys c.open.new.keys c.self.inside.clients c.join.new.self c.in-Ok.fetch c.args.key c.args.client c.args.shared c.args.round c.args.self.now
           c.self.view_is c.self.invariant.0 is c.in-Ok.ensures c.next_number-number.ensures (sym c.is_full.ensures ∙ c.if-is_full.false) c.requires.absent c.requires.later c.requires.unshared
           (on_ok _ _ _ c.open.result c.open.ensures.keyed (sym c.is_err.ensures.value ∙ c.if-is_err.false)) c.join.ensures,
-      queue_opened (vec_capacity c.self.inside.undecided) (vec_capacity c.enqueue.new.queue) c.self.inside.slots c.open.new.self c.in-Ok.fetch (listed c.entry_for-entry.result)
+      queue_opened (deque_capacity c.self.inside.undecided) (deque_capacity c.enqueue.new.queue) c.self.inside.slots c.open.new.self c.in-Ok.fetch (listed c.entry_for-entry.result)
           c.self.inside.undecided.items c.enqueue.new.queue.items c.self.invariant.1 c.enqueue.ensures.room is
           (ap listed c.entry_for-entry.ensures ∙ entry_listed c.next_number-number.result c.args.key c.args.client c.args.shared c.args.round ∙ ap entry_of (sym c.in-Ok.ensures))
           c.enqueue.ensures.items,

@@ -1,4 +1,5 @@
-use Rattle.std.proofs.Common.{Some, refl, ap, sym, ◌∙◌, vec_capacity}
+use Rattle.std.proofs.Common.{Some, refl, ap, sym, ◌∙◌}
+use Rattle.std.specs.VecDeque.{deque_capacity}
 use Rattle.pending_fetch.specs.Fetches.{Fetches, PendingFetch, changed, with_reply, fetch_of}
 use Rattle.std.specs.Option.{option_map}
 use Rattle.pending_fetch.specs.FetchIndex.{fetch_index}
@@ -12,13 +13,13 @@ use Rattle.pending_fetch.proofs.Changes.{place_changed, decided_changed}
 use Rattle.pending_fetch.proofs.pending.Pending.reply_at.Goals as goal
 
 pub settle-requires : goal.settle-requires
-settle-requires c = entries_distinct (vec_capacity c.self.inside.undecided) c.self.inside.undecided.items c.self.inside.slots c.self.invariant.1 c.self.invariant.0.legal.numbered
+settle-requires c = entries_distinct (deque_capacity c.self.inside.undecided) c.self.inside.undecided.items c.self.inside.slots c.self.invariant.1 c.self.invariant.0.legal.numbered
 
 pub invariant_of-self : goal.invariant_of-self
 invariant_of-self c = (
   indexed_changed (with_reply (record { s = c.args.s; n = c.args.n; kind = c.args.kind })) c.args.number c.self.inside.slots c.reply_in-decided.new.slots c.self.inside.keys c.self.inside.clients
       (Keeps-reply (record { s = c.args.s; n = c.args.n; kind = c.args.kind }) c.matching_law.ensures.start_replied) (KeepsKey-reply (record { s = c.args.s; n = c.args.n; kind = c.args.kind })) c.self.invariant.0 c.reply_in-decided.ensures.list,
-  queue_after (with_reply (record { s = c.args.s; n = c.args.n; kind = c.args.kind })) c.args.number (vec_capacity c.self.inside.undecided) (vec_capacity c.settle.new.queue) c.self.inside.slots c.reply_in-decided.new.slots c.self.inside.undecided.items c.settle.new.queue.items (Some c.reply_in-decided.result)
+  queue_after (with_reply (record { s = c.args.s; n = c.args.n; kind = c.args.kind })) c.args.number (deque_capacity c.self.inside.undecided) (deque_capacity c.settle.new.queue) c.self.inside.slots c.reply_in-decided.new.slots c.self.inside.undecided.items c.settle.new.queue.items (Some c.reply_in-decided.result)
       (Keeps-reply (record { s = c.args.s; n = c.args.n; kind = c.args.kind }) c.matching_law.ensures.start_replied)
       (λ f d. ap decided (c.unchanged_law.ensures.reply f.round (record { s = c.args.s; n = c.args.n; kind = c.args.kind }) d) ∙ d)
       c.self.invariant.0.legal.numbered c.self.invariant.1 c.settle.ensures.room c.reply_in-decided.ensures.list c.reply_in-decided.ensures.decided c.settle.ensures.items,
