@@ -9,6 +9,7 @@ use Rattle.std.specs.Result.{result_ok}
 use Rattle.std.proofs.lemmas.Cmp.{ranked}
 use Rattle.std.proofs.lemmas.Bool.Decides.{nat_tests}
 use Rattle.std.proofs.lemmas.Bool.{eqb-true}
+use Rattle.std.proofs.lemmas.List.{length-append}
 use Rattle.std.proofs.lemmas.List.Elements.{filter-append}
 use Rattle.peer_select.specs.Poll.{Poll, decided, ended}
 use Rattle.pending_fetch.specs.declared.undecided.Undecided.{Undecided}
@@ -305,3 +306,20 @@ pub first_is : (queue : List Undecided) (first : Undecided) (number len : ℕ) �
     (0 < length queue) × ((d : Undecided) → (get_or queue 0 d).number ≡ number)
 first_is [] first number len l some e h = absurd cc
 first_is (u ∷ queue) first number len l some e h = (omega arith, λ d. ap (λ (x : Undecided). x.number) (sym e) ∙ eqb-true first.number number h)
+
+-- two lists, one after the other
+entry_front : (a b : List Undecided) (i : ℕ) (d : Undecided) → i < length a → get_or (a ++ b) i d ≡ get_or a i d
+entry_front [] b i d k = absurd (omega (arith, k))
+entry_front (x ∷ a) b zero d k = refl
+entry_front (x ∷ a) b (suc i) d k = entry_front a b i d (omega (arith, k))
+
+entry_back : (a b : List Undecided) (i n : ℕ) (d : Undecided) → n ≡ length a + i → get_or (a ++ b) n d ≡ get_or b i d
+entry_back [] b i n d e = let same : n ≡ i = omega (arith, e) in ap (λ k. get_or b k d) same
+entry_back (x ∷ a) b i zero d e = absurd (omega (arith, e))
+entry_back (x ∷ a) b i (suc n) d e = entry_back a b i n d (omega (arith, e))
+
+pub index_front : (a b : List Undecided) (number i : ℕ) → (i < length a) × ((d : Undecided) → (get_or a i d).number ≡ number) → (i < length (a ++ b)) × ((d : Undecided) → (get_or (a ++ b) i d).number ≡ number)
+index_front a b number i at = (omega (arith, at.0, length-append a b), λ d. ap (λ (u : Undecided). u.number) (entry_front a b i d at.0) ∙ at.1 d)
+
+pub index_back : (a b : List Undecided) (number i : ℕ) → (i < length b) × ((d : Undecided) → (get_or b i d).number ≡ number) → (length a + i < length (a ++ b)) × ((d : Undecided) → (get_or (a ++ b) (length a + i) d).number ≡ number)
+index_back a b number i at = (omega (arith, at.0, length-append a b), λ d. ap (λ (u : Undecided). u.number) (entry_back a b i (length a + i) d refl) ∙ at.1 d)

@@ -77,8 +77,26 @@ fn queue_index(queue: &VecDeque<Undecided>, number: u32) -> Option<usize>
     if is_first(queue, number) {
         return Some(0);
     }
-    queue
-        .binary_search_by_key(&number, |entry| entry.number)
+    let (front, back) = queue.as_slices();
+    match index_in(front, number) {
+        Some(place) => Some(place),
+        None => index_behind(front, back, number),
+    }
+}
+
+// As `queue_index`, in the second of two slices.
+fn index_behind(front: &[Undecided], back: &[Undecided], number: u32) -> Option<usize>
+    ensures { IfSome result (λ place. (place < length (front.now ++ back.now)) × ((d : Undecided) → (slice_index_or (front.now ++ back.now) place d).number ≡ number)) }
+{
+    let place = index_in(back, number)?;
+    Some(front.len() + place)
+}
+
+// As `queue_index`, in a slice.
+fn index_in(list: &[Undecided], number: u32) -> Option<usize>
+    ensures { IfSome result (λ place. (place < length list.now) × ((d : Undecided) → (slice_index_or list.now place d).number ≡ number)) }
+{
+    list.binary_search_by_key(&number, |entry| entry.number)
         .ok()
 }
 

@@ -6,5 +6,5 @@ use Rattle.pending_fetch.proofs.pending.Pending.due.Goals as goal
 
 pub returns : goal.returns
 returns c =
-    c.due_in.ensures ∙ ap (first_of_queue c.args.now) (c.deref.ensures.value ∙ c.self.invariant.1.queue_is)
+    c.due_in.ensures ∙ ap (first_of_queue c.args.now) c.self.invariant.1.queue_is
     ∙ first-is c.args.now c.self.inside.slots c.self.invariant.0.legal.in_order ∙ ap (λ (w : Fetches). first_due c.args.now w.list) c.self.view_is
