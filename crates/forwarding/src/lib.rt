@@ -16,5 +16,5 @@ pub use addressing::{Destination, Peer, origin_of, peer_of, server_in_digits};
 pub use keeping::{Exchange, Life, Profile};
 pub use known_keys::KnownKeys;
 pub use mailbox::{Field, Flight, Landed, Led, Mailbox, Waiting};
-pub use objects::{add_ours, object_of, refusal, stale_object, via};
+pub use objects::{add_ours, object_of, refusal, stale_object, unkept_object, via};
 pub use validating::{confirmed, has_other_rules, hides_rules};

@@ -289,20 +289,14 @@ impl Mailbox {
         self.fetches.values().any(|fetching| fetching.misleads())
     }
 
-    /// Removes a fetch whose attempt has ended. One that is not in flight counts as private, so that nothing is stored.
-    pub fn end(&mut self, fetch: u32) -> Landed {
-        match self.fetches.remove(&fetch) {
-            Some(
-                Fetching {
-                    flight,
-                    asked,
-                    is_outdated,
-                    ..
-                },
-            ) => Landed {
-                flight,
-                asked,
-                is_outdated,
+    /// What is known of a fetch whose attempt has ended, with the object that it asked about. It stays in flight until `end`, so that a
+    /// change is noted of it. One that is not in flight counts as private, so that nothing is stored.
+    pub fn landed(&mut self, fetch: u32) -> Landed {
+        match self.fetches.get_mut(&fetch) {
+            Some(fetching) => Landed {
+                flight: fetching.flight,
+                asked: fetching.asked.take(),
+                is_outdated: fetching.is_outdated,
             },
             None => Landed {
                 flight: Flight {
@@ -314,6 +308,20 @@ impl Mailbox {
                 is_outdated: false,
             },
         }
+    }
+
+    /// Whether nothing that this fetch brings may be kept: what it fetches was changed while it is under way, or it is not in flight any
+    /// more.
+    pub fn is_lost(&self, fetch: u32) -> bool {
+        match self.fetches.get(&fetch) {
+            Some(fetching) => fetching.is_outdated,
+            None => true,
+        }
+    }
+
+    /// Removes a fetch whose attempt has ended.
+    pub fn end(&mut self, fetch: u32) {
+        let _ = self.fetches.remove(&fetch);
     }
 
     /// The number of waiting clients.

@@ -51,6 +51,11 @@ pub fn stale_object(alloc: Global, object: &Object, age: u32) -> Result<SharedOb
     SharedObject::new(alloc, object.with_head(alloc, fields, age, 0)?)
 }
 
+/// An object that is not to be stored after all: the same without a life. Errors: out of memory.
+pub fn unkept_object(alloc: Global, object: &Object) -> Result<SharedObject, AllocError> {
+    stale_object(alloc, object, object.age())
+}
+
 /// What a client gets whose URL is one of a server that may not be fetched from.
 const REFUSAL: &[u8] = b"403 Forbidden: this proxy may not fetch from this address or port\n";
 

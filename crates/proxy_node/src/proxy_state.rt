@@ -295,7 +295,7 @@ impl<L: Ledger> ProxyState<L> {
         let fields = self.fields(rt, alloc, wanted, key.as_slice(), asked.as_ref());
         self.note_asked(rt, wanted.fetch, asked);
         if fields.is_err() {
-            let _ = self.mailbox.lock(rt).end(wanted.fetch);
+            self.mailbox.lock(rt).end(wanted.fetch);
         }
         fields
     }
@@ -333,7 +333,7 @@ impl<L: Ledger> ProxyState<L> {
         if taken {
             return Ok(());
         }
-        let _ = self.mailbox.lock(rt).end(fetch);
+        self.mailbox.lock(rt).end(fetch);
         Err(AllocError)
     }
 

@@ -7,7 +7,7 @@ use crossbeam_channel::Sender;
 use fetch_chain::Submit;
 use forwarding::{
     Exchange, Flight, Landed, Life, Profile, confirmed, has_other_rules, hides_rules, object_of,
-    refusal, stale_object,
+    refusal, stale_object, unkept_object,
 };
 use http_rules::{StaleUse, complete_length, has_stale_use, has_validator, is_error, supersedes};
 use http_traffic::{FetchEnd, FetchFault, Fetched, Page, Supplier};
@@ -91,11 +91,73 @@ fn is_unanswered(landed: &Landed, end: &FetchEnd) -> bool {
         }
 }
 
-/// What the node is told of a fetch, and whom its object comes from.
+/// What the shelf does when the object of a fetch is handed in.
+#[derive(Clone, Copy)]
+enum ShelfStep {
+    /// Nothing.
+    Stay,
+    /// It takes away what it has under the key.
+    Remove,
+    /// It follows the object, as `Results::follow` says.
+    Follow,
+}
+
+/// What a fetch brought by itself.
+#[derive(Drop)]
+struct Brought {
+    /// `None` if the attempt has failed.
+    object: Option<SharedObject>,
+    step: ShelfStep,
+    /// Whether a client's reload has found something else than was there.
+    is_changed: bool,
+}
+
+impl Brought {
+    /// An object, if there is one, with which the shelf has nothing to do.
+    fn alone(object: Option<SharedObject>) -> Brought {
+        Brought {
+            object,
+            step: ShelfStep::Stay,
+            is_changed: false,
+        }
+    }
+}
+
+/// What is handed in of a fetch, and whom its object comes from.
 #[derive(Drop)]
 struct Delivery {
-    outcome: Outcome,
+    brought: Brought,
     supplier: Option<Supplier>,
+}
+
+/// How a fetch has ended that a stale object takes the place of.
+#[derive(Drop)]
+struct Replaced {
+    landed: Landed,
+    end: FetchEnd,
+}
+
+/// All that is made of what a fetch brought before it is handed in.
+#[derive(Drop)]
+struct Made {
+    flight: Flight,
+    /// The key of the fetch, where responses are kept by RFC 9111.
+    key: Option<CacheKey>,
+    /// Whether the origin is not asked about the object again.
+    is_unanswered: bool,
+    delivery: Delivery,
+    replaced: Option<Replaced>,
+}
+
+impl Made {
+    /// Whether it is to be handed in only if nothing was changed: an object that is stored, or one that was on the shelf.
+    fn wants_no_change(&self) -> bool {
+        let is_stored = match &self.delivery.brought.object {
+            Some(object) => object.get().life() > 0,
+            None => false,
+        };
+        is_stored || self.replaced.is_some()
+    }
 }
 
 /// Submits the results of one fetch thread.
@@ -143,16 +205,9 @@ impl<R: Wait + Clock + Drop, L: Ledger> Results<R, L> {
     }
 
     // The response that a page stands for: what was asked about, if it is a 304 that confirms this, and otherwise itself. `None` for
-    // a 304 that fits nothing: that of another object, and one that nobody's conditions have asked for. Then the object goes, so that
-    // the next fetch asks for the whole of it. `None` also for a 412 to conditions that are not the client's.
-    fn whole_of(
-        &self,
-        key: Option<&CacheKey>,
-        flight: Flight,
-        asked: Option<SharedObject>,
-        page: Page,
-    ) -> Option<Page> {
-        let proxy = self.node.proxy();
+    // a 304 that fits nothing: that of another object, and one that nobody's conditions have asked for. `None` also for a 412 to
+    // conditions that are not the client's.
+    fn whole_of(&self, flight: Flight, asked: Option<SharedObject>, page: Page) -> Option<Page> {
         if page.status == PRECONDITION_FAILED && asked.is_some() {
             return None;
         }
@@ -160,16 +215,10 @@ impl<R: Wait + Clock + Drop, L: Ledger> Results<R, L> {
             return Some(page);
         }
         let Some(asked) = asked else {
-            let is_theirs = proxy.shelf.is_none() || flight.mode != Mode::Shared;
+            let is_theirs = self.node.proxy().shelf.is_none() || flight.mode != Mode::Shared;
             return if is_theirs { Some(page) } else { None };
         };
-        let whole = confirmed(self.alloc, &page.head, asked.get());
-        if whole.is_none()
-            && let Some(key) = key
-        {
-            proxy.unshelve(&self.rt, key);
-        }
-        whole
+        confirmed(self.alloc, &page.head, asked.get())
     }
 
     // Puts an object on the shelf that is stored, and that can be asked about or may be of use once it is stale. Returns whether it is there:
@@ -195,10 +244,7 @@ impl<R: Wait + Clock + Drop, L: Ledger> Results<R, L> {
     // Has the shelf follow what a fetch brought: what is stored is put there if the origin has given it itself, since its 304 would
     // otherwise confirm what a neighbour made of it; and what the origin has something else for now is taken away, for all but the one
     // client of a private fetch. So what is there is never older than what was stored.
-    fn follow(&self, key: Option<&CacheKey>, flight: Flight, object: &SharedObject) {
-        let Some(key) = key else {
-            return;
-        };
+    fn follow(&self, key: &CacheKey, flight: Flight, object: &SharedObject) {
         if object.get().life() > 0 {
             if !flight.is_origin() || !self.shelve(key, object) {
                 self.node.proxy().unshelve(&self.rt, key);
@@ -250,40 +296,55 @@ impl<R: Wait + Clock + Drop, L: Ledger> Results<R, L> {
         }
     }
 
-    // Notes that a client's reload has brought something else than was there, if that may be stored, or a 304 with other rules for what was
+    // Whether a client's reload has brought something else than was there, if that may be stored, or a 304 with other rules for what was
     // there.
-    fn note_changed(&self, key: &CacheKey, landed: &Landed, page: &Page) {
-        let Some(asked) = &landed.asked else {
-            return;
+    fn is_changed(&self, key: Option<&CacheKey>, landed: &Landed, page: &Page) -> bool {
+        let (Some(key), Some(asked)) = (key, &landed.asked) else {
+            return false;
         };
-        let proxy = self.node.proxy();
+        if landed.flight.mode != Mode::Private {
+            return false;
+        }
         let exchange = self.exchange(Some(key), landed.flight);
-        let is_changed = match page.status {
-            200 => proxy.profile.may_keep_whole(exchange, &page.head),
+        match page.status {
+            200 => self
+                .node
+                .proxy()
+                .profile
+                .may_keep_whole(exchange, &page.head),
             NOT_MODIFIED => has_other_rules(&page.head, asked.get()),
             _ => false,
-        };
-        if is_changed
-            && landed.flight.mode == Mode::Private
-            && let Ok(key) = key.share()
-        {
-            proxy.note_changed(&self.rt, key);
         }
     }
 
-    // The object of a response that came on this date. `None` for a 304 that fits nothing, if there are too many names in Connection,
-    // or if out of memory.
-    fn object_in(
+    // The object of a whole response that came on this date, without a life if it is not to be kept. `None` if there are too many names in
+    // Connection, or if out of memory.
+    fn object_of_whole(
         &self,
-        fetch: u32,
-        landed: Landed,
+        key: Option<&CacheKey>,
+        flight: Flight,
+        is_unkept: bool,
         page: Page,
         date: &[u8],
     ) -> Option<SharedObject> {
-        let key = self.key_of(fetch);
-        if let Some(key) = &key {
-            self.note_changed(key, &landed, &page);
+        let mut life = self.life_of(key, flight, &page);
+        if is_unkept {
+            life.left = 0;
         }
+        let name = self.node.proxy().name.as_bytes();
+        object_of(self.alloc, name, life, page, date).ok()
+    }
+
+    // What a response brought that came on this date. After a 304 that fits nothing, what was asked about goes, so that the next fetch asks
+    // for the whole of it.
+    fn brought_by(
+        &self,
+        key: Option<&CacheKey>,
+        landed: Landed,
+        page: Page,
+        date: &[u8],
+    ) -> Brought {
+        let is_changed = self.is_changed(key, &landed, &page);
         let Landed {
             flight,
             asked,
@@ -291,73 +352,148 @@ impl<R: Wait + Clock + Drop, L: Ledger> Results<R, L> {
         } = landed;
         let is_by_rules = key.is_some() || asked.is_some();
         let is_unkept = is_outdated || (is_by_rules && hides_rules(self.alloc, &page.head));
-        let page = self.whole_of(key.as_ref(), flight, asked, page)?;
-        let mut life = self.life_of(key.as_ref(), flight, &page);
-        if is_unkept {
-            life.left = 0;
+        let step_of_none = if page.status == NOT_MODIFIED && asked.is_some() {
+            ShelfStep::Remove
+        } else {
+            ShelfStep::Stay
+        };
+        match self.whole_of(flight, asked, page) {
+            Some(page) => Brought {
+                object: self.object_of_whole(key, flight, is_unkept, page, date),
+                step: ShelfStep::Follow,
+                is_changed,
+            },
+            None => Brought {
+                object: None,
+                step: step_of_none,
+                is_changed,
+            },
         }
-        let name = self.node.proxy().name.as_bytes();
-        let object = object_of(self.alloc, name, life, page, date).ok()?;
-        self.follow(key.as_ref(), flight, &object);
-        Some(object)
     }
 
-    fn outcome(&self, fetch: u32, landed: Landed, end: FetchEnd) -> Outcome {
+    // What a fetch brought by itself.
+    fn brought(&self, key: Option<&CacheKey>, landed: Landed, end: FetchEnd) -> Brought {
         let Ok(date) = HttpDate::from_unix_secs(date_seconds(&self.rt)) else {
-            return Outcome::Failed;
+            return Brought::alone(None);
         };
         let date = date.to_bytes();
-        let object = match end {
-            FetchEnd::Whole(page) if is_for_the_next(landed.flight, &page) => None,
-            FetchEnd::Whole(page) => self.object_in(fetch, landed, page, date.as_slice()),
-            FetchEnd::Refused => refusal(self.alloc, date.as_slice()).ok(),
-            FetchEnd::Failed(_) => None,
-        };
-        match object {
-            Some(object) => Outcome::Object(object),
-            None => Outcome::Failed,
+        match end {
+            FetchEnd::Whole(page) if is_for_the_next(landed.flight, &page) => Brought::alone(None),
+            FetchEnd::Whole(page) => self.brought_by(key, landed, page, date.as_slice()),
+            FetchEnd::Refused => Brought::alone(refusal(self.alloc, date.as_slice()).ok()),
+            FetchEnd::Failed(_) => Brought::alone(None),
         }
     }
 
-    // What is served in place of what the origin could not give, if there is something.
-    fn stale(&self, fetch: u32) -> Option<Delivery> {
-        let proxy = self.node.proxy();
-        if proxy.shelf.is_none() {
+    // What is handed in of a fetch where nothing takes its place.
+    fn delivery(&self, key: Option<&CacheKey>, landed: Landed, end: FetchEnd) -> Delivery {
+        let supplier = supplier_of(&landed, &end);
+        let is_too_long = is_too_long(landed.flight, &end);
+        let Brought {
+            object,
+            step,
+            is_changed,
+        } = self.brought(key, landed, end);
+        let step = if is_too_long { ShelfStep::Remove } else { step };
+        Delivery {
+            brought: Brought {
+                object,
+                step,
+                is_changed,
+            },
+            supplier,
+        }
+    }
+
+    // What is served in place of what the origin could not give, if there is something. After a change there is nothing: the shelf has
+    // not got anything of this key since then, and what it had before is not given.
+    fn stale(&self, key: Option<&CacheKey>, landed: &Landed, end: &FetchEnd) -> Option<Delivery> {
+        if landed.is_outdated || !is_down(landed.flight, end) {
             return None;
         }
-        let key = self.key_of(fetch)?;
-        let Stale { object, age } = proxy.stale(
-            &self.rt,
-            key.as_slice(),
-            StaleUse::InPlaceOfError,
-        )?;
+        let Stale { object, age } = self
+            .node
+            .proxy()
+            .stale(&self.rt, key?.as_slice(), StaleUse::InPlaceOfError)?;
         let object = stale_object(self.alloc, object.get(), age).ok()?;
         Some(Delivery {
-            outcome: Outcome::Object(object),
+            brought: Brought::alone(Some(object)),
             supplier: Some(Supplier::Stale(age)),
         })
     }
 
-    // What the node is told of a fetch.
-    fn delivery(&self, fetch: u32, landed: Landed, end: FetchEnd) -> Delivery {
-        if is_unanswered(&landed, &end)
-            && let Some(key) = self.key_of(fetch)
-        {
-            self.node.proxy().ask_no_more(&self.rt, key);
+    // Makes all that is handed in of a fetch, while it is still in flight and no change waits for that. Beside what is counted and told of
+    // it, nothing is done yet.
+    fn make(&self, fetch: u32, end: FetchEnd) -> Made {
+        let landed = self.node.proxy().mailbox.lock(&self.rt).landed(fetch);
+        let flight = landed.flight;
+        self.note_all(fetch, flight, &end);
+        let key = self.key_of(fetch);
+        let is_unanswered = is_unanswered(&landed, &end);
+        let (delivery, replaced) = match self.stale(key.as_ref(), &landed, &end) {
+            Some(stale) => (stale, Some(Replaced { landed, end })),
+            None => (self.delivery(key.as_ref(), landed, end), None),
+        };
+        Made {
+            flight,
+            key,
+            is_unanswered,
+            delivery,
+            replaced,
         }
-        if is_down(landed.flight, &end)
-            && let Some(stale) = self.stale(fetch)
-        {
-            return stale;
-        }
-        if is_too_long(landed.flight, &end)
-            && let Some(key) = self.key_of(fetch)
-        {
-            self.node.proxy().unshelve(&self.rt, &key);
-        }
+    }
+
+    // The same with an object that is not kept. Where memory is short, with none.
+    fn unkept(&self, delivery: Delivery) -> Delivery {
+        let Delivery { brought, supplier } = delivery;
+        let Brought {
+            object,
+            step,
+            is_changed,
+        } = brought;
+        let object = match object {
+            Some(object) => unkept_object(self.alloc, object.get()).ok(),
+            None => None,
+        };
         Delivery {
-            supplier: supplier_of(&landed, &end),
-            outcome: self.outcome(fetch, landed, end),
+            brought: Brought {
+                object,
+                step,
+                is_changed,
+            },
+            supplier,
+        }
+    }
+
+    // What is handed in of a fetch after a change, where a stale object was to take its place.
+    fn in_its_place(&self, key: Option<&CacheKey>, replaced: Replaced) -> Delivery {
+        let Replaced { landed, end } = replaced;
+        let landed = Landed {
+            is_outdated: true,
+            ..landed
+        };
+        self.delivery(key, landed, end)
+    }
+
+    // Makes anew what is handed in of a fetch, after a change: so that it is not kept, and without what the change has taken off the shelf.
+    fn make_unkept(&self, made: Made) -> Made {
+        let Made {
+            flight,
+            key,
+            is_unanswered,
+            delivery,
+            replaced,
+        } = made;
+        let delivery = match replaced {
+            Some(replaced) => self.in_its_place(key.as_ref(), replaced),
+            None => self.unkept(delivery),
+        };
+        Made {
+            flight,
+            key,
+            is_unanswered,
+            delivery,
+            replaced: None,
         }
     }
 
@@ -392,6 +528,16 @@ impl<R: Wait + Clock + Drop, L: Ledger> Results<R, L> {
         }
     }
 
+    // Counts and tells how a fetch ended, and notes what of that is asked for later.
+    fn note_all(&self, fetch: u32, flight: Flight, end: &FetchEnd) {
+        self.note(flight, end);
+        if let FetchEnd::Failed(fault) = end {
+            self.tell(fetch, flight.supplier, *fault);
+            self.note_large(fetch, *fault);
+        }
+        self.note_part(fetch, flight, end);
+    }
+
     // Notes that the body of a fetch's response was too large, where such responses are passed on.
     fn note_large(&self, fetch: u32, fault: FetchFault) {
         let proxy = self.node.proxy();
@@ -415,35 +561,88 @@ impl<R: Wait + Clock + Drop, L: Ledger> Results<R, L> {
         )
     }
 
-    // Hands in how an attempt has ended. What was changed meanwhile is noted until the attempt is taken out of the mailbox, and changes
-    // wait from then until the event was taken: so what is stored after all is there when the change takes it out of the store. `false` also
-    // where the lock for that cannot get one more owner.
+    // Hands in how an attempt has ended. Whatever takes long with a long body is done before any change has to wait for this; what was
+    // changed meanwhile is made anew, and not kept. `false` also where the lock of changes cannot get one more owner.
     fn land(&mut self, done: Fetched) -> bool {
         let Ok(changes) = Arc::try_clone(&self.changes) else {
             return false;
         };
-        let landing = changes.read(&self.rt);
-        let is_taken = self.hand_in(done);
-        drop(landing);
-        is_taken
-    }
-
-    fn hand_in(&mut self, done: Fetched) -> bool {
         let Fetched {
             fetch,
             attempt,
             end,
         } = done;
-        let landed = self.node.proxy().mailbox.lock(&self.rt).end(fetch);
-        let flight = landed.flight;
-        self.note(flight, &end);
-        if let FetchEnd::Failed(fault) = &end {
-            self.tell(fetch, flight.supplier, *fault);
-            self.note_large(fetch, *fault);
+        let made = self.make(fetch, end);
+        match self.hand_in(&changes, fetch, attempt, made) {
+            Ok(is_taken) => is_taken,
+            Err(made) => {
+                let made = self.make_unkept(made);
+                self.hand_in(&changes, fetch, attempt, made)
+                    .unwrap_or(false)
+            }
         }
-        self.note_part(fetch, flight, &end);
-        let Delivery { outcome, supplier } = self.delivery(fetch, landed, end);
+    }
+
+    // Hands in what was made of an attempt. What was changed is noted until the attempt is taken out of the mailbox, and changes wait from
+    // the look at that until the event was taken: so what is stored after all is there when the change takes it out of the store. Returns
+    // whether the node has taken it. Errors, with what was made: it would be kept, and was changed.
+    fn hand_in(
+        &mut self,
+        changes: &RwLock<()>,
+        fetch: u32,
+        attempt: u16,
+        made: Made,
+    ) -> Result<bool, Made> {
+        let landing = changes.read(&self.rt);
+        let handed = if self.is_lost(fetch, &made) {
+            Err(made)
+        } else {
+            Ok(self.deliver(fetch, attempt, made))
+        };
+        drop(landing);
+        handed
+    }
+
+    // Whether what was made must not be handed in as it is, since there was a change.
+    fn is_lost(&self, fetch: u32, made: &Made) -> bool {
+        made.wants_no_change() && self.node.proxy().mailbox.lock(&self.rt).is_lost(fetch)
+    }
+
+    // Takes an attempt out of the mailbox, has the shelf know what it brought, and hands that in.
+    fn deliver(&mut self, fetch: u32, attempt: u16, made: Made) -> bool {
+        self.node.proxy().mailbox.lock(&self.rt).end(fetch);
+        if let Some(key) = &made.key {
+            self.settle(key, &made);
+        }
+        let Made { delivery, .. } = made;
+        let Delivery { brought, supplier } = delivery;
+        let Brought { object, .. } = brought;
+        let outcome = match object {
+            Some(object) => Outcome::Object(object),
+            None => Outcome::Failed,
+        };
         take(&self.rt, &mut self.node, fetch, attempt, supplier, outcome)
+    }
+
+    // Does beside handing in what a fetch of this key asks for.
+    fn settle(&self, key: &CacheKey, made: &Made) {
+        let proxy = self.node.proxy();
+        let brought = &made.delivery.brought;
+        if made.is_unanswered
+            && let Ok(key) = key.share()
+        {
+            proxy.ask_no_more(&self.rt, key);
+        }
+        if brought.is_changed
+            && let Ok(key) = key.share()
+        {
+            proxy.note_changed(&self.rt, key);
+        }
+        match (brought.step, &brought.object) {
+            (ShelfStep::Remove, _) => proxy.unshelve(&self.rt, key),
+            (ShelfStep::Follow, Some(object)) => self.follow(key, made.flight, object),
+            (ShelfStep::Follow, None) | (ShelfStep::Stay, _) => {}
+        }
     }
 
     fn give_up(&mut self) {
