@@ -35,9 +35,9 @@ pub(crate) struct Facts {
     how: How,
     supplier: Option<Supplier>,
     // The tunnel that the request asks for, until its way is begun.
-    wanted: Option<Wanted>,
+    wanted: Option<Box<Wanted>>,
     // The tunnel, from its connection to the server until the HTTP connection has handed over its socket.
-    opened: Option<Opened>,
+    opened: Option<Box<Opened>>,
 }
 
 impl Facts {
@@ -189,15 +189,16 @@ impl SharedFacts {
         end: TunnelEnd,
     ) -> Option<oneshot::Receiver<Result<(), u16>>> {
         let (done, opened) = oneshot::channel(alloc).ok()?;
+        let wanted = Box::new(alloc, Wanted { end, done }).ok()?;
         let Ok(mut facts) = self.0.try_borrow_mut() else {
             return None;
         };
-        facts.wanted = Some(Wanted { end, done });
+        facts.wanted = Some(wanted);
         Some(opened)
     }
 
     // Takes the tunnel that is asked for.
-    fn take_wanted(&self) -> Option<Wanted> {
+    fn take_wanted(&self) -> Option<Box<Wanted>> {
         match self.0.try_borrow_mut() {
             Ok(mut facts) => facts.wanted.take(),
             Err(_) => None,
@@ -221,14 +222,14 @@ impl SharedFacts {
     }
 
     // Keeps a tunnel whose server is connected.
-    fn put_opened(&self, opened: Opened) {
+    fn put_opened(&self, opened: Box<Opened>) {
         if let Ok(mut facts) = self.0.try_borrow_mut() {
             facts.opened = Some(opened);
         }
     }
 
     // Takes the tunnel whose server is connected.
-    fn take_opened(&self) -> Option<Opened> {
+    fn take_opened(&self) -> Option<Box<Opened>> {
         match self.0.try_borrow_mut() {
             Ok(mut facts) => facts.opened.take(),
             Err(_) => None,
@@ -449,7 +450,7 @@ where
             return;
         };
         self.watching.facts.note_way(self.dialer.now());
-        let Wanted { end, done } = wanted;
+        let Wanted { end, done } = Box::into_inner(wanted);
         match self.way(end) {
             Some(opening) => {
                 self.opening = Some(opening);

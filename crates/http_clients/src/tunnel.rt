@@ -358,25 +358,26 @@ impl<R: Net + Clock + Copy, H: Answers> Opening<R, H> {
         Poll::Ready(Ok(()))
     }
 
-    // The tunnel, whose server is connected by this. Errors: 503 without a ticket, which is taken once.
-    fn opened(&mut self, reached: Reached) -> Result<Opened, u16> {
+    // The tunnel, whose server is connected by this. Errors: 503 without memory, or without a ticket, which is taken once.
+    fn opened(&mut self, reached: Reached) -> Result<Box<Opened>, u16> {
         let Reached { socket, early } = reached;
         let Some(ticket) = self.ticket.take() else {
             return Err(503);
         };
-        Ok(Opened {
+        let opened = Opened {
             server: Paced::new(socket, PIECE),
             early,
             still: self.still,
             ticket,
-        })
+        };
+        Box::new(self.dialer.alloc, opened).map_err(|_| 503u16)
     }
 }
 
 impl<R: Net + Clock + Copy, H: Answers> Future for Opening<R, H> {
-    type Output = Result<Opened, u16>;
+    type Output = Result<Box<Opened>, u16>;
 
-    fn poll(&mut self, cx: &mut Context<'_>) -> Poll<Result<Opened, u16>> {
+    fn poll(&mut self, cx: &mut Context<'_>) -> Poll<Result<Box<Opened>, u16>> {
         if let Err(status) = ready!(self.poll_address(cx)) {
             return Poll::Ready(Err(status));
         }
@@ -523,7 +524,7 @@ impl<I: AsyncRead + AsyncWrite, R: Net + Clock + Copy, H: Answers> Copying<I, R,
         dialer: &Dialer<R>,
         client: I,
         sent: BytesMut,
-        opened: Opened,
+        opened: Box<Opened>,
         telling: Option<Telling<H>>,
     ) -> Result<Copying<I, R, H>, AllocError> {
         let Opened {
@@ -531,7 +532,7 @@ impl<I: AsyncRead + AsyncWrite, R: Net + Clock + Copy, H: Answers> Copying<I, R,
             early,
             still,
             ticket,
-        } = opened;
+        } = Box::into_inner(opened);
         Ok(Copying {
             client,
             server,
