@@ -341,6 +341,7 @@ impl<R: Clock + Drop> Patient<R> {
 
     /// Waits for the next octets of the peer, which are then put back behind those that were, or until a read would find the end or
     /// fail. Errors: out of memory; then octets are lost.
+    #[inline(never)]
     pub fn poll_more(&mut self, alloc: Global, cx: &mut Context<'_>) -> Poll<Result<(), AllocError>>
         ensures registered { OnPending result (Covers cx.new (λ _. ⊥)) }
         ensures kept { Keeps cx.old cx.new }

@@ -558,14 +558,22 @@ where
         }
     }
 
-    // Takes the connection apart if it rests. Without memory it is then closed.
+    // Takes the connection apart if it rests.
+    fn rest_if_silent(&mut self)
+        requires { IfSome self.old.inner (λ c. B.Connection.can_poll (box_value c)) }
+        ensures { IfSome self.new.inner (λ c. B.Connection.can_poll (box_value c)) }
+    {
+        if self.watching.facts.is_resting() {
+            self.rest();
+        }
+    }
+
+    // Takes the connection apart. Without memory it is then closed. Kept out of what is called at each poll, which would pay for its locals.
+    #[inline(never)]
     fn rest(&mut self)
         requires { IfSome self.old.inner (λ c. B.Connection.can_poll (box_value c)) }
         ensures { IfSome self.new.inner (λ c. B.Connection.can_poll (box_value c)) }
     {
-        if !self.watching.facts.is_resting() {
-            return;
-        }
         let Some(inner) = self.inner.take() else {
             return;
         };
@@ -591,11 +599,19 @@ where
         if let Some(resting) = self.resting.take()
             && more.is_ok()
         {
-            let Resting { socket, door } = Box::into_inner(resting);
-            let inner = self.builder.connect(socket, door);
-            self.inner = Box::new(alloc, inner).ok();
+            self.resume(resting);
         }
         Poll::Ready(())
+    }
+
+    // Puts the connection together again. Without memory there is none.
+    #[inline(never)]
+    fn resume(&mut self, resting: Box<Resting<R, H>>)
+        ensures { IfSome self.new.inner (λ c. B.Connection.can_poll (box_value c)) }
+    {
+        let Resting { socket, door } = Box::into_inner(resting);
+        let inner = self.builder.connect(socket, door);
+        self.inner = Box::new(self.watching.alloc, inner).ok();
     }
 }
 
@@ -617,7 +633,7 @@ where
         let Poll::Ready(end) = self.poll_inner(cx) else {
             self.begin_opening();
             self.poll_opening(cx);
-            self.rest();
+            self.rest_if_silent();
             if self.inner.is_none() && self.resting.is_none() {
                 return Poll::Ready(());
             }
