@@ -18,8 +18,11 @@ use tokio::io::{AsyncRead, AsyncWrite};
 use tokio::net::TcpStream;
 use tokio::time::{Handle, Sleep};
 
-// The time without an octet after which a connection that waits for a head rests, in milliseconds.
-const MOMENT_MILLIS: u64 = 250;
+// The time without an octet after which a connection rests that waits for the first octet of a head, in milliseconds.
+const IDLE_MILLIS: u64 = 250;
+
+// That after which one rests that waits for the rest of a head. Few heads come in pieces, so it is shorter.
+const HEAD_MILLIS: u64 = 50;
 
 // The most octets that a read of a connection that rests takes.
 const FIRST_OCTETS: usize = 512;
@@ -276,8 +279,8 @@ impl<R: Clock + Drop> Patient<R> {
             return false;
         }
         match self.stage.get() {
-            Stage::Idle => self.has_rested(self.limits.idle, cx),
-            Stage::Head => self.has_rested(self.limits.head, cx),
+            Stage::Idle => self.has_rested(IDLE_MILLIS, self.limits.idle, cx),
+            Stage::Head => self.has_rested(HEAD_MILLIS, self.limits.head, cx),
             Stage::Content => self.coming.is_over(self.limits.content, cx),
             Stage::Asked | Stage::Tunnel => {
                 self.coming.begin_anew();
@@ -286,12 +289,13 @@ impl<R: Clock + Drop> Patient<R> {
         }
     }
 
-    // Whether the peer has been silent for so long while a head is awaited. After a moment of it the connection rests.
-    fn has_rested(&mut self, limit: Duration, cx: &mut Context<'_>) -> bool
+    // Whether the peer has been silent for as long as `limit` while a head is awaited. After so many milliseconds of it the connection
+    // rests.
+    fn has_rested(&mut self, millis: u64, limit: Duration, cx: &mut Context<'_>) -> bool
         ensures socket { self.new.socket ≡ self.old.socket }
         ensures kept { Keeps cx.old cx.new }
     {
-        let moment = Duration::from_millis(MOMENT_MILLIS);
+        let moment = Duration::from_millis(millis);
         if !self.stage.is_resting() {
             if !self.coming.is_over(limit.min(moment), cx) {
                 return false;
