@@ -81,6 +81,7 @@ loopback:
 
 slow:
 	@tests/serve_slow $(PROGRAM)
+	@tests/serve_rest $(PROGRAM)
 
 interop:
 	@tests/interop $(PROGRAM)

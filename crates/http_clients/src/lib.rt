@@ -11,6 +11,7 @@ mod administration;
 mod door;
 mod reply;
 mod requests;
+mod rest;
 mod server;
 mod serving;
 mod texts;

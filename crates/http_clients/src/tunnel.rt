@@ -9,13 +9,7 @@ use client_streams::Patience;
 use futures::channel::oneshot;
 use futures::task::{Context, Poll};
 use futures::{Future, ready};
-use http_body::Body;
 use http_traffic::{Addresses, Server, Ticket, TunnelEnd};
-use hyper::body::Incoming;
-use hyper::rt::Timer;
-use hyper::server::conn::http1::{Connection, Parts};
-use hyper::service::Service;
-use hyper::{Request, Response};
 use paced_stream::Paced;
 use std::alloc::{AllocError, Global};
 use std::io::ErrorKind;
@@ -358,25 +352,26 @@ impl<R: Net + Clock + Copy, H: Answers> Opening<R, H> {
         Poll::Ready(Ok(()))
     }
 
-    // The tunnel, whose server is connected by this. Errors: 503 without a ticket, which is taken once.
-    fn opened(&mut self, reached: Reached) -> Result<Opened, u16> {
+    // The tunnel, whose server is connected by this. Errors: 503 without memory, or without a ticket, which is taken once.
+    fn opened(&mut self, reached: Reached) -> Result<Box<Opened>, u16> {
         let Reached { socket, early } = reached;
         let Some(ticket) = self.ticket.take() else {
             return Err(503);
         };
-        Ok(Opened {
+        let opened = Opened {
             server: Paced::new(socket, PIECE),
             early,
             still: self.still,
             ticket,
-        })
+        };
+        Box::new(self.dialer.alloc, opened).map_err(|_| 503u16)
     }
 }
 
 impl<R: Net + Clock + Copy, H: Answers> Future for Opening<R, H> {
-    type Output = Result<Opened, u16>;
+    type Output = Result<Box<Opened>, u16>;
 
-    fn poll(&mut self, cx: &mut Context<'_>) -> Poll<Result<Opened, u16>> {
+    fn poll(&mut self, cx: &mut Context<'_>) -> Poll<Result<Box<Opened>, u16>> {
         if let Err(status) = ready!(self.poll_address(cx)) {
             return Poll::Ready(Err(status));
         }
@@ -523,7 +518,7 @@ impl<I: AsyncRead + AsyncWrite, R: Net + Clock + Copy, H: Answers> Copying<I, R,
         dialer: &Dialer<R>,
         client: I,
         sent: BytesMut,
-        opened: Opened,
+        opened: Box<Opened>,
         telling: Option<Telling<H>>,
     ) -> Result<Copying<I, R, H>, AllocError> {
         let Opened {
@@ -531,7 +526,7 @@ impl<I: AsyncRead + AsyncWrite, R: Net + Clock + Copy, H: Answers> Copying<I, R,
             early,
             still,
             ticket,
-        } = opened;
+        } = Box::into_inner(opened);
         Ok(Copying {
             client,
             server,
@@ -598,36 +593,5 @@ impl<I: AsyncRead + AsyncWrite, R: Net + Clock + Copy, H: Answers> Future for Co
             return Poll::Ready(());
         }
         Poll::Pending
-    }
-}
-
-/// A connection that can be taken apart once its last response has handed it over.
-pub(crate) trait HandOver: Drop {
-    /// Its socket.
-    type Socket: AsyncRead + AsyncWrite;
-
-    /// The socket, and what was read from it and not used.
-    fn hand_over(self) -> (Self::Socket, BytesMut);
-}
-
-impl<I, S, B, T> HandOver for Connection<I, S, B, T>
-where
-    I: AsyncRead + AsyncWrite,
-    S: Service<Request<Incoming<I>>, Response = Response<B>>,
-    S::Error: Into<anyhow::Error>,
-    B: Body,
-    B::Data: Into<Bytes>,
-    B::Error: Into<anyhow::Error>,
-    T: Timer,
-{
-    type Socket = I;
-
-    fn hand_over(self) -> (I, BytesMut) {
-        let Parts {
-            io,
-            read_buf,
-            service: _,
-        } = self.into_parts();
-        (io, read_buf)
     }
 }
