@@ -81,7 +81,6 @@ loopback:
 
 slow:
 	@tests/serve_slow $(PROGRAM)
-	@tests/serve_rest $(PROGRAM)
 
 interop:
 	@tests/interop $(PROGRAM)

@@ -1,10 +1,8 @@
 //! A socket that fails when its peer is silent for too long.
-ghost use Rattle.std.specs.Prelude.{◌≡◌, ◌≤◌, ⊤, IfSome, length};
-ghost use Rattle.futures.specs.Poll.{OnPending};
-ghost use Rattle.futures.specs.Task.{Covers, Keeps};
+ghost use Rattle.std.specs.Prelude.{◌≡◌, ⊤};
+ghost use Rattle.futures.specs.Task.{Keeps};
 ghost use Rattle.tokio.specs.Net.{stream_readable, stream_writable};
 
-use bytes::BytesMut;
 use futures::Future;
 use futures::task::{Context, Poll};
 use paced_stream::{CLIENT_TURN, Paced};
@@ -17,15 +15,6 @@ use std::time::{Clock, Duration, Instant};
 use tokio::io::{AsyncRead, AsyncWrite};
 use tokio::net::TcpStream;
 use tokio::time::{Handle, Sleep};
-
-// The time without an octet after which a connection rests that waits for the first octet of a head, in milliseconds.
-const IDLE_MILLIS: u64 = 250;
-
-// That after which one rests that waits for the rest of a head. Few heads come in pieces, so it is shorter.
-const HEAD_MILLIS: u64 = 50;
-
-// The most octets that a read of a connection that rests takes.
-const FIRST_OCTETS: usize = 512;
 
 /// How long a peer may stay silent before its socket fails.
 #[derive(Clone, Copy)]
@@ -68,8 +57,6 @@ struct Doing {
     is_sending: Cell<bool>,
     // Whether a read failed because the peer was silent for too long.
     has_timed_out: Cell<bool>,
-    // Whether the peer has been silent for a moment since the stage was set or something was sent.
-    is_resting: Cell<bool>,
 }
 
 /// The stage of a connection, set by its HTTP service and read by its socket. Reference-counted within one thread.
@@ -85,7 +72,6 @@ impl SharedStage {
             is_anew: Cell::new(false),
             is_sending: Cell::new(false),
             has_timed_out: Cell::new(false),
-            is_resting: Cell::new(false),
         };
         Ok(SharedStage(Rc::new(alloc, doing)?))
     }
@@ -105,7 +91,6 @@ impl SharedStage {
         self.0.stage.set(stage);
         self.0.is_set.set(true);
         self.0.is_anew.set(true);
-        self.0.is_resting.set(false);
     }
 
     /// Notes that a piece of a request's content came, so the peer has the time `content` anew.
@@ -126,16 +111,6 @@ impl SharedStage {
     /// Whether nothing is under way: the last response was sent, and nothing of the next request has come.
     pub fn is_idle(&self) -> bool {
         self.0.stage.get() == Stage::Idle && !self.0.is_sending.get()
-    }
-
-    /// Whether nothing is under way but a request's head, of which nothing more has come for a moment, and nothing was sent since.
-    pub fn is_resting(&self) -> bool {
-        self.0.is_resting.get()
-    }
-
-    // Sets whether the peer has been silent for a moment while a head is awaited.
-    fn set_resting(&self, is_resting: bool) {
-        self.0.is_resting.set(is_resting);
     }
 
     /// Whether a read has failed because the peer was silent for too long.
@@ -222,8 +197,7 @@ impl<R: Clock + Drop> Patience<R> {
 /// current stage, unless a write is waiting too, and a write has the limit `taking`. The time of `head` starts with the first
 /// octet of a head, that of `content` with the last piece of the content that the service noted, and each other time with the last
 /// octet received or sent. So octets without end that are no content are an end of the connection as well: a read gives up its turn
-/// after some of them, and the time is looked at then. The end of a tunnel has none of these limits. While a head is awaited, its
-/// stage rests once the peer was silent for a moment: whoever reads the socket may then give up what it holds for the connection.
+/// after some of them, and the time is looked at then. The end of a tunnel has none of these limits.
 #[derive(Drop)]
 pub struct Patient<R> {
     socket: Paced,
@@ -231,8 +205,6 @@ pub struct Patient<R> {
     stage: SharedStage,
     coming: Patience<R>,
     going: Patience<R>,
-    // What was read before and is read again first. It is never empty.
-    early: Option<BytesMut>,
 }
 
 impl<R: Clock + Copy> Patient<R> {
@@ -250,7 +222,6 @@ impl<R: Clock + Copy> Patient<R> {
             stage,
             coming: Patience::new(rt, timers.clone()?),
             going: Patience::new(rt, timers.clone()?),
-            early: None,
         })
     }
 }
@@ -278,93 +249,16 @@ impl<R: Clock + Drop> Patient<R> {
         if self.going.is_waiting() {
             return false;
         }
-        match self.stage.get() {
-            Stage::Idle => self.has_rested(IDLE_MILLIS, self.limits.idle, cx),
-            Stage::Head => self.has_rested(HEAD_MILLIS, self.limits.head, cx),
-            Stage::Content => self.coming.is_over(self.limits.content, cx),
+        let limit = match self.stage.get() {
+            Stage::Idle => self.limits.idle,
+            Stage::Head => self.limits.head,
+            Stage::Content => self.limits.content,
             Stage::Asked | Stage::Tunnel => {
                 self.coming.begin_anew();
-                false
-            }
-        }
-    }
-
-    // Whether the peer has been silent for as long as `limit` while a head is awaited. After so many milliseconds of it the connection
-    // rests.
-    fn has_rested(&mut self, millis: u64, limit: Duration, cx: &mut Context<'_>) -> bool
-        ensures socket { self.new.socket ≡ self.old.socket }
-        ensures kept { Keeps cx.old cx.new }
-    {
-        let moment = Duration::from_millis(millis);
-        if !self.stage.is_resting() {
-            if !self.coming.is_over(limit.min(moment), cx) {
                 return false;
             }
-            self.stage.set_resting(true);
-            self.coming.begin_anew();
-        }
-        self.coming.is_over(limit.saturating_sub(moment), cx)
-    }
-
-    /// Has these octets, which were read before, read again first. All that was put back before has to have been read again.
-    pub fn put_back(&mut self, octets: BytesMut)
-        ensures { self.new.socket ≡ self.old.socket }
-    {
-        self.early = if octets.is_empty() {
-            None
-        } else {
-            Some(octets)
         };
-    }
-
-    // Reads what was put back. `None` if there is nothing of it.
-    fn read_early(&mut self, buf: &mut [u8]) -> Option<usize>
-        ensures bound { IfSome result (λ count. count ≤ length buf.new) }
-        ensures socket { self.new.socket ≡ self.old.socket }
-    {
-        let mut early = self.early.take()?;
-        let count = early.len().min(buf.len());
-        buf[..count].copy_from_slice(&early.as_slice()[..count]);
-        early.advance(count);
-        self.put_back(early);
-        Some(count)
-    }
-
-    // Has these octets read again, behind what was put back. Errors: out of memory, and they are lost.
-    fn add_early(&mut self, alloc: Global, octets: &[u8]) -> Result<(), AllocError>
-        ensures { self.new.socket ≡ self.old.socket }
-    {
-        let mut early = match self.early.take() {
-            Some(early) => early,
-            None => BytesMut::new(alloc),
-        };
-        early.extend_from_slice(octets)?;
-        self.put_back(early);
-        Ok(())
-    }
-
-    /// Waits for the next octets of the peer, which are then put back behind those that were, or until a read would find the end or
-    /// fail. Errors: out of memory; then octets are lost.
-    #[inline(never)]
-    pub fn poll_more(&mut self, alloc: Global, cx: &mut Context<'_>) -> Poll<Result<(), AllocError>>
-        ensures registered { OnPending result (Covers cx.new (λ _. ⊥)) }
-        ensures kept { Keeps cx.old cx.new }
-    {
-        let mut octets = [0; FIRST_OCTETS];
-        match AsyncRead::poll_read(&mut self.socket, cx, &mut octets) {
-            Poll::Ready(Ok(count)) if 0 < count => {
-                self.note_read();
-                let count = count.min(octets.len());
-                Poll::Ready(self.add_early(alloc, &octets[..count]))
-            }
-            Poll::Ready(_) => Poll::Ready(Ok(())),
-            Poll::Pending => {
-                if self.has_kept_silent(cx) {
-                    return Poll::Ready(Ok(()));
-                }
-                Poll::Pending
-            }
-        }
+        self.coming.is_over(limit, cx)
     }
 
     // Whether the peer has not read for longer than it may.
@@ -391,9 +285,6 @@ impl<R: Clock + Drop> AsyncRead for Patient<R> {
     ghost reads_in_order = { λ _ _ _ _ _ _ _. tt };
 
     fn poll_read(&mut self, cx: &mut Context<'_>, buf: &mut [u8]) -> Poll<io::Result<usize>> {
-        if let Some(count) = self.read_early(buf) {
-            return Poll::Ready(Ok(count));
-        }
         match AsyncRead::poll_read(&mut self.socket, cx, buf) {
             Poll::Ready(got) => {
                 if matches!(got, Ok(count) if 0 < count) {
@@ -422,7 +313,6 @@ impl<R: Clock + Drop> AsyncWrite for Patient<R> {
     ghost writes_in_order = { λ _ _ _ _ _ _ _. tt };
 
     fn poll_write(&mut self, cx: &mut Context<'_>, buf: &[u8]) -> Poll<io::Result<usize>> {
-        self.stage.set_resting(false);
         match AsyncWrite::poll_write(&mut self.socket, cx, buf) {
             Poll::Ready(put) => {
                 self.stage.set_sending(false);

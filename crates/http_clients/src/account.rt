@@ -1,14 +1,12 @@
 //! What becomes of the requests of a connection, as the server tells it.
-ghost use Rattle.std.specs.Prelude.{◌≡◌, IfSome, None, box_value};
+ghost use Rattle.std.specs.Prelude.{◌≡◌, IfSome, None};
 ghost use Rattle.futures.specs.Poll.{OnPending};
 ghost use Rattle.futures.specs.Task.{Covers, Keeps};
 
-use crate::door::Door;
 use crate::requests::Answers;
-use crate::rest::{Connect, Resting, alone};
 use crate::texts::{SILENT, UNSERVED, reason, text_with, tunnel_reason};
-use crate::tunnel::{Copying, Dialer, Opened, Opening, Wanted};
-use client_streams::{Patient, SharedStage, Stage};
+use crate::tunnel::{Copying, Dialer, HandOver, Opened, Opening, Wanted};
+use client_streams::{SharedStage, Stage};
 use futures::channel::oneshot;
 use futures::task::{Context, Poll};
 use futures::{Future, ready};
@@ -238,14 +236,6 @@ impl SharedFacts {
         }
     }
 
-    // Whether the connection waits for a head, and the client has been silent for a moment.
-    fn is_resting(&self) -> bool {
-        match self.0.try_borrow_mut() {
-            Ok(facts) => facts.stage.is_resting(),
-            Err(_) => false,
-        }
-    }
-
     // Notes that the connection is the end of a tunnel from now on.
     fn begin_tunnel(&self) {
         if let Ok(facts) = self.0.try_borrow_mut() {
@@ -405,19 +395,16 @@ pub(crate) struct Watching<H> {
 }
 
 /// The connection of a client, and after it the tunnel that it has opened. Its end is told where it comes before the head of a request
-/// is complete. While the client is silent between two requests, or in a head, the connection is taken apart, and little of it is held.
-pub(crate) struct Watched<B: Connect<R, H>, R: Drop, H: Answers> {
-    builder: Rc<B>,
-    // None while the connection rests, and once there is a tunnel.
-    inner: Option<Box<B::Connection>>,
-    // What is kept of it while it rests.
-    resting: Option<Box<Resting<R, H>>>,
+/// is complete.
+pub(crate) struct Watched<C: HandOver, R: Drop, H: Answers> {
+    // None once there is a tunnel.
+    inner: Option<C>,
     watching: Watching<H>,
     dialer: Dialer<R>,
     // The way to the server of a tunnel, and what receives whether it has been found.
     opening: Option<Box<Opening<R, H>>>,
     done: Option<oneshot::Sender<Result<(), u16>>>,
-    copying: Option<Box<Copying<Patient<R>, R, H>>>,
+    copying: Option<Box<Copying<C::Socket, R, H>>>,
     // How the connection ended, once it has.
     end: End,
 }
@@ -433,35 +420,26 @@ pub(crate) enum End {
     Refused(u16),
 }
 
-impl<B, R, H> Watched<B, R, H>
+impl<C, R, H> Watched<C, R, H>
 where
-    B: Connect<R, H>,
+    C: Future<Output = hyper::Result<()>> + HandOver,
     R: Net + Clock + Copy,
     H: Answers,
 {
-    /// The connection over this socket, which has not ended, and has no tunnel. Returns `None` if out of memory.
-    pub(crate) fn new(
-        builder: Rc<B>,
-        socket: Patient<R>,
-        door: Door<H>,
-        watching: Watching<H>,
-        dialer: Dialer<R>,
-    ) -> Option<Watched<B, R, H>>
-        ensures { IfSome result (λ w. IfSome w.inner (λ c. B.Connection.can_poll (box_value c))) }
+    /// A connection that has not ended, and has no tunnel.
+    pub(crate) fn new(inner: C, watching: Watching<H>, dialer: Dialer<R>) -> Watched<C, R, H>
+        requires { C.can_poll inner }
+        ensures { IfSome result.inner C.can_poll }
     {
-        let inner = builder.connect(socket, door);
-        let inner = Box::new(watching.alloc, inner).ok()?;
-        Some(Watched {
-            builder,
+        Watched {
             inner: Some(inner),
-            resting: None,
             watching,
             dialer,
             opening: None,
             done: None,
             copying: None,
             end: End::Broken,
-        })
+        }
     }
 
     // Begins the way to a tunnel, if one is asked for.
@@ -532,7 +510,7 @@ where
             return;
         };
         let telling = Telling::resumed(&self.watching.answers, &self.watching.facts);
-        let (client, sent, _door) = self.builder.take_apart(Box::into_inner(inner));
+        let (client, sent) = inner.hand_over();
         self.watching.facts.begin_tunnel();
         self.copying = match Copying::new(&self.dialer, client, sent, opened, telling) {
             Ok(copying) => Box::new(self.watching.alloc, copying).ok(),
@@ -542,101 +520,38 @@ where
 
     // Serves the connection until it ends or is taken over by a tunnel.
     fn poll_inner(&mut self, cx: &mut Context<'_>) -> Poll<End>
-        requires { IfSome self.old.inner (λ c. B.Connection.can_poll (box_value c)) }
-        ensures again { OnPending result (IfSome self.new.inner (λ c. B.Connection.can_poll (box_value c))) }
+        requires { IfSome self.old.inner C.can_poll }
+        ensures again { OnPending result (IfSome self.new.inner C.can_poll) }
         ensures registered { OnPending result (Covers cx.new (λ _. ⊥)) }
         ensures kept { Keeps cx.old cx.new }
     {
-        let Some(mut inner) = self.inner.take() else {
+        let Some(inner) = &mut self.inner else {
             return Poll::Ready(End::Regular);
         };
-        let polled = inner.poll(cx);
-        self.inner = Some(inner);
-        match ready!(polled) {
+        match ready!(inner.poll(cx)) {
             Ok(()) => Poll::Ready(End::Regular),
             Err(error) => Poll::Ready(end_of(self.watching.alloc, &error)),
         }
     }
-
-    // Takes the connection apart if it rests.
-    fn rest_if_silent(&mut self)
-        requires { IfSome self.old.inner (λ c. B.Connection.can_poll (box_value c)) }
-        ensures { IfSome self.new.inner (λ c. B.Connection.can_poll (box_value c)) }
-    {
-        if self.watching.facts.is_resting() {
-            self.rest();
-        }
-    }
-
-    // Takes the connection apart. Without memory it is then closed. Kept out of what is called at each poll, which would pay for its locals.
-    #[inline(never)]
-    fn rest(&mut self)
-        requires { IfSome self.old.inner (λ c. B.Connection.can_poll (box_value c)) }
-        ensures { IfSome self.new.inner (λ c. B.Connection.can_poll (box_value c)) }
-    {
-        let Some(inner) = self.inner.take() else {
-            return;
-        };
-        let alloc = self.watching.alloc;
-        let (mut socket, unread, door) = self.builder.take_apart(Box::into_inner(inner));
-        socket.put_back(alone(alloc, unread));
-        self.resting = Box::new(alloc, Resting { socket, door }).ok();
-    }
-
-    // Waits while the connection rests. It goes on once the client has sent something, or has been silent for too long. Without memory it
-    // is closed.
-    fn poll_rest(&mut self, cx: &mut Context<'_>) -> Poll<()>
-        requires { IfSome self.old.inner (λ c. B.Connection.can_poll (box_value c)) }
-        ensures again { IfSome self.new.inner (λ c. B.Connection.can_poll (box_value c)) }
-        ensures registered { OnPending result (Covers cx.new (λ _. ⊥)) }
-        ensures kept { Keeps cx.old cx.new }
-    {
-        let alloc = self.watching.alloc;
-        let Some(resting) = &mut self.resting else {
-            return Poll::Ready(());
-        };
-        let more = ready!(resting.socket.poll_more(alloc, cx));
-        if let Some(resting) = self.resting.take()
-            && more.is_ok()
-        {
-            self.resume(resting);
-        }
-        Poll::Ready(())
-    }
-
-    // Puts the connection together again. Without memory there is none.
-    #[inline(never)]
-    fn resume(&mut self, resting: Box<Resting<R, H>>)
-        ensures { IfSome self.new.inner (λ c. B.Connection.can_poll (box_value c)) }
-    {
-        let Resting { socket, door } = Box::into_inner(resting);
-        let inner = self.builder.connect(socket, door);
-        self.inner = Box::new(self.watching.alloc, inner).ok();
-    }
 }
 
-impl<B, R, H> Future for Watched<B, R, H>
+impl<C, R, H> Future for Watched<C, R, H>
 where
-    B: Connect<R, H>,
+    C: Future<Output = hyper::Result<()>> + HandOver,
     R: Net + Clock + Copy,
     H: Answers,
 {
     type Output = ();
 
-    ghost can_poll = { λ w. IfSome w.inner (λ c. B.Connection.can_poll (box_value c)) };
+    ghost can_poll = { λ w. IfSome w.inner C.can_poll };
 
     fn poll(&mut self, cx: &mut Context<'_>) -> Poll<()> {
         if let Some(copying) = &mut self.copying {
             return copying.poll(cx);
         }
-        ready!(self.poll_rest(cx));
         let Poll::Ready(end) = self.poll_inner(cx) else {
             self.begin_opening();
             self.poll_opening(cx);
-            self.rest_if_silent();
-            if self.inner.is_none() && self.resting.is_none() {
-                return Poll::Ready(());
-            }
             return Poll::Pending;
         };
         self.end = end;
@@ -651,12 +566,10 @@ where
     }
 }
 
-impl<B: Connect<R, H>, R: Drop, H: Answers> Drop for Watched<B, R, H> {
+impl<C: HandOver, R: Drop, H: Answers> Drop for Watched<C, R, H> {
     fn drop(self) {
         let Watched {
-            builder: _builder,
             inner,
-            resting,
             watching,
             dialer: _dialer,
             opening: _opening,
@@ -666,7 +579,6 @@ impl<B: Connect<R, H>, R: Drop, H: Answers> Drop for Watched<B, R, H> {
         } = self;
         watching.facts.tell_end(&watching.answers, end);
         drop(inner);
-        drop(resting);
         if watching.facts.take_opened().is_some() {
             // The connection has failed before its socket was taken over: this tells what became of the request.
             drop(Telling::resumed(&watching.answers, &watching.facts));

@@ -11,7 +11,6 @@ mod administration;
 mod door;
 mod reply;
 mod requests;
-mod rest;
 mod server;
 mod serving;
 mod texts;

@@ -3,6 +3,7 @@ ghost use Rattle.std.specs.Prelude.{IfSome};
 
 use crate::account::{Counted, SharedFacts, Watched, Watching, tell_refused};
 use crate::door::Door;
+use crate::reply::Reply;
 use crate::requests::Answers;
 use crate::texts::{FORBIDDEN, forbidden};
 use crate::tunnel::Dialer;
@@ -16,11 +17,11 @@ use futures::future::Either;
 use futures::task::{Context, Poll};
 use hyper::rt::TokioTimer;
 use hyper::server::conn::http1;
+use hyper::server::conn::http1::Connection;
 use std::alloc::{AllocGlobal, Global};
 use std::hash::RandomState;
 use std::net::{IpAddr, Ipv6Addr, Net, SocketAddr, SocketAddrV6};
 use std::random::RandomSource;
-use std::rc::Rc;
 use std::sync::atomic::AtomicUsize;
 use std::sync::{Arc, Wait};
 use std::time::{Clock, Duration};
@@ -119,7 +120,7 @@ struct Http<R, H> {
     alloc: Global,
     handle: Handle,
     limits: ServeLimits,
-    builder: Rc<http1::Builder<TokioTimer<R>>>,
+    builder: http1::Builder<TokioTimer<R>>,
     answers: H,
     // How many connections are open, where that is counted.
     open: Option<Arc<AtomicUsize>>,
@@ -135,7 +136,11 @@ struct Bound {
 }
 
 // The HTTP connection of a client that is served.
-type Kept<R, H> = Watched<http1::Builder<TokioTimer<R>>, R, H>;
+type Kept<R, H> = Watched<
+    Connection<Patient<R>, Door<H>, Reply<H, Patient<R>>, TokioTimer<R>>,
+    R,
+    H,
+>;
 
 // A client that is served or refused. A type of its own, since its parts have large ones that are elaborated anew wherever they are
 // named.
@@ -192,10 +197,9 @@ impl<R: Net + Clock + Copy, H: Answers> Http<R, H> {
         let watching = self.watching(&door)?;
         let dialer = Dialer::new(self.rt, self.alloc, &self.handle).ok()?;
         let patient = self.patient(socket, shared)?;
-        let builder = self.builder.clone().ok()?;
-        let watched = Watched::new(builder, patient, door, watching, dialer)?;
+        let inner = self.builder.serve_connection(patient, door);
         Some(Client {
-            serving: Either::Left(watched),
+            serving: Either::Left(Watched::new(inner, watching, dialer)),
         })
     }
 
@@ -281,7 +285,7 @@ where
         alloc,
         handle: runtime.handle().clone()?,
         limits,
-        builder: Rc::new(alloc, builder)?,
+        builder,
         answers,
         open,
         bound: Some(bound),
