@@ -21,10 +21,17 @@ pub fn check_configuration(rt: &HostRuntime, file: &str) -> ExitCode {
     let Some(settings) = settings_in(rt, text.as_slice()) else {
         return ExitCode::FAILURE;
     };
+    let status = check_settings(rt, &settings);
+    drop(settings);
+    status
+}
+
+/// Does so for settings that could be read.
+fn check_settings(rt: &HostRuntime, settings: &Settings) -> ExitCode {
     warn_of(rt, "allowed", settings.node.allowed.as_slice());
-    warn_of_six_clients(rt, &settings);
-    warn_of_denied(rt, &settings);
-    if filters_of(rt, &settings).is_none() {
+    warn_of_six_clients(rt, settings);
+    warn_of_denied(rt, settings);
+    if filters_of(rt, settings).is_none() {
         return ExitCode::FAILURE;
     }
     if println!(rt; "ok").is_err() {

@@ -44,6 +44,7 @@ pub fn settings_in<R: AllocGlobal + Eprint>(rt: &R, text: &[u8]) -> Option<Setti
     };
     if let Some(fault) = methods_fault(&settings) {
         let _ = eprintln!(rt; "config fault 3\nmethods: {}", lack_of(fault));
+        drop(settings);
         return None;
     }
     Some(settings)
@@ -87,6 +88,7 @@ where
     requires seats { blank.parts ≡ SEATS }
 {
     let Some(equipment) = equipment_of(&rt, &settings) else {
+        drop(settings);
         return false;
     };
     let asked = AskedPorts::of(&settings);
@@ -97,6 +99,7 @@ where
             match site.finish(rt) {
                 Ok(finish) => {
                     tell_finish(rt, &finish);
+                    drop(finish);
                     true
                 }
                 Err(fault) => tell_end(&rt, fault),

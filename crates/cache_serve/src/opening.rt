@@ -32,9 +32,9 @@ use std::random::RandomSource;
 use std::sync::atomic::Ordering;
 use std::sync::ledger::{Blank, Ledger};
 use std::sync::{Arc, Wait};
-use std::thread;
 use std::thread::{JoinHandle, Threads};
 use std::time::Clock;
+use std::{mem, thread};
 
 /// A proxy whose threads are being started.
 #[derive(Drop)]
@@ -101,18 +101,18 @@ where
     {
         let alloc = rt.alloc();
         let config = thread_config(&rt, &settings, limits);
-        let (servers, hurries) = server_orders(alloc, &mut settings, config.client_threads).map_err(
-            no_memory,
-        )?;
-        let (given, inner) = equipped(equipment, config.limits, hurries);
-        let site = Site::new(&rt, alloc, blank, settings, given)?;
-        let opening = Opening {
-            rt,
-            alloc,
-            config,
-            site,
-        };
-        Ok((opening, Orders { inner, servers }))
+        match server_orders(alloc, &mut settings, config.client_threads) {
+            Ok((servers, hurries)) => {
+                let (given, inner) = equipped(equipment, config.limits, hurries);
+                let site = Site::new(&rt, alloc, blank, settings, given);
+                opening_of(rt, config, site, Orders { inner, servers })
+            }
+            Err(_) => {
+                drop(settings);
+                drop(equipment);
+                Err(ServeFault::NoMemory)
+            }
+        }
     }
 
     /// The proxy, if its threads were started. Else they are ended.
@@ -194,8 +194,13 @@ where
     /// Starts the threads, the query sockets' before the clients', since these send queries.
     pub(crate) fn open(&mut self, orders: Orders<R::File>) -> Result<(), ServeFault> {
         let Orders { inner, servers } = orders;
-        let opened = self.open_inner(inner);
-        self.open_servers(opened, servers)
+        match self.open_inner(inner) {
+            Ok(()) => self.open_servers(servers),
+            Err(fault) => {
+                drop(servers);
+                Err(fault)
+            }
+        }
     }
 
     /// Starts the threads that have no socket of this proxy, and installs the filters.
@@ -205,25 +210,52 @@ where
             log,
             notices,
         } = inner;
-        self.site.writings.log = self.open_log(log)?;
-        self.site.writings.notices = self.open_log(notices)?;
+        self.open_logs(log, notices)?;
         self.install(filters)?;
         self.open_fetchers()
     }
 
-    /// Starts the threads that have sockets of this proxy, once the others are started.
-    fn open_servers(
+    /// Starts the threads that write logs.
+    fn open_logs(
         &mut self,
-        opened: Result<(), ServeFault>,
-        servers: ServerOrders,
+        log: Option<LogTask<R::File>>,
+        notices: Option<LogTask<R::File>>,
     ) -> Result<(), ServeFault> {
-        opened?;
+        match self.open_log(log) {
+            Ok(writing) => drop(mem::replace(&mut self.site.writings.log, writing)),
+            Err(fault) => {
+                drop(notices);
+                return Err(fault);
+            }
+        }
+        let writing = self.open_log(notices)?;
+        drop(mem::replace(&mut self.site.writings.notices, writing));
+        Ok(())
+    }
+
+    /// Starts the threads that have sockets of this proxy, once the others are started.
+    fn open_servers(&mut self, servers: ServerOrders) -> Result<(), ServeFault> {
         let ServerOrders {
             rules,
             keeping,
             hurried,
         } = servers;
-        let (queries, clients) = self.open_front(rules, hurried)?;
+        match self.open_front(rules, hurried) {
+            Ok((queries, clients)) => self.open_last(queries, clients, keeping),
+            Err(fault) => {
+                drop(keeping);
+                Err(fault)
+            }
+        }
+    }
+
+    /// Starts the thread that serves administration, and notes where all sockets are bound.
+    fn open_last(
+        &mut self,
+        queries: QueryEnds,
+        clients: SocketAddr,
+        keeping: Keeping,
+    ) -> Result<(), ServeFault> {
         let administration = self.open_administration(keeping)?;
         self.add_own(administration)?;
         self.site.addresses = Some(Addresses {
@@ -241,9 +273,16 @@ where
         rules: FrontRules,
         hurried: Vec<oneshot::Receiver<()>>,
     ) -> Result<(QueryEnds, SocketAddr), ServeFault> {
-        let (outbox, queries) = self.open_outbox()?;
+        let (outbox, queries) = match self.open_outbox() {
+            Ok(opened) => opened,
+            Err(fault) => {
+                drop(rules);
+                return Err(fault);
+            }
+        };
         let kit = ClientKit::new(self.alloc, rules, outbox).map_err(no_memory)?;
         let clients = self.open_clients(&kit, hurried)?;
+        drop(kit);
         self.add_own(clients)?;
         self.note_own_six(clients);
         Ok((queries, clients))
@@ -334,23 +373,41 @@ where
         keeping: Keeping,
         there: ServerEnd,
     ) -> Result<AdministrationTask<L>, ServeFault> {
-        // Nothing ends the grace of administrators early: its sender is dropped here.
+        match self.seat_and_hurry() {
+            Ok((seat, hurried)) => Ok(AdministrationTask {
+                seat,
+                config: self.config,
+                token: keeping.token,
+                files: keeping.files,
+                purger: keeping.purger,
+                bound: there.bound,
+                stopped: there.stopped,
+                hurried,
+                end: there.end,
+            }),
+            Err(fault) => {
+                drop(keeping);
+                drop(there);
+                Err(fault)
+            }
+        }
+    }
+
+    /// The seat of the thread that serves administration, and what it would hear the end of its grace from: nothing ends the grace of
+    /// administrators early, so the sender is dropped here.
+    fn seat_and_hurry(&mut self) -> Result<(ThreadSeat<L>, oneshot::Receiver<()>), ServeFault> {
         let (_, hurried) = oneshot::channel(self.alloc).map_err(no_memory)?;
-        Ok(AdministrationTask {
-            seat: self.seat()?,
-            config: self.config,
-            token: keeping.token,
-            files: keeping.files,
-            purger: keeping.purger,
-            bound: there.bound,
-            stopped: there.stopped,
-            hurried,
-            end: there.end,
-        })
+        Ok((self.seat()?, hurried))
     }
 
     fn open_administration(&mut self, keeping: Keeping) -> Result<SocketAddr, ServeFault> {
-        let (there, here) = self.server_line()?;
+        let (there, here) = match self.server_line() {
+            Ok(line) => line,
+            Err(fault) => {
+                drop(keeping);
+                return Err(fault);
+            }
+        };
         let administration = self.administration_task(keeping, there)?;
         self.keep(Work::Administration(administration))?;
         let ServerLine { heard, stop } = here;
@@ -361,6 +418,31 @@ where
         let port = &self.site.proxy.admin_port;
         port.store(address.port(), Ordering::SeqCst);
         Ok(address)
+    }
+}
+
+/// A proxy around the site that was made, and what its threads are started with.
+fn opening_of<R: AllocGlobal + Drop, L: Ledger, F: Drop>(
+    rt: R,
+    config: ThreadConfig,
+    site: Result<Site<L>, ServeFault>,
+    orders: Orders<F>,
+) -> Result<(Opening<R, L>, Orders<F>), ServeFault> {
+    match site {
+        Ok(site) => {
+            let alloc = rt.alloc();
+            let opening = Opening {
+                rt,
+                alloc,
+                config,
+                site,
+            };
+            Ok((opening, orders))
+        }
+        Err(fault) => {
+            drop(orders);
+            Err(fault)
+        }
     }
 }
 

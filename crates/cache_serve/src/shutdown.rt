@@ -117,6 +117,7 @@ fn settled<L: Ledger>(
     };
     let (is_astray, desk) = desk_of_state(proxy);
     if is_astray {
+        drop(desk);
         return Err(ServeFault::Settle);
     }
     match desk.settle(seats) {

@@ -71,6 +71,15 @@ pub struct Equipment<F> {
     pub version: &'static str,
 }
 
+// What asks the proxy to end, and what hears of it.
+type Ends = (Sender<(), Global>, Receiver<(), Global>);
+
+// A sender for the shared state, and the two ends of its line.
+fn ends_of(alloc: Global) -> Result<(Sender<(), Global>, Ends), AllocError> {
+    let (end, ends) = bounded(alloc, ENDS)?;
+    Ok((end.clone()?, (end, ends)))
+}
+
 /// Starts a proxy. When this returns `Ok`, all sockets are bound; after an error all threads have ended. The ledger behind
 /// `blank` has one part per seat.
 pub fn start<L, R>(
@@ -120,17 +129,34 @@ impl<L: Ledger + Send + Sync + 'static> Site<L> {
         requires parts { blank.parts ≡ L.parts }
         requires seats { blank.parts ≡ SEATS }
     {
-        let (end, ends) = bounded(alloc, ENDS).map_err(no_memory)?;
-        let sender = end.clone().map_err(no_memory)?;
-        let (proxy, seats) = proxy_of(rt, alloc, blank, settings, given, sender)?;
-        Site::of(alloc, proxy, seats, (end, ends)).map_err(no_memory)
+        match ends_of(alloc) {
+            Ok((sender, ends)) => {
+                let made = proxy_of(rt, alloc, blank, settings, given, sender);
+                Site::around(alloc, made, ends)
+            }
+            Err(_) => {
+                drop(settings);
+                drop(given);
+                Err(ServeFault::NoMemory)
+            }
+        }
+    }
+
+    // A proxy around the shared state and the seats that were made.
+    fn around(
+        alloc: Global,
+        made: Result<(ProxyState<L>, Vec<Seat<L>>), ServeFault>,
+        ends: Ends,
+    ) -> Result<Site<L>, ServeFault> {
+        let (proxy, seats) = made?;
+        Site::of(alloc, proxy, seats, ends).map_err(no_memory)
     }
 
     fn of(
         alloc: Global,
         proxy: ProxyState<L>,
         seats: Vec<Seat<L>>,
-        (end, ends): (Sender<(), Global>, Receiver<(), Global>),
+        (end, ends): Ends,
     ) -> Result<Site<L>, AllocError> {
         Ok(Site {
             proxy: Arc::new(alloc, proxy)?,

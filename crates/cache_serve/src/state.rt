@@ -19,7 +19,8 @@ use node_core::{Config, Node};
 use object_shelf::Shelf;
 use object_store::{KeyHashes, MOST_KEY_OCTETS};
 use proxy_node::{
-    AccessLog, NeighbourEnds, Notices, PartKeys, Passes, ProxyState, UnaskedKeys, no_failures,
+    AccessLog, Attempt, NeighbourEnds, Notices, PartKeys, Passes, ProxyState, UnaskedKeys,
+    no_failures,
 };
 use serve_config::{Freshness, Settings, SharedField, UrlPart};
 use std::alloc::{AllocError, Global};
@@ -53,8 +54,11 @@ struct Run {
     hashes: KeyHashes,
     started: Option<Instant>,
     timeline: Timeline,
-    figures: Figures,
     connections: Arc<AtomicUsize>,
+    failed: Mutex<Vec<Attempt>>,
+    changes: Arc<RwLock<()>>,
+    unasked: UnaskedKeys,
+    figures: Figures,
 }
 
 /// What the shared state of a proxy keeps of its settings.
@@ -70,14 +74,26 @@ struct Kept {
 /// What may be fetched, stored and passed on.
 #[derive(Drop)]
 struct Rules {
+    ways: Ways,
+    storing: Storing,
+}
+
+/// What may be fetched and passed on.
+#[derive(Drop)]
+struct Ways {
     origins: OriginRules,
+    passes: Passes,
+    shared_fields: Vec<Field>,
+}
+
+/// What may be stored.
+#[derive(Drop)]
+struct Storing {
     profile: Profile,
     shelf: Option<Mutex<Shelf>>,
     serve_stale: u32,
     tells_stored: Option<u32>,
     parts: Option<Mutex<PartKeys>>,
-    passes: Passes,
-    shared_fields: Vec<Field>,
 }
 
 /// How large the event log and the receipts are.
@@ -105,12 +121,60 @@ pub(crate) fn proxy_of<R: RandomSource + Clock, L: Ledger>(
     requires seats { blank.parts ≡ SEATS }
 {
     let sizes = sizes_of(&settings);
-    let run = run_of(rt, alloc, &settings)?;
-    let kept = kept_in(alloc, &mut settings, run.hashes, given.connecting).map_err(no_memory)?;
-    let Settings { node: config, .. } = settings;
-    let (desk, seats) = open_desk(alloc, blank, config, run.hashes, sizes)?;
-    let proxy = state_of(alloc, desk, kept, run, given, end).map_err(no_memory)?;
-    Ok((proxy, seats))
+    match parts_in(rt, alloc, &mut settings, given.connecting) {
+        Ok((run, kept)) => {
+            let opened = open_desk(alloc, blank, config_in(settings), run.hashes, sizes);
+            state_around(alloc, opened, kept, run, given, end)
+        }
+        Err(fault) => {
+            drop(settings);
+            drop(given);
+            Err(fault)
+        }
+    }
+}
+
+/// The parts of the shared state around its desk, of which one is taken out of the settings.
+fn parts_in<R: RandomSource + Clock>(
+    rt: &R,
+    alloc: Global,
+    settings: &mut Settings,
+    connecting: Duration,
+) -> Result<(Run, Kept), ServeFault> {
+    let run = run_of(rt, alloc, settings)?;
+    match kept_in(alloc, settings, run.hashes, connecting) {
+        Ok(kept) => Ok((run, kept)),
+        Err(_) => {
+            drop(run);
+            Err(ServeFault::NoMemory)
+        }
+    }
+}
+
+/// The configuration of the node.
+fn config_in(settings: Settings) -> Config {
+    let Settings { node, .. } = settings;
+    node
+}
+
+/// The shared state around the desk that was opened, and the seats that were opened with it.
+fn state_around<L: Ledger>(
+    alloc: Global,
+    opened: Result<(Desk<L>, Vec<Seat<L>>), ServeFault>,
+    kept: Kept,
+    run: Run,
+    given: Given,
+    end: Sender<(), Global>,
+) -> Result<(ProxyState<L>, Vec<Seat<L>>), ServeFault> {
+    match opened {
+        Ok((desk, seats)) => Ok((state_of(alloc, desk, kept, run, given, end), seats)),
+        Err(fault) => {
+            drop(kept);
+            drop(run);
+            drop(given);
+            Err(fault)
+        }
+    }
 }
 
 /// What the shared state has of this run alone. Errors: the system has no random numbers, or out of memory.
@@ -139,8 +203,11 @@ fn begun(
         hashes,
         started,
         timeline: Timeline::new(alloc)?,
-        figures: Figures::new(alloc, neighbours)?,
         connections: Arc::new(alloc, AtomicUsize::new(0))?,
+        failed: no_failures(alloc)?,
+        changes: Arc::new(alloc, RwLock::new(()))?,
+        unasked: UnaskedKeys::new(alloc, hashes)?,
+        figures: Figures::new(alloc, neighbours)?,
     })
 }
 
@@ -152,9 +219,9 @@ fn kept_in(
     connecting: Duration,
 ) -> Result<Kept, AllocError> {
     Ok(Kept {
-        rules: rules_in(alloc, settings, hashes, connecting)?,
         peers: peers_of(alloc, &settings.node)?,
         ends: NeighbourEnds::new(alloc, settings.node.neighbours.as_slice())?,
+        rules: rules_in(alloc, settings, hashes, connecting)?,
         admin_port: settings.admin_port,
         name: mem::replace(&mut settings.name, String::new(alloc)),
     })
@@ -167,18 +234,51 @@ fn rules_in(
     hashes: KeyHashes,
     connecting: Duration,
 ) -> Result<Rules, AllocError> {
-    let origins = origins_of(alloc, settings)?;
-    let passes = passes_of(alloc, settings, hashes, &origins, connecting)?;
-    Ok(Rules {
-        origins,
+    let storing = storing_in(alloc, settings, hashes)?;
+    match ways_in(alloc, settings, hashes, connecting) {
+        Ok(ways) => Ok(Rules { ways, storing }),
+        Err(fault) => {
+            drop(storing);
+            Err(fault)
+        }
+    }
+}
+
+/// What may be stored, which is taken out of the settings.
+fn storing_in(
+    alloc: Global,
+    settings: &mut Settings,
+    hashes: KeyHashes,
+) -> Result<Storing, AllocError> {
+    Ok(Storing {
         profile: profile_of(alloc, settings)?,
+        parts: parts_of(alloc, settings, hashes)?,
         shelf: shelf_of(alloc, settings, hashes)?,
         serve_stale: settings.serve_stale,
         tells_stored: tells_stored(settings),
-        parts: parts_of(alloc, settings, hashes)?,
-        passes,
-        shared_fields: shared_fields_of(alloc, settings)?,
     })
+}
+
+/// What may be fetched and passed on, which is taken out of the settings.
+fn ways_in(
+    alloc: Global,
+    settings: &mut Settings,
+    hashes: KeyHashes,
+    connecting: Duration,
+) -> Result<Ways, AllocError> {
+    let shared_fields = shared_fields_of(alloc, settings)?;
+    let origins = origins_of(alloc, settings)?;
+    match passes_of(alloc, settings, hashes, &origins, connecting) {
+        Ok(passes) => Ok(Ways {
+            origins,
+            passes,
+            shared_fields,
+        }),
+        Err(fault) => {
+            drop(origins);
+            Err(fault)
+        }
+    }
 }
 
 /// The fields of each shared fetch, which are taken out of the settings.
@@ -275,41 +375,31 @@ fn state_of<L: Ledger>(
     run: Run,
     given: Given,
     end: Sender<(), Global>,
-) -> Result<ProxyState<L>, AllocError> {
-    let failed = no_failures(alloc)?;
-    let Rules {
-        origins,
-        profile,
-        shelf,
-        serve_stale,
-        tells_stored,
-        parts,
-        passes,
-        shared_fields,
-    } = kept.rules;
-    Ok(ProxyState {
+) -> ProxyState<L> {
+    let Rules { ways, storing } = kept.rules;
+    ProxyState {
         desk,
         mailbox: Mutex::new(Mailbox::new(alloc)),
         lanes: Mutex::new(None),
-        failed,
-        changes: Arc::new(alloc, RwLock::new(()))?,
+        failed: run.failed,
+        changes: run.changes,
         has_changed: AtomicBool::new(false),
         has_outdated: AtomicBool::new(false),
         timeline: run.timeline,
         name: kept.name,
         loop_mark: run.loop_mark,
-        origins: Mutex::new(origins),
+        origins: Mutex::new(ways.origins),
         peers: kept.peers,
         fetching: given.fetching,
-        profile,
-        shelf,
-        unasked: Mutex::new(UnaskedKeys::new(alloc, run.hashes)?),
-        serve_stale,
-        tells_stored,
+        profile: storing.profile,
+        shelf: storing.shelf,
+        unasked: Mutex::new(run.unasked),
+        serve_stale: storing.serve_stale,
+        tells_stored: storing.tells_stored,
         changed: Mutex::new(Vec::new(alloc)),
-        parts,
-        passes,
-        shared_fields,
+        parts: storing.parts,
+        passes: ways.passes,
+        shared_fields: ways.shared_fields,
         admin_port: AtomicU16::new(kept.admin_port),
         tap: Tap::new(),
         figures: run.figures,
@@ -324,7 +414,7 @@ fn state_of<L: Ledger>(
         hurries: Mutex::new(Some(given.hurries)),
         is_astray: AtomicBool::new(false),
         end,
-    })
+    }
 }
 
 /// The sizes that the settings say, or the usual ones.
@@ -349,7 +439,10 @@ fn open_desk<L: Ledger>(
     requires seats { blank.parts ≡ SEATS }
 {
     let mut node = Node::new(alloc, config).map_err(ServeFault::Node)?;
-    node.hash_by(alloc, hashes).map_err(no_memory)?;
+    if node.hash_by(alloc, hashes).is_err() {
+        drop(node);
+        return Err(ServeFault::NoMemory);
+    }
     let booked = book_of(alloc, node, sizes.volume, sizes.octets)?;
     desk_of(alloc, blank, booked, sizes.room)
 }

@@ -258,7 +258,9 @@ where
     let fault = match bound_queries {
         Ok((mut wire, ready)) => {
             let _ = bound.send(&rt, Ok(ready));
-            carry(&rt, alloc, &mut wire, &mut node, &outgoing, &is_ended).err()
+            let carried = carry(&rt, alloc, &mut wire, &mut node, &outgoing, &is_ended);
+            drop(wire);
+            carried.err()
         }
         Err(fault) => {
             let _ = bound.send(&rt, Err(fault));
@@ -289,12 +291,16 @@ where
         Err(BindFault::Io) => return Err(ServeFault::QuerySocket),
         Err(BindFault::NoMemory) => return Err(ServeFault::NoMemory),
     };
-    let ready = BoundQueries {
-        bell: wire.bell().map_err(no_memory)?,
-        icp: wire.end(Socket::Icp),
-        htcp: wire.end(Socket::Htcp),
-    };
-    Ok((wire, ready))
+    match wire.bell() {
+        Ok(bell) => {
+            let (icp, htcp) = (wire.end(Socket::Icp), wire.end(Socket::Htcp));
+            Ok((wire, BoundQueries { bell, icp, htcp }))
+        }
+        Err(_) => {
+            drop(wire);
+            Err(ServeFault::NoMemory)
+        }
+    }
 }
 
 /// Runs a thread that serves clients.
@@ -313,8 +319,13 @@ where
     } = clients;
     let alloc = rt.alloc();
     let node = NodeHandle::new(rt, alloc, seat, Some(outbox));
-    let Ok(shares) = client_shares(alloc, node, &front.proxy, &end) else {
-        return lost(&rt, &end);
+    let shares = match client_shares(alloc, node, &front.proxy, &end) {
+        Ok(shares) => shares,
+        Err(_) => {
+            drop(front);
+            drop(serving);
+            return lost(&rt, &end);
+        }
     };
     let ClientShares {
         node,
@@ -382,14 +393,12 @@ fn client_shares<R, L: Ledger>(
 where
     R: Wait + Clock + Drop,
 {
-    let stop = end.clone()?;
-    let connections = Arc::try_clone(&proxy.connections)?;
     let (node, kept) = shared_of(alloc, node)?;
     Ok(ClientShares {
         node,
         kept,
-        stop,
-        connections,
+        stop: end.clone()?,
+        connections: Arc::try_clone(&proxy.connections)?,
     })
 }
 
@@ -443,8 +452,12 @@ where
     } = administration;
     let alloc = rt.alloc();
     let node = NodeHandle::new(rt, alloc, seat, None);
-    let Ok((shared, kept)) = shared_of(alloc, node) else {
-        return lost(&rt, &end);
+    let (shared, kept) = match shared_of(alloc, node) {
+        Ok(shares) => shares,
+        Err(_) => {
+            drop(purger);
+            return lost(&rt, &end);
+        }
     };
     let panel = NodePanel {
         rt,

@@ -34,7 +34,7 @@ pub use notices::{MalformedWatch, Notices};
 pub use panel::{NodePanel, ServePanel};
 pub use parts::PartKeys;
 pub use passes::{LargeKeys, Passes, Places};
-pub use proxy_state::{Lanes, Origins, ProxyState, no_failures};
+pub use proxy_state::{Attempt, Lanes, Origins, ProxyState, no_failures};
 pub use results::Results;
 pub use storage::Purger;
 pub use unasked::UnaskedKeys;

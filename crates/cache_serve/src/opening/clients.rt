@@ -157,15 +157,35 @@ where
         kit: &ClientKit,
         place: ClientPlace,
     ) -> Result<Receiver<SocketAddr, Global>, ServeFault> {
-        let (there, here) = self.server_line()?;
-        let share = self.client_share(kit)?;
-        let clients = client_task(self.config, share, place, there);
+        let (clients, here) = match self.client_parts(kit) {
+            Ok((share, there, here)) => (client_task(self.config, share, place, there), here),
+            Err(fault) => {
+                drop(place);
+                return Err(fault);
+            }
+        };
         let thread = self.begin(Work::Clients(clients))?;
         let ServerLine { heard, stop } = here;
         // Both have the capacity for all of these threads.
         let _ = self.site.clients.push(thread);
         let _ = self.site.stop_clients.push(stop);
         Ok(heard)
+    }
+
+    /// What one of the threads that serve clients has of the shared state, and how it and this one hear of each other.
+    fn client_parts(
+        &mut self,
+        kit: &ClientKit,
+    ) -> Result<(ClientShare<L>, ServerEnd, ServerLine), ServeFault> {
+        let (there, here) = self.server_line()?;
+        match self.client_share(kit) {
+            Ok(share) => Ok((share, there, here)),
+            Err(fault) => {
+                drop(there);
+                drop(here);
+                Err(fault)
+            }
+        }
     }
 
     /// Waits until all threads that serve clients do. Returns where.
