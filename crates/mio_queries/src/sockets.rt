@@ -54,6 +54,14 @@ struct Held {
     count: usize,
 }
 
+// What waits for datagrams, and the bell that wakes it.
+#[derive(Drop)]
+struct Polling {
+    poll: Poll,
+    events: Events,
+    bell: Bell,
+}
+
 // Both sockets, bound and non-blocking, with one receive buffer.
 #[derive(Drop)]
 pub struct Sockets<R> {
@@ -79,29 +87,35 @@ pub struct Sockets<R> {
 impl<R: Net + Clock + AllocGlobal + Drop> Sockets<R> {
     /// Binds both sockets and registers them and a bell for polling.
     pub fn bind(rt: R, timeline: Timeline, icp: End, htcp: End) -> Result<Sockets<R>, BindFault> {
-        let poll = Poll::new(&rt).map_err(|_| BindFault::Io)?;
-        let events = Events::with_capacity(rt.alloc(), 4)?;
-        let bell = Bell::new(rt.alloc(), poll.registry(), WAKES)?;
-        let icp_socket = bound(&rt, &poll, Socket::Icp, icp)?;
-        let htcp_socket = bound(&rt, &poll, Socket::Htcp, htcp)?;
+        let Ok(ticked) = timeline.now(&rt) else {
+            return Err(BindFault::Io);
+        };
         let buffer = vec![in rt.alloc(); 0; ROOM]?;
-        let ticked = timeline.now(&rt).map_err(|_| BindFault::Io)?;
-        Ok(Sockets {
-            poll,
-            events,
-            bell,
-            icp_end: own_end(&icp_socket, icp),
-            htcp_end: own_end(&htcp_socket, htcp),
-            icp: icp_socket,
-            htcp: htcp_socket,
-            next: Socket::Icp,
-            empty_at: None,
-            ticked,
-            buffer,
-            held: None,
-            timeline,
-            rt,
-        })
+        let Polling { poll, events, bell } = open_polling(&rt)?;
+        match both_bound(&rt, &poll, icp, htcp) {
+            Ok((icp_socket, htcp_socket)) => Ok(Sockets {
+                poll,
+                events,
+                bell,
+                icp_end: own_end(&icp_socket, icp),
+                htcp_end: own_end(&htcp_socket, htcp),
+                icp: icp_socket,
+                htcp: htcp_socket,
+                next: Socket::Icp,
+                empty_at: None,
+                ticked,
+                buffer,
+                held: None,
+                timeline,
+                rt,
+            }),
+            Err(fault) => {
+                drop(poll);
+                drop(events);
+                drop(bell);
+                Err(fault)
+            }
+        }
     }
 
     /// The local address of a socket, with the port that it actually has.
@@ -246,6 +260,49 @@ impl<R: Net + Clock + AllocGlobal + Drop> Sockets<R> {
 }
 
 // Binds a socket and registers it for polling.
+fn open_polling<R: Net + AllocGlobal>(rt: &R) -> Result<Polling, BindFault> {
+    let Ok(poll) = Poll::new(rt) else {
+        return Err(BindFault::Io);
+    };
+    match bell_of(rt.alloc(), &poll) {
+        Ok((events, bell)) => Ok(Polling { poll, events, bell }),
+        Err(fault) => {
+            drop(poll);
+            Err(fault)
+        }
+    }
+}
+
+// Room for events, and a bell that is registered for polling.
+fn bell_of(alloc: Global, poll: &Poll) -> Result<(Events, Bell), BindFault> {
+    let bell = Bell::new(alloc, poll.registry(), WAKES)?;
+    match Events::with_capacity(alloc, 4) {
+        Ok(events) => Ok((events, bell)),
+        Err(_) => {
+            drop(bell);
+            Err(BindFault::NoMemory)
+        }
+    }
+}
+
+// Both sockets, bound and registered for polling.
+fn both_bound(
+    rt: &impl Net,
+    poll: &Poll,
+    icp: End,
+    htcp: End,
+) -> Result<(UdpSocket, UdpSocket), BindFault> {
+    let icp_socket = bound(rt, poll, Socket::Icp, icp)?;
+    match bound(rt, poll, Socket::Htcp, htcp) {
+        Ok(htcp_socket) => Ok((icp_socket, htcp_socket)),
+        Err(fault) => {
+            drop(icp_socket);
+            Err(fault)
+        }
+    }
+}
+
+// A socket at this end, registered for polling.
 fn bound(rt: &impl Net, poll: &Poll, socket: Socket, end: End) -> Result<UdpSocket, BindFault> {
     let mut bound = match UdpSocket::bind(rt, address(end)) {
         Ok(bound) => bound,

@@ -132,9 +132,11 @@ impl Booked {
         ensures limits { IsErrOf result BookFault.Limits ↔ ((0 < volume) × (volume ≤ 1048576) × (0 < most_octets) → ⊥) }
     {
         if volume == 0 || volume > MOST_VOLUME || most_octets == 0 {
+            drop(node);
             return Err(BookFault::Limits);
         }
         let Ok(kept) = Vec::with_capacity(alloc, volume) else {
+            drop(node);
             return Err(BookFault::NoMemory);
         };
         Ok(Booked {

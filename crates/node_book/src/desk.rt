@@ -98,10 +98,12 @@ impl<L: Ledger> Desk<L> {
         ensures seats { IfOk result (λ r. r.1.items ≡ opened_with_room room seats) }
     {
         if seats == 0 || seats > 64 {
+            drop(booked);
             return Err(OpenFault::Seats);
         }
         let (total, mut spare) = blank.open::<L>();
         let Ok(all) = seats_of(alloc, &mut spare, seats, room) else {
+            drop(booked);
             return Err(OpenFault::NoMemory);
         };
         let desk = Desk {

@@ -219,10 +219,14 @@ impl<L: Ledger> Ledgered<L> {
             seats: opened,
         } = self;
         if !all_opened(opened, seats.as_slice()) {
+            drop(booked);
             return Err(SettleFault::Seats);
         }
         match least_misfit(&booked, seats.as_slice()) {
-            Some(number) => return Err(SettleFault::Misfit(number)),
+            Some(number) => {
+                drop(booked);
+                return Err(SettleFault::Misfit(number));
+            }
             None => {}
         }
         let base = booked.base();
@@ -230,8 +234,10 @@ impl<L: Ledger> Ledgered<L> {
         total.audit(&mut spare);
         gather(&mut spare, seats);
         total.audit(&mut spare);
+        let count = booked.count();
+        drop(booked);
         Ok(Report {
-            count: booked.count(),
+            count,
             base,
             matched,
         })
