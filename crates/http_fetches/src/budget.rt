@@ -3,9 +3,9 @@ ghost use Rattle.futures.specs.Poll.{OnPending};
 ghost use Rattle.futures.specs.Task.{Covers, Keeps};
 
 use crate::moves::Moves;
+use futures::Future;
 use futures::channel::oneshot;
 use futures::task::{Context, Poll};
-use futures::{Future, ready};
 use http_content::{Purse, ReadFault};
 use std::alloc::{AllocError, Global};
 use std::sync::{Arc, Mutex, Wait};
@@ -35,6 +35,51 @@ impl Budget {
                 waiting: Vec::new(alloc),
             }),
         }
+    }
+
+    // Gives so many octets back, and tells all that wait for some.
+    fn give_back<R: Wait>(&self, rt: &R, alloc: Global, octets: usize) {
+        let mut left = self.purse.lock(rt);
+        left.octets = left.octets.saturating_add(octets);
+        let waiting = std::mem::replace(&mut left.waiting, Vec::new(alloc));
+        drop(left);
+        wake(waiting);
+    }
+}
+
+// Tells these that some octets were given back.
+fn wake(waiting: Vec<oneshot::Sender<()>>) {
+    for bell in waiting {
+        let _ = bell.send(());
+    }
+}
+
+impl Left {
+    // Takes so many octets, or returns what is ready once some have been given back. Errors: out of memory.
+    fn take(
+        &mut self,
+        alloc: Global,
+        octets: usize,
+    ) -> Result<Option<oneshot::Receiver<()>>, AllocError> {
+        if octets <= self.octets {
+            self.octets -= octets;
+            return Ok(None);
+        }
+        let (bell, turn) = oneshot::channel(alloc)?;
+        match self.wait(bell) {
+            Ok(()) => Ok(Some(turn)),
+            Err(error) => {
+                drop(turn);
+                Err(error)
+            }
+        }
+    }
+
+    // Has this told once some octets have been given back, and forgets those that wait no more. Errors: out of memory.
+    fn wait(&mut self, bell: oneshot::Sender<()>) -> Result<(), AllocError> {
+        self.waiting.retain(|other| !other.is_canceled());
+        self.waiting.push(bell)?;
+        Ok(())
     }
 }
 
@@ -77,20 +122,34 @@ impl<R: Wait + Copy> Share<R> {
             return Some(Err(ReadFault::TooLong));
         }
         let mut left = self.budget.purse.lock(&self.rt);
-        if octets <= left.octets {
-            left.octets -= octets;
-            self.held = self.held.saturating_add(octets);
-            return Some(Ok(()));
+        let taken = left.take(self.alloc, octets);
+        drop(left);
+        match taken {
+            Ok(None) => {
+                self.held = self.held.saturating_add(octets);
+                Some(Ok(()))
+            }
+            Ok(Some(turn)) => {
+                self.turn = Some(turn);
+                None
+            }
+            Err(_) => Some(Err(ReadFault::NoMemory)),
         }
-        let Ok((bell, turn)) = oneshot::channel(self.alloc) else {
-            return Some(Err(ReadFault::NoMemory));
+    }
+
+    // Waits for some octets to be given back, if it waits for that.
+    fn poll_turn(&mut self, cx: &mut Context<'_>) -> Poll<()>
+        ensures registered { OnPending result (Covers cx.new (λ _. ⊥)) }
+        ensures kept { Keeps cx.old cx.new }
+    {
+        let Some(turn) = &mut self.turn else {
+            return Poll::Ready(());
         };
-        left.waiting.retain(|other| !other.is_canceled());
-        if left.waiting.push(bell).is_err() {
-            return Some(Err(ReadFault::NoMemory));
+        if turn.poll(cx).is_pending() {
+            return Poll::Pending;
         }
-        self.turn = Some(turn);
-        None
+        self.turn = None;
+        Poll::Ready(())
     }
 }
 
@@ -99,18 +158,16 @@ impl<R: Wait + Copy> Purse for Share<R> {
         if let Some(moves) = &self.moves {
             moves.note();
         }
-        if let Some(turn) = &mut self.turn {
-            let _ = ready!(turn.poll(cx));
-            self.turn = None;
+        if self.poll_turn(cx).is_pending() {
+            return Poll::Pending;
         }
         if let Some(taken) = self.take(octets) {
             return Poll::Ready(taken);
         }
-        if let Some(turn) = &mut self.turn {
-            let _ = ready!(turn.poll(cx));
+        if self.poll_turn(cx).is_pending() {
+            return Poll::Pending;
         }
         // Some were given back since: once more.
-        self.turn = None;
         cx.yield_now()
     }
 }
@@ -125,15 +182,8 @@ impl<R: Wait + Copy> Drop for Share<R> {
             moves: _,
             turn: _,
         } = self;
-        if held == 0 {
-            return;
-        }
-        let mut left = budget.purse.lock(&rt);
-        left.octets = left.octets.saturating_add(held);
-        let waiting = std::mem::replace(&mut left.waiting, Vec::new(alloc));
-        drop(left);
-        for bell in waiting {
-            let _ = bell.send(());
+        if held > 0 {
+            budget.give_back(&rt, alloc, held);
         }
     }
 }

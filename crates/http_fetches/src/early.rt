@@ -32,18 +32,41 @@ const PIECES_A_TURN: u32 = 16;
 const ANSWERS_A_TURN: u32 = 64;
 
 /// An answer for the client that began this fetch.
-#[derive(Drop)]
 pub struct Offered {
     fetch: u32,
     early: traffic::Early,
 }
 
+// Written by hand, as other drops of this file, so that what lets it go is one call for the prover (docs/GATE.md).
+impl Drop for Offered {
+    fn drop(self) {
+        let Self { fetch: _, early: _ } = self;
+    }
+}
+
+impl Offered {
+    // Gives it to its client. Where no client takes it, its pieces have no reader from here on.
+    fn give<A: Admit>(self, alloc: Global, admit: &A) {
+        let Self { fetch, early } = self;
+        let _ = admit.give_early(alloc, fetch, early);
+    }
+}
+
 /// Gives answers to the clients that began their fetches, as they are offered.
-#[derive(Drop)]
 pub struct Doorman<A> {
     alloc: Global,
     rules: Rc<FetchRules<A>>,
     offered: UnboundedReceiver<Offered>,
+}
+
+impl<A: Drop> Drop for Doorman<A> {
+    fn drop(self) {
+        let Self {
+            alloc: _,
+            rules: _,
+            offered: _,
+        } = self;
+    }
 }
 
 /// What gives answers to clients by these rules, and where it is offered them. Errors: out of memory.
@@ -65,11 +88,10 @@ impl<A: Admit> Tend for Doorman<A> {
         ensures { Keeps cx.old cx.new }
     {
         for _ in 0..ANSWERS_A_TURN {
-            let Poll::Ready(Some(Offered { fetch, early })) = self.offered.poll_next(cx) else {
+            let Poll::Ready(Some(offered)) = self.offered.poll_next(cx) else {
                 return;
             };
-            // Where no client takes it, its pieces have no reader from here on.
-            let _ = self.rules.admit.give_early(self.alloc, fetch, early);
+            offered.give(self.alloc, &self.rules.admit);
         }
         let _: Poll<()> = cx.yield_now();
     }
@@ -78,7 +100,6 @@ impl<A: Admit> Tend for Doorman<A> {
 /// Gives the answer of a fetch to the client that began it, while it is collected: that of status 200 with an announced length of 128 KiB
 /// or more, from its first octets on. Collecting never waits for the client: what it is behind is handed over at once when the answer is
 /// whole. An answer that does not become whole is cut for it.
-#[derive(Drop)]
 pub struct Early {
     alloc: Global,
     fetch: u32,
@@ -89,11 +110,31 @@ pub struct Early {
     reader: Option<Reader>,
 }
 
+impl Drop for Early {
+    fn drop(self) {
+        let Self {
+            alloc: _,
+            fetch: _,
+            gate: _,
+            offer: _,
+            reader: _,
+        } = self;
+    }
+}
+
 // The end-to-end fields of an answer, and the length of its content.
-#[derive(Drop)]
 struct Offer {
     fields: Vec<(Vec<u8>, Vec<u8>)>,
     length: u64,
+}
+
+impl Drop for Offer {
+    fn drop(self) {
+        let Self {
+            fields: _,
+            length: _,
+        } = self;
+    }
 }
 
 impl Early {
@@ -130,16 +171,34 @@ impl Early {
     // Offers the answer to the client that began the fetch. Returns `None` if there is nothing to offer, or if out of memory.
     fn begin(&mut self) -> Option<Reader> {
         let gate = self.gate.take()?;
-        let Offer { fields, length } = self.offer.take()?;
-        let (reader, pieces) = Reader::new(self.alloc, length).ok()?;
+        let reader = self.begin_at(&gate);
+        drop(gate);
+        reader
+    }
+
+    // As `begin`, at this gate.
+    fn begin_at(&mut self, gate: &UnboundedSender<Offered>) -> Option<Reader> {
+        let offer = self.offer.take()?;
+        let (reader, offered) = offer.open(self.alloc, self.fetch)?;
+        gate.unbounded_send(offered).ok()?;
+        Some(reader)
+    }
+}
+
+impl Offer {
+    // What hands over pieces of this answer, and the answer for the client that began this fetch. Returns `None` if out of memory.
+    fn open(self, alloc: Global, fetch: u32) -> Option<(Reader, Offered)> {
+        let Self { fields, length } = self;
+        let Ok((reader, pieces)) = Reader::new(alloc, length) else {
+            drop(fields);
+            return None;
+        };
         let early = traffic::Early {
             fields,
             length,
             pieces,
         };
-        let fetch = self.fetch;
-        gate.unbounded_send(Offered { fetch, early }).ok()?;
-        Some(reader)
+        Some((reader, Offered { fetch, early }))
     }
 }
 
@@ -171,7 +230,6 @@ impl Follow for Early {
 }
 
 // Hands pieces over to a client.
-#[derive(Drop)]
 struct Reader {
     pieces: mpsc::Sender<Piece>,
     // Each has room for one piece more, at any time: for what is left once the answer is whole, and for its end.
@@ -181,6 +239,18 @@ struct Reader {
     length: u64,
     // How many octets were handed over.
     given: usize,
+}
+
+impl Drop for Reader {
+    fn drop(self) {
+        let Self {
+            pieces: _,
+            last: _,
+            end: _,
+            length: _,
+            given: _,
+        } = self;
+    }
 }
 
 impl Reader {
@@ -226,25 +296,23 @@ impl Reader {
 
     // Hands over what is left of these octets, which are all, and that they are. Where memory is short, they are cut.
     fn finish(self, alloc: Global, octets: &[u8]) {
-        let Reader {
-            pieces: _pieces,
-            mut last,
-            mut end,
-            length,
-            given,
-        } = self;
-        if octets.len() as u64 != length {
-            return;
+        let mut reader = self;
+        if octets.len() as u64 == reader.length && reader.hand_over_rest(alloc, octets) {
+            let _ = reader.end.try_send(Piece::End);
         }
-        if given < octets.len() {
-            let Some(piece) = piece_of(alloc, octets, given, octets.len()) else {
-                return;
-            };
-            if last.try_send(piece).is_err() {
-                return;
-            }
+        drop(reader);
+    }
+
+    // Hands over what is left of these octets, however many it is. Returns whether the client has all of them then: `false` if it reads
+    // no more, or if out of memory.
+    fn hand_over_rest(&mut self, alloc: Global, octets: &[u8]) -> bool {
+        if octets.len() <= self.given {
+            return true;
         }
-        let _ = end.try_send(Piece::End);
+        match piece_of(alloc, octets, self.given, octets.len()) {
+            Some(piece) => self.last.try_send(piece).is_ok(),
+            None => false,
+        }
     }
 }
 

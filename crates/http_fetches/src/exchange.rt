@@ -1,8 +1,11 @@
 //! One request to a server, over a new connection or one that was kept.
-ghost use Rattle.std.specs.Prelude.{◌≡◌, IfSome};
+ghost use Rattle.std.specs.Prelude.{◌≡◌, IfOk, IfSome};
+ghost use Rattle.futures.specs.Poll.{OnPending};
+ghost use Rattle.futures.specs.Task.{Covers, Keeps};
 
 use crate::budget::{Budget, Share};
 use crate::early::{Early, Offered};
+use crate::fetching::put;
 use crate::kept::Kept;
 use crate::moves::{Moves, Noted, Patience};
 use bytes::Bytes;
@@ -17,7 +20,7 @@ use http_traffic::{FetchFault, Page};
 use hyper::body::Incoming;
 use hyper::client::conn::http1;
 use hyper::client::conn::http1::{Parts, ResponseFuture, WithoutShutdown};
-use hyper::{HeaderMap, Request, Version, header};
+use hyper::{HeaderMap, Request, Response, Version, header};
 use paced_stream::{FETCH_TURN, Paced};
 use std::alloc::Global;
 use std::net::SocketAddr;
@@ -27,7 +30,6 @@ use tokio::net::{ConnectFuture, TcpStream};
 use tokio::time::{Handle, Timeout};
 
 /// A page, and the share of the budget that its body takes.
-#[derive(Drop)]
 pub struct Paid<P> {
     pub page: Page,
     pub purse: P,
@@ -35,6 +37,18 @@ pub struct Paid<P> {
     lasts: bool,
     // Its connection, if it may.
     socket: Option<Paced>,
+}
+
+// Written by hand, as other drops of this file, so that what lets it go is one call for the prover (docs/GATE.md).
+impl<P: Drop> Drop for Paid<P> {
+    fn drop(self) {
+        let Self {
+            page: _,
+            purse: _,
+            lasts: _,
+            socket: _,
+        } = self;
+    }
 }
 
 impl<P: Drop> Paid<P> {
@@ -54,7 +68,9 @@ impl<P: Drop> Paid<P> {
     fn with(self, socket: Option<Paced>) -> Paid<P> {
         let mut paid = self;
         if paid.lasts {
-            paid.socket = socket;
+            put(&mut paid.socket, socket);
+        } else {
+            drop(socket);
         }
         paid
     }
@@ -85,12 +101,22 @@ pub trait Talk: Drop {
 }
 
 /// Connects, then runs the exchange.
-#[derive(Drop)]
 pub struct Call<T: Talk> {
     server: SocketAddr,
     connecting: Option<Timeout<ConnectFuture>>,
     talk: T,
     talking: Option<T::Talking>,
+}
+
+impl<T: Talk> Drop for Call<T> {
+    fn drop(self) {
+        let Self {
+            server: _,
+            connecting: _,
+            talk: _,
+            talking: _,
+        } = self;
+    }
 }
 
 impl<T: Talk> Call<T> {
@@ -119,9 +145,35 @@ impl<T: Talk> Call<T> {
         }
     }
 
+    // Waits for the connection. Errors: why there is none.
+    fn poll_socket(&mut self, cx: &mut Context<'_>) -> Poll<Result<TcpStream, FetchFault>>
+        ensures same { self.new.talking ≡ self.old.talking }
+        ensures registered { OnPending result (Covers cx.new (λ _. ⊥)) }
+        ensures kept { Keeps cx.old cx.new }
+    {
+        let Some(connecting) = &mut self.connecting else {
+            return Poll::Ready(Err(FetchFault::NoMemory));
+        };
+        match connecting.poll(cx) {
+            Poll::Ready(Ok(Ok(socket))) => Poll::Ready(Ok(socket)),
+            Poll::Ready(failed) => {
+                drop(failed);
+                Poll::Ready(Err(FetchFault::Connect))
+            }
+            Poll::Pending => Poll::Pending,
+        }
+    }
+
     /// The server of this call, which has failed, and its exchange, to be started once more.
     pub fn into_talk(self) -> (SocketAddr, T) {
-        let Call { server, talk, .. } = self;
+        let Call {
+            server,
+            connecting,
+            talk,
+            talking,
+        } = self;
+        drop(connecting);
+        drop(talking);
         (server, talk)
     }
 
@@ -145,13 +197,11 @@ impl<T: Talk> Future for Call<T> {
 
     fn poll(&mut self, cx: &mut Context<'_>) -> Poll<Result<T::Page, FetchFault>> {
         if self.talking.is_none() {
-            let Some(connecting) = &mut self.connecting else {
-                return Poll::Ready(Err(FetchFault::NoMemory));
-            };
-            let Ok(Ok(socket)) = ready!(connecting.poll(cx)) else {
-                return Poll::Ready(Err(FetchFault::Connect));
-            };
-            self.talking = self.talk.talk(socket);
+            match self.poll_socket(cx) {
+                Poll::Ready(Ok(socket)) => self.talking = self.talk.talk(socket),
+                Poll::Ready(Err(fault)) => return Poll::Ready(Err(fault)),
+                Poll::Pending => return Poll::Pending,
+            }
         }
         match &mut self.talking {
             Some(talking) => talking.poll(cx),
@@ -161,7 +211,6 @@ impl<T: Talk> Future for Call<T> {
 }
 
 /// A GET request for one page.
-#[derive(Drop)]
 pub struct Get<R: Wait + Copy> {
     pub rt: R,
     pub alloc: Global,
@@ -189,6 +238,28 @@ pub struct Get<R: Wait + Copy> {
     pub gate: Option<UnboundedSender<Offered>>,
 }
 
+impl<R: Wait + Copy> Drop for Get<R> {
+    fn drop(self) {
+        let Self {
+            rt: _,
+            alloc: _,
+            http: _,
+            host: _,
+            target: _,
+            fields: _,
+            limit: _,
+            free: _,
+            idle: _,
+            timers: _,
+            budget: _,
+            kept: _,
+            used: _,
+            fetch: _,
+            gate: _,
+        } = self;
+    }
+}
+
 impl<R: Wait + Copy> Get<R> {
     // The request to be sent. Returns `None` if a part of it is no valid HTTP, or if out of memory.
     fn request(&self) -> Option<Request<Empty<Bytes>>> {
@@ -196,8 +267,13 @@ impl<R: Wait + Copy> Get<R> {
             .header(header::HOST, self.host.as_str())
             .body(Empty::<Bytes>::new())
             .ok()?;
-        add_fields(self.alloc, request.headers_mut(), self.fields.as_slice())?;
-        Some(request)
+        match add_fields(self.alloc, request.headers_mut(), self.fields.as_slice()) {
+            Some(()) => Some(request),
+            None => {
+                drop(request);
+                None
+            }
+        }
     }
 }
 
@@ -211,9 +287,12 @@ impl<R: Wait + Copy> Get<R> {
 
 // Whether one of these fields is Authorization.
 fn has_credentials(fields: &[(Vec<u8>, Vec<u8>)]) -> bool {
-    fields
-        .iter()
-        .any(|(name, _)| name.as_slice() == b"authorization".as_slice())
+    for (name, _) in fields {
+        if name.as_slice() == b"authorization".as_slice() {
+            return true;
+        }
+    }
+    false
 }
 
 impl<R: Wait + Clock + Copy> Get<R> {
@@ -253,6 +332,17 @@ impl<R: Wait + Clock + Copy> Get<R> {
         Early::new(self.alloc, gate, self.fetch)
     }
 
+    // What reads the body.
+    fn metered(&self, moves: &Moves) -> Metered<R> {
+        Metered {
+            alloc: self.alloc,
+            limit: self.limit,
+            free: self.free,
+            share: self.share(moves),
+            early: self.early(),
+        }
+    }
+
     // A connection to this server that was kept.
     fn kept_one(&self, server: SocketAddr) -> Option<Paced> {
         match &self.kept {
@@ -265,17 +355,19 @@ impl<R: Wait + Clock + Copy> Get<R> {
     fn begin(&self, noted: Noted, moves: &Moves) -> Option<Patient<R, Getting<R>>>
         ensures { IfSome result ⟦<Patient<R, Getting<R>> as Future>⟧.can_poll }
     {
-        let request = self.request()?;
-        let metered = Metered {
-            alloc: self.alloc,
-            limit: self.limit,
-            free: self.free,
-            share: self.share(moves),
-            early: self.early(),
+        let Some(request) = self.request() else {
+            drop(noted);
+            return None;
         };
+        let metered = self.metered(moves);
         let patience = self.patience(moves);
-        let getting = begun(&self.http, noted, request, metered, self.may_last())?;
-        Some(Patient::new(getting, patience))
+        match begun(&self.http, noted, request, metered, self.may_last()) {
+            Some(getting) => Some(Patient::new(getting, patience)),
+            None => {
+                drop(patience);
+                None
+            }
+        }
     }
 }
 
@@ -287,16 +379,21 @@ impl<R: Wait + Clock + Copy> Talk for Get<R> {
     fn talk(&mut self, socket: TcpStream) -> Option<Self::Talking> {
         let _ = socket.set_nodelay(true);
         self.used = None;
-        let moves = Moves::new(self.alloc).ok()?;
-        let noted = Noted::new(Paced::new(socket, FETCH_TURN), moves.share().ok()?);
+        let Some((moves, other)) = Moves::pair(self.alloc) else {
+            drop(socket);
+            return None;
+        };
+        let noted = Noted::new(Paced::new(socket, FETCH_TURN), other);
         self.begin(noted, &moves)
     }
 
     fn resume(&mut self, server: SocketAddr) -> Option<Self::Talking> {
         let socket = self.kept_one(server)?;
-        let moves = Moves::new(self.alloc).ok()?;
-        let noted = Noted::used(socket, moves.share().ok()?);
-        let getting = self.begin(noted, &moves);
+        let Some((moves, other)) = Moves::pair(self.alloc) else {
+            drop(socket);
+            return None;
+        };
+        let getting = self.begin(Noted::used(socket, other), &moves);
         self.used = Some(moves);
         getting
     }
@@ -318,8 +415,27 @@ impl<R: Wait + Clock + Copy> Talk for Get<R> {
     }
 }
 
-/// The exchange of a fetch, its reply beside its connection.
-pub type Getting<R> = Borne<Reply<Metered<R>>, WithoutShutdown<Noted, Empty<Bytes>>>;
+/// The exchange of a fetch, its reply beside its connection. A type of its own, since its parts have large ones that are elaborated anew
+/// wherever they are named.
+pub struct Getting<R: Wait + Copy> {
+    exchange: Borne<Reply<Metered<R>>, WithoutShutdown<Noted, Empty<Bytes>>>,
+}
+
+impl<R: Wait + Copy> Drop for Getting<R> {
+    fn drop(self) {
+        let Self { exchange: _ } = self;
+    }
+}
+
+impl<R: Wait + Copy> Future for Getting<R> {
+    type Output = Result<Paid<Share<R>>, FetchFault>;
+
+    ghost can_poll = { λ g. ⟦<Borne<Reply<Metered<R>>, WithoutShutdown<Noted, Empty<Bytes>>> as Future>⟧.can_poll g.exchange };
+
+    fn poll(&mut self, cx: &mut Context<'_>) -> Poll<Result<Paid<Share<R>>, FetchFault>> {
+        self.exchange.poll(cx)
+    }
+}
 
 // Begins an exchange over this connection. Returns `None` if out of memory.
 fn begun<R: Wait + Copy>(
@@ -331,21 +447,40 @@ fn begun<R: Wait + Copy>(
 ) -> Option<Getting<R>>
     ensures { IfSome result ⟦<Getting<R> as Future>⟧.can_poll }
 {
-    let Ok((mut sender, conn)) = http.handshake(noted) else {
-        return None;
-    };
-    let alloc = metered.alloc;
-    let reply = Reply::new(alloc, sender.send_request(request), metered, may_last);
-    Some(Borne::new(reply, conn.without_shutdown()))
+    match http.handshake(noted) {
+        Ok((sender, conn)) => {
+            let mut sender = sender;
+            let answer = sender.send_request(request);
+            drop(sender);
+            let reply = Reply::new(metered.alloc, answer, metered, may_last);
+            let exchange = Borne::new(reply, conn.without_shutdown());
+            Some(Getting { exchange })
+        }
+        Err(error) => {
+            drop(error);
+            drop(metered);
+            drop(request);
+            None
+        }
+    }
 }
 
 /// A reply beside the connection that brings it, which is given back with the page once nothing of it is left unread.
-#[derive(Drop)]
 pub struct Borne<A, B> {
     reply: A,
     conn: Option<B>,
     // What is left of the connection, once it has ended.
     left: Option<Parts<Noted>>,
+}
+
+impl<A: Drop, B: Drop> Drop for Borne<A, B> {
+    fn drop(self) {
+        let Self {
+            reply: _,
+            conn: _,
+            left: _,
+        } = self;
+    }
 }
 
 impl<A: Future, B: Future> Borne<A, B> {
@@ -363,12 +498,33 @@ impl<A: Future, B: Future> Borne<A, B> {
     }
 }
 
+impl<A: Drop, B: Future<Output = hyper::Result<Parts<Noted>>>> Borne<A, B> {
+    // Polls the connection, and keeps what is left of it once it has ended.
+    fn poll_conn(&mut self, cx: &mut Context<'_>)
+        requires { IfSome self.old.conn B.can_poll }
+        ensures conn { IfSome self.new.conn B.can_poll }
+        ensures same { self.new.reply ≡ self.old.reply }
+        ensures kept { Keeps cx.old cx.new }
+    {
+        let Some(conn) = &mut self.conn else {
+            return;
+        };
+        if let Poll::Ready(ended) = conn.poll(cx) {
+            self.conn = None;
+            put(&mut self.left, ended.ok());
+        }
+    }
+}
+
 // The connection itself, if nothing of it is left unread.
 fn unspent(left: Option<Parts<Noted>>) -> Option<Paced> {
     let Parts { io, read_buf } = left?;
-    if read_buf.is_empty() {
+    let is_empty = read_buf.is_empty();
+    drop(read_buf);
+    if is_empty {
         Some(io.into_socket())
     } else {
+        drop(io);
         None
     }
 }
@@ -383,25 +539,29 @@ impl<
     ghost can_poll = { λ b. A.can_poll b.reply × IfSome b.conn B.can_poll };
 
     fn poll(&mut self, cx: &mut Context<'_>) -> Poll<Result<Paid<P>, FetchFault>> {
-        if let Some(conn) = &mut self.conn
-            && let Poll::Ready(ended) = conn.poll(cx)
-        {
-            self.conn = None;
-            self.left = ended.ok();
-        }
-        match ready!(self.reply.poll(cx)) {
-            Ok(paid) => Poll::Ready(Ok(paid.with(unspent(self.left.take())))),
-            Err(fault) => Poll::Ready(Err(fault)),
+        self.poll_conn(cx);
+        match self.reply.poll(cx) {
+            Poll::Ready(Ok(paid)) => Poll::Ready(Ok(paid.with(unspent(self.left.take())))),
+            Poll::Ready(Err(fault)) => Poll::Ready(Err(fault)),
+            Poll::Pending => Poll::Pending,
         }
     }
 }
 
 /// Ends an exchange with a fault where nothing has moved on its connection for too long.
-#[derive(Drop)]
 pub struct Patient<R, F> {
     exchange: F,
     // None if that is not limited.
     patience: Option<Patience<R>>,
+}
+
+impl<R: Drop, F: Drop> Drop for Patient<R, F> {
+    fn drop(self) {
+        let Self {
+            exchange: _,
+            patience: _,
+        } = self;
+    }
 }
 
 impl<R: Clock + Drop, F: Future> Patient<R, F> {
@@ -412,6 +572,17 @@ impl<R: Clock + Drop, F: Future> Patient<R, F> {
     {
         Patient { exchange, patience }
     }
+
+    // Whether nothing has moved for too long.
+    fn is_over(&mut self, cx: &mut Context<'_>) -> bool
+        ensures kept { Keeps cx.old cx.new }
+        ensures same { self.new.exchange ≡ self.old.exchange }
+    {
+        match &mut self.patience {
+            Some(patience) => patience.is_over(cx),
+            None => false,
+        }
+    }
 }
 
 impl<R: Clock + Drop, P: Drop, F: Future<Output = Result<P, FetchFault>>> Future for Patient<R, F> {
@@ -420,15 +591,11 @@ impl<R: Clock + Drop, P: Drop, F: Future<Output = Result<P, FetchFault>>> Future
     ghost can_poll = { λ p. F.can_poll p.exchange };
 
     fn poll(&mut self, cx: &mut Context<'_>) -> Poll<Result<P, FetchFault>> {
-        if let Poll::Ready(ended) = self.exchange.poll(cx) {
-            return Poll::Ready(ended);
+        match self.exchange.poll(cx) {
+            Poll::Ready(ended) => Poll::Ready(ended),
+            Poll::Pending if self.is_over(cx) => Poll::Ready(Err(FetchFault::Time)),
+            Poll::Pending => Poll::Pending,
         }
-        if let Some(patience) = &mut self.patience
-            && patience.is_over(cx)
-        {
-            return Poll::Ready(Err(FetchFault::Time));
-        }
-        Poll::Pending
     }
 }
 
@@ -449,13 +616,24 @@ pub trait Read: Drop {
 }
 
 /// Reads one body of at most `limit` octets. The share pays for what is beyond the first `free`.
-#[derive(Drop)]
 pub struct Metered<R: Wait + Copy> {
     alloc: Global,
     limit: usize,
     free: usize,
     share: Option<Share<R>>,
     early: Early,
+}
+
+impl<R: Wait + Copy> Drop for Metered<R> {
+    fn drop(self) {
+        let Self {
+            alloc: _,
+            limit: _,
+            free: _,
+            share: _,
+            early: _,
+        } = self;
+    }
 }
 
 impl<R: Wait + Copy> Read for Metered<R> {
@@ -479,10 +657,15 @@ impl<R: Wait + Copy> Read for Metered<R> {
 }
 
 /// Polls `other` beside `first`, and returns what `first` returns. `other` is dropped with it, finished or not.
-#[derive(Drop)]
 pub struct Beside<A, B> {
     first: A,
     other: Option<B>,
+}
+
+impl<A: Drop, B: Drop> Drop for Beside<A, B> {
+    fn drop(self) {
+        let Self { first: _, other: _ } = self;
+    }
 }
 
 impl<A: Future, B: Future> Beside<A, B> {
@@ -499,28 +682,50 @@ impl<A: Future, B: Future> Beside<A, B> {
     }
 }
 
+impl<A: Drop, T: Drop, B: Future<Output = T>> Beside<A, B> {
+    // Polls the other one until it ends.
+    fn poll_other(&mut self, cx: &mut Context<'_>)
+        requires { IfSome self.old.other B.can_poll }
+        ensures other { IfSome self.new.other B.can_poll }
+        ensures same { self.new.first ≡ self.old.first }
+        ensures kept { Keeps cx.old cx.new }
+    {
+        let Some(other) = &mut self.other else {
+            return;
+        };
+        if other.poll(cx).is_ready() {
+            self.other = None;
+        }
+    }
+}
+
 impl<A: Future, T: Drop, B: Future<Output = T>> Future for Beside<A, B> {
     type Output = A::Output;
 
     ghost can_poll = { λ b. A.can_poll b.first × IfSome b.other B.can_poll };
 
     fn poll(&mut self, cx: &mut Context<'_>) -> Poll<A::Output> {
-        if let Some(other) = &mut self.other
-            && let Poll::Ready(_) = other.poll(cx)
-        {
-            self.other = None;
-        }
+        self.poll_other(cx);
         self.first.poll(cx)
     }
 }
 
 // The head of a response.
-#[derive(Drop)]
 struct Head {
     status: u16,
     fields: HeaderMap,
     // Whether the connection may carry another request once the body has been read.
     lasts: bool,
+}
+
+impl Drop for Head {
+    fn drop(self) {
+        let Self {
+            status: _,
+            fields: _,
+            lasts: _,
+        } = self;
+    }
 }
 
 impl Head {
@@ -534,10 +739,28 @@ impl Head {
             lasts,
         }
     }
+
+    // The page of this head and a content.
+    fn page<P: Drop>(self, content: Content<P>) -> Paid<P> {
+        let Self {
+            status,
+            fields: head,
+            lasts,
+        } = self;
+        let Content {
+            octets: body,
+            purse,
+        } = content;
+        Paid {
+            page: Page { status, head, body },
+            purse,
+            lasts,
+            socket: None,
+        }
+    }
 }
 
 /// Receives the head of a response, then its body.
-#[derive(Drop)]
 pub struct Reply<B: Read> {
     alloc: Global,
     answer: ResponseFuture<Noted>,
@@ -546,6 +769,19 @@ pub struct Reply<B: Read> {
     read: B,
     // Whether connections are kept.
     may_last: bool,
+}
+
+impl<B: Read> Drop for Reply<B> {
+    fn drop(self) {
+        let Self {
+            alloc: _,
+            answer: _,
+            head: _,
+            body: _,
+            read: _,
+            may_last: _,
+        } = self;
+    }
 }
 
 impl<B: Read<Body = Incoming<Noted>>> Reply<B> {
@@ -561,6 +797,44 @@ impl<B: Read<Body = Incoming<Noted>>> Reply<B> {
             may_last,
         }
     }
+
+    // Begins with the body of this answer. Errors: why there is none.
+    fn begin(&mut self, answer: hyper::Result<Response<Incoming<Noted>>>) -> Result<(), FetchFault>
+        ensures { IfOk result (λ _. IfSome self.new.body B.Reading.can_poll) }
+    {
+        match answer {
+            Ok(response) => {
+                if has_foreign_coding(response.headers()) {
+                    drop(response);
+                    return Err(FetchFault::NotHttp);
+                }
+                self.begin_body(response);
+                Ok(())
+            }
+            Err(error) => {
+                let fault = head_fault(&error);
+                drop(error);
+                Err(fault)
+            }
+        }
+    }
+
+    // Begins with the body of this response.
+    fn begin_body(&mut self, response: Response<Incoming<Noted>>)
+        ensures { IfSome self.new.body B.Reading.can_poll }
+    {
+        let (parts, body) = response.into_parts();
+        let status = parts.status.as_u16();
+        self.body = Some(self.read.read(status, &parts.headers, body));
+        let head = Head::of(
+            self.alloc,
+            status,
+            parts.version,
+            parts.headers,
+            self.may_last,
+        );
+        put(&mut self.head, Some(head));
+    }
 }
 
 impl<P: Drop, B: Read<Body = Incoming<Noted>, Content = Content<P>>> Future for Reply<B> {
@@ -570,30 +844,18 @@ impl<P: Drop, B: Read<Body = Incoming<Noted>, Content = Content<P>>> Future for 
 
     fn poll(&mut self, cx: &mut Context<'_>) -> Poll<Result<Paid<P>, FetchFault>> {
         if self.body.is_none() {
-            let response = match ready!(self.answer.poll(cx)) {
-                Ok(response) => response,
-                Err(error) => return Poll::Ready(Err(head_fault(&error))),
-            };
-            let (parts, body) = response.into_parts();
-            if has_foreign_coding(&parts.headers) {
-                return Poll::Ready(Err(FetchFault::NotHttp));
+            let answer = ready!(self.answer.poll(cx));
+            if let Err(fault) = self.begin(answer) {
+                return Poll::Ready(Err(fault));
             }
-            let status = parts.status.as_u16();
-            self.body = Some(self.read.read(status, &parts.headers, body));
-            self.head = Some(Head::of(
-                self.alloc,
-                status,
-                parts.version,
-                parts.headers,
-                self.may_last,
-            ));
         }
         let Some(reading) = &mut self.body else {
             return Poll::Ready(Err(FetchFault::NoMemory));
         };
-        match ready!(reading.poll(cx)) {
-            Ok(content) => Poll::Ready(paid_page(self.head.take(), content)),
-            Err(fault) => Poll::Ready(Err(body_fault(fault))),
+        match reading.poll(cx) {
+            Poll::Ready(Ok(content)) => Poll::Ready(paid_page(self.head.take(), content)),
+            Poll::Ready(Err(fault)) => Poll::Ready(Err(body_fault(fault))),
+            Poll::Pending => Poll::Pending,
         }
     }
 }
@@ -624,23 +886,11 @@ fn body_fault(fault: ReadFault) -> FetchFault {
 
 // The page of a head and a content. There is a head wherever there is a content; without one the exchange failed.
 fn paid_page<P: Drop>(head: Option<Head>, content: Content<P>) -> Result<Paid<P>, FetchFault> {
-    let Some(head) = head else {
-        return Err(FetchFault::NotHttp);
-    };
-    let Head {
-        status,
-        fields: head,
-        lasts,
-    } = head;
-    let Content {
-        octets: body,
-        purse,
-    } = content;
-    let page = Page { status, head, body };
-    Ok(Paid {
-        page,
-        purse,
-        lasts,
-        socket: None,
-    })
+    match head {
+        Some(head) => Ok(head.page(content)),
+        None => {
+            drop(content);
+            Err(FetchFault::NotHttp)
+        }
+    }
 }

@@ -1,22 +1,26 @@
 //! Fetches from origin servers and neighbours, many concurrently on one thread.
-ghost use Rattle.std.specs.Prelude.{◌≡◌, ◌<◌, IfSome, box_value};
+ghost use Rattle.std.specs.Prelude.{◌≡◌, ◌<◌, IfSome, box_value, true};
 ghost use Rattle.futures.specs.Poll.{OnPending};
 ghost use Rattle.futures.specs.Task.{Covers, Keeps};
 ghost use Rattle.tokio.specs.Timers.{timeout_future};
 
 use crate::budget::{Budget, Share};
 use crate::early::{Doorman, Offered, gate};
-use crate::exchange::{Call, Get, Paid, Talk};
+use crate::exchange::{Beside, Call, Get, Getting, Paid, Patient, Talk};
 use crate::kept::{Keeper, Kept};
-use crate::passing::{Pass, Plan, Post};
+use crate::moves::Noted;
+use crate::passing::{Answering, Pass, Plan, Post, Sent};
 use fetch_chain::{Begin, Submit, Tend};
 use futures::channel::mpsc::{UnboundedReceiver, UnboundedSender};
 use futures::channel::oneshot;
 use futures::future::Either;
 use futures::task::{Context, Poll};
 use futures::{Future, ready};
-use http_traffic::{Addresses, Admit, FetchEnd, FetchFault, Fetched, Job, Order, Server, Work};
+use http_traffic::{
+    Addresses, Admit, FetchEnd, FetchFault, Fetched, Job, Order, Passage, Server, Work,
+};
 use hyper::client::conn::http1;
+use hyper::client::conn::http1::Connection;
 use std::alloc::{AllocGlobal, Global};
 use std::hash::RandomState;
 use std::io;
@@ -50,7 +54,6 @@ pub struct FetchLimits {
 }
 
 /// What the fetches of all threads have in common.
-#[derive(Drop)]
 pub struct FetchRules<A> {
     /// How many octets of bodies may be under way.
     pub budget: Arc<Budget>,
@@ -58,8 +61,17 @@ pub struct FetchRules<A> {
     pub admit: A,
 }
 
+// Written by hand, as other drops of this file, so that what lets it go is one call for the prover (docs/GATE.md).
+impl<A: Drop> Drop for FetchRules<A> {
+    fn drop(self) {
+        let Self {
+            budget: _,
+            admit: _,
+        } = self;
+    }
+}
+
 // Starts fetches.
-#[derive(Drop)]
 struct Getter<R, A> {
     rt: R,
     alloc: Global,
@@ -73,7 +85,22 @@ struct Getter<R, A> {
     gate: UnboundedSender<Offered>,
 }
 
-impl<R: Net + Clock + Copy, A: Admit> Getter<R, A> {
+impl<R: Drop, A: Drop> Drop for Getter<R, A> {
+    fn drop(self) {
+        let Self {
+            rt: _,
+            alloc: _,
+            handle: _,
+            http: _,
+            limits: _,
+            rules: _,
+            kept: _,
+            gate: _,
+        } = self;
+    }
+}
+
+impl<R: Copy, A: Drop> Getter<R, A> {
     // What connects one fetch. Returns `None` if out of memory.
     fn dialer(&self, is_origin: bool) -> Option<Dialer<R, A>> {
         Some(Dialer {
@@ -109,6 +136,13 @@ pub(crate) fn boxed<T: Drop>(alloc: Global, value: T) -> Option<Box<T>>
     Box::new(alloc, value).ok()
 }
 
+/// Puts a value in the place of another, which is let go of by a call: an assignment would lay out its parts for the prover.
+pub(crate) fn put<T: Drop>(place: &mut T, value: T)
+    ensures { place.new ≡ value }
+{
+    *place = value;
+}
+
 impl<R: Wait + Net + Clock + Copy, A: Admit> Begin for Getter<R, A> {
     type Job = Job;
 
@@ -119,47 +153,25 @@ impl<R: Wait + Net + Clock + Copy, A: Admit> Begin for Getter<R, A> {
     fn begin(&mut self, job: Job) -> Doing<R, A> {
         let Job { server, work } = job;
         match work {
-            Work::Fetch(order) => {
-                let Order {
-                    fetch,
-                    attempt,
-                    host,
-                    target,
-                    fields,
-                    is_origin,
-                    is_early,
-                    deadline,
-                    wanted,
-                } = order;
-                let gate = self.gate(is_early);
-                let get = self.get(fetch, host, target, fields, gate);
-                let visit = Visit::new(server, self.dialer(is_origin), get);
-                let fetch = Fetch {
-                    fetch,
-                    attempt,
-                    wanted,
-                    visit: timed(&self.handle, self.alloc, deadline, visit),
-                };
-                Doing {
-                    doing: Either::Left(fetch),
-                }
-            }
-            Work::Pass(passage) => {
-                let dialer = self.dialer(passage.is_origin);
-                let timers = self.handle.time().clone().ok();
-                let plan = Plan::new(self.rt, self.alloc, self.http, timers, passage);
-                Doing {
-                    doing: Either::Right(Pass::new(self.alloc, server, dialer, plan)),
-                }
-            }
+            Work::Fetch(order) => Doing {
+                doing: Either::Left(self.fetch(server, order)),
+            },
+            Work::Pass(passage) => Doing {
+                doing: Either::Right(self.pass(server, passage)),
+            },
         }
     }
 }
 
 // A job in progress. A type of its own, since its parts have large ones that are elaborated anew wherever they are named.
-#[derive(Drop)]
 struct Doing<R: Wait + Clock + Copy, A: Admit> {
     doing: Either<Fetch<R, A, Get<R>>, Pass<R, A, Post>>,
+}
+
+impl<R: Wait + Clock + Copy, A: Admit> Drop for Doing<R, A> {
+    fn drop(self) {
+        let Self { doing: _ } = self;
+    }
 }
 
 impl<R: Wait + Net + Clock + Copy, A: Admit> Future for Doing<R, A> {
@@ -172,7 +184,45 @@ impl<R: Wait + Net + Clock + Copy, A: Admit> Future for Doing<R, A> {
     }
 }
 
-impl<R: Wait + Net + Clock + Copy, A: Admit> Getter<R, A> {
+impl<R: Wait + Clock + Copy, A: Admit> Getter<R, A> {
+    // Begins a fetch from this server.
+    fn fetch(&self, server: Server, order: Order) -> Fetch<R, A, Get<R>>
+        ensures { IfSome result.visit (λ t. IfSome (timeout_future (box_value t)).call (λ c. IfSome c.talking ⟦<Patient<R, Getting<R>> as Future>⟧.can_poll)) }
+    {
+        let Order {
+            fetch,
+            attempt,
+            host,
+            target,
+            fields,
+            is_origin,
+            is_early,
+            deadline,
+            wanted,
+        } = order;
+        let gate = self.gate(is_early);
+        let get = self.get(fetch, host, target, fields, gate);
+        let visit = Visit::new(server, self.dialer(is_origin), get);
+        Fetch {
+            fetch,
+            attempt,
+            wanted,
+            visit: timed(&self.handle, self.alloc, deadline, visit),
+        }
+    }
+
+    // Begins to pass on a request to this server.
+    fn pass(&self, server: Server, passage: Passage) -> Pass<R, A, Post>
+        ensures { IfSome result.visit (λ v. IfSome (box_value v).call (λ c. IfSome c.talking ⟦<Beside<Answering, Connection<Noted, Sent>> as Future>⟧.can_poll)) }
+    {
+        let dialer = self.dialer(passage.is_origin);
+        let timers = self.handle.time().clone().ok();
+        let plan = Plan::new(self.rt, self.alloc, self.http, timers, passage);
+        Pass::new(self.alloc, server, dialer, plan)
+    }
+}
+
+impl<R: Wait + Copy, A: Drop> Getter<R, A> {
     // The timers of a fetch's patience, if that is limited. `None` also if there are too many handles.
     fn timers(&self) -> Option<tokio::time::Handle> {
         match self.limits.idle {
@@ -236,7 +286,6 @@ impl<R: Wait + Net + Clock + Copy, A: Admit> Getter<R, A> {
 }
 
 /// Connects to a server.
-#[derive(Drop)]
 pub struct Dialer<R, A> {
     rt: R,
     handle: Handle,
@@ -245,12 +294,26 @@ pub struct Dialer<R, A> {
     is_origin: bool,
 }
 
-impl<R: Net + Clock + Copy, A: Admit> Dialer<R, A> {
+impl<R: Drop, A: Drop> Drop for Dialer<R, A> {
+    fn drop(self) {
+        let Self {
+            rt: _,
+            handle: _,
+            connecting: _,
+            rules: _,
+            is_origin: _,
+        } = self;
+    }
+}
+
+impl<R: Drop, A: Admit> Dialer<R, A> {
     // Whether this server may be connected to.
     fn admits(&self, server: SocketAddr) -> bool {
         !self.is_origin || self.rules.admit.admits(server)
     }
+}
 
+impl<R: Net + Clock + Copy, A: Drop> Dialer<R, A> {
     // Connects to this address, with a timeout. Returns `None` if out of memory.
     fn connect(&self, server: SocketAddr) -> Option<Timeout<ConnectFuture>> {
         let connecting = TcpStream::connect(&self.rt, server, self.handle.reactor());
@@ -272,7 +335,6 @@ pub enum Visited<P> {
 
 /// Waits for the addresses of the server, then makes the call. Where the server cannot be connected to at the first, the other has its
 /// turn.
-#[derive(Drop)]
 pub struct Visit<R, A, T: Talk> {
     server: Server,
     dialer: Option<Dialer<R, A>>,
@@ -283,7 +345,19 @@ pub struct Visit<R, A, T: Talk> {
     call: Option<Call<T>>,
 }
 
-impl<R: Net + Clock + Copy, A: Admit, T: Talk> Visit<R, A, T> {
+impl<R: Drop, A: Drop, T: Talk> Drop for Visit<R, A, T> {
+    fn drop(self) {
+        let Self {
+            server: _,
+            dialer: _,
+            talk: _,
+            other: _,
+            call: _,
+        } = self;
+    }
+}
+
+impl<R: Drop, A: Admit, T: Talk> Visit<R, A, T> {
     /// A visit that has not begun; without a dialer it fails, as out of memory.
     pub fn new(server: Server, dialer: Option<Dialer<R, A>>, talk: T) -> Visit<R, A, T>
         ensures { IfSome result.call (λ c. IfSome c.talking T.Talking.can_poll) }
@@ -321,6 +395,29 @@ impl<R: Net + Clock + Copy, A: Admit, T: Talk> Visit<R, A, T> {
         servers.admitted(dialer.admits(servers.first), is_other)
     }
 
+    // Whether the call, which has failed so, may be made once more over a new connection.
+    fn may_retry(&self, fault: FetchFault) -> bool {
+        match &self.call {
+            Some(call) => call.may_retry(fault),
+            None => false,
+        }
+    }
+
+    // Whether the other address has its turn, after the call has failed so.
+    fn turns(&self, fault: FetchFault) -> bool {
+        fault == FetchFault::Connect && self.other.is_some()
+    }
+}
+
+impl<R: Net + Clock + Copy, A: Admit, T: Talk> Visit<R, A, T> {
+    // Makes the call to one of these addresses. It is gone as `call` says.
+    fn begin(&mut self, servers: Addresses)
+        ensures { IfSome self.new.call (λ c. IfSome c.talking T.Talking.can_poll) }
+    {
+        let call = self.call(servers);
+        put(&mut self.call, call);
+    }
+
     // The call to one of these addresses: over a connection to either that was kept, or to the first. Returns `None` if it has begun
     // before, or if out of memory.
     fn call(&mut self, servers: Addresses) -> Option<Call<T>>
@@ -353,7 +450,10 @@ impl<R: Net + Clock + Copy, A: Admit, T: Talk> Visit<R, A, T> {
     {
         match &self.dialer {
             Some(dialer) => Some(Call::new(server, dialer.connect(server), talk)),
-            None => None,
+            None => {
+                drop(talk);
+                None
+            }
         }
     }
 
@@ -365,23 +465,39 @@ impl<R: Net + Clock + Copy, A: Admit, T: Talk> Visit<R, A, T> {
             return;
         };
         let (server, talk) = call.into_talk();
-        self.call = self.new_call(server, talk);
-    }
-
-    // Whether the other address has its turn, after the call has failed so.
-    fn turns(&self, fault: FetchFault) -> bool {
-        fault == FetchFault::Connect && self.other.is_some()
+        let call = self.new_call(server, talk);
+        put(&mut self.call, call);
     }
 
     // Makes the call, whose server was not connected to, to the other address. It is gone if there is none, or if out of memory.
     fn turn(&mut self)
         ensures { IfSome self.new.call (λ c. IfSome c.talking T.Talking.can_poll) }
     {
-        let (Some(call), Some(other)) = (self.call.take(), self.other.take()) else {
+        let Some(other) = self.other.take() else {
+            drop(self.call.take());
+            return;
+        };
+        let Some(call) = self.call.take() else {
             return;
         };
         let (_, talk) = call.into_talk();
-        self.call = self.new_call(other, talk);
+        let call = self.new_call(other, talk);
+        put(&mut self.call, call);
+    }
+
+    // Makes the call, which has failed so, once more, if it may be. Returns whether it has.
+    fn makes_again(&mut self, fault: FetchFault) -> bool
+        ensures { result ≡ true → IfSome self.new.call (λ c. IfSome c.talking T.Talking.can_poll) }
+    {
+        if self.may_retry(fault) {
+            self.retry();
+            return true;
+        }
+        if self.turns(fault) {
+            self.turn();
+            return true;
+        }
+        false
     }
 }
 
@@ -398,37 +514,45 @@ impl<R: Net + Clock + Copy, A: Admit, T: Talk> Future for Visit<R, A, T> {
             let Some(servers) = self.admitted(servers) else {
                 return Poll::Ready(Visited::Refused);
             };
-            self.call = self.call(servers);
+            self.begin(servers);
         }
         let Some(call) = &mut self.call else {
             return Poll::Ready(Visited::Failed(FetchFault::NoMemory));
         };
-        match ready!(call.poll(cx)) {
-            Ok(page) => {
+        match call.poll(cx) {
+            Poll::Ready(Ok(page)) => {
                 let mut page = page;
                 call.keep(&mut page);
                 Poll::Ready(Visited::Whole(page))
             }
-            Err(fault) if call.may_retry(fault) => {
-                self.retry();
-                cx.yield_now()
+            Poll::Ready(Err(fault)) => {
+                if self.makes_again(fault) {
+                    return cx.yield_now();
+                }
+                Poll::Ready(Visited::Failed(fault))
             }
-            Err(fault) if self.turns(fault) => {
-                self.turn();
-                cx.yield_now()
-            }
-            Err(fault) => Poll::Ready(Visited::Failed(fault)),
+            Poll::Pending => Poll::Pending,
         }
     }
 }
 
 // A fetch in progress.
-#[derive(Drop)]
 struct Fetch<R, A, T: Talk> {
     fetch: u32,
     attempt: u16,
     wanted: oneshot::Receiver<()>,
     visit: Option<Box<Timeout<Visit<R, A, T>>>>,
+}
+
+impl<R: Drop, A: Drop, T: Talk> Drop for Fetch<R, A, T> {
+    fn drop(self) {
+        let Self {
+            fetch: _,
+            attempt: _,
+            wanted: _,
+            visit: _,
+        } = self;
+    }
 }
 
 impl<R: Net + Clock + Copy, A: Admit, P: Drop, T: Talk<Page = Paid<P>>> Future for Fetch<R, A, T> {
@@ -437,17 +561,24 @@ impl<R: Net + Clock + Copy, A: Admit, P: Drop, T: Talk<Page = Paid<P>>> Future f
     ghost can_poll = { λ f. IfSome f.visit (λ t. IfSome (timeout_future (box_value t)).call (λ c. IfSome c.talking T.Talking.can_poll)) };
 
     fn poll(&mut self, cx: &mut Context<'_>) -> Poll<Done<P>> {
-        let visited = if let Poll::Ready(_) = self.wanted.poll(cx) {
-            Visited::Failed(FetchFault::Cancelled)
-        } else if let Some(visit) = &mut self.visit {
-            match ready!(visit.poll(cx)) {
-                Ok(visited) => visited,
-                Err(_elapsed) => Visited::Failed(FetchFault::Time),
-            }
-        } else {
-            Visited::Failed(FetchFault::NoMemory)
+        if self.wanted.poll(cx).is_ready() {
+            return Poll::Ready(self.failed(FetchFault::Cancelled));
+        }
+        let Some(visit) = &mut self.visit else {
+            return Poll::Ready(self.failed(FetchFault::NoMemory));
         };
-        Poll::Ready(done_of(self.fetch, self.attempt, visited))
+        match visit.poll(cx) {
+            Poll::Ready(Ok(visited)) => Poll::Ready(done_of(self.fetch, self.attempt, visited)),
+            Poll::Ready(Err(_elapsed)) => Poll::Ready(self.failed(FetchFault::Time)),
+            Poll::Pending => Poll::Pending,
+        }
+    }
+}
+
+impl<R: Drop, A: Drop, T: Talk> Fetch<R, A, T> {
+    // The result of the fetch, which has failed so.
+    fn failed<P: Drop>(&self, fault: FetchFault) -> Done<P> {
+        finished(self.fetch, self.attempt, FetchEnd::Failed(fault), None)
     }
 }
 
@@ -461,14 +592,18 @@ pub struct Done<P> {
 
 // The result of a fetch whose visit has ended.
 fn done_of<P: Drop>(fetch: u32, attempt: u16, visited: Visited<Paid<P>>) -> Done<P> {
-    let (end, purse) = match visited {
+    match visited {
         Visited::Whole(paid) => {
             let (page, purse) = paid.into_parts();
-            (FetchEnd::Whole(page), Some(purse))
+            finished(fetch, attempt, FetchEnd::Whole(page), Some(purse))
         }
-        Visited::Refused => (FetchEnd::Refused, None),
-        Visited::Failed(fault) => (FetchEnd::Failed(fault), None),
-    };
+        Visited::Refused => finished(fetch, attempt, FetchEnd::Refused, None),
+        Visited::Failed(fault) => finished(fetch, attempt, FetchEnd::Failed(fault), None),
+    }
+}
+
+// The result of a fetch that has ended so, and what its body takes of the budget.
+fn finished<P: Drop>(fetch: u32, attempt: u16, end: FetchEnd, purse: Option<P>) -> Done<P> {
     let fetched = Some(Fetched {
         fetch,
         attempt,
@@ -538,10 +673,18 @@ where
 }
 
 // Looks after the connections that are kept, and after answers that are given while they are collected.
-#[derive(Drop)]
 struct Tending<R, A> {
     keeper: Keeper<R>,
     doorman: Doorman<A>,
+}
+
+impl<R: Drop, A: Drop> Drop for Tending<R, A> {
+    fn drop(self) {
+        let Self {
+            keeper: _,
+            doorman: _,
+        } = self;
+    }
 }
 
 impl<R: Clock + Copy + Drop, A: Admit> Tend for Tending<R, A> {
@@ -570,12 +713,32 @@ where
     requires { 0 < limits.at_once }
 {
     let mut runtime = LocalRuntime::new(&rt)?;
-    let (getter, doorman) = getter_of(rt, &runtime, rules, limits)?;
+    let ran = run_on(rt, &mut runtime, jobs, seat, rules, limits);
+    drop(runtime);
+    ran
+}
+
+// As `run_fetches`, on this runtime.
+fn run_on<R, S, A>(
+    rt: R,
+    runtime: &mut LocalRuntime,
+    jobs: UnboundedReceiver<Job>,
+    seat: &mut S,
+    rules: FetchRules<A>,
+    limits: FetchLimits,
+) -> io::Result<()>
+where
+    R: Wait + Clock + RandomSource + AllocGlobal + Net + Copy,
+    S: Submit<Fetched>,
+    A: Admit,
+    requires { 0 < limits.at_once }
+{
+    let (getter, doorman) = getter_of(rt, runtime, rules, limits)?;
     let tending = Tending {
         keeper: Keeper::new(rt, getter.kept(), getter.keep_timers()),
         doorman,
     };
     let mut seat = PassOn { seat };
     let most = limits.at_once.saturating_add(MOST_PASSAGES);
-    fetch_chain::run(&rt, &mut runtime, jobs, getter, &mut seat, tending, most)
+    fetch_chain::run(&rt, runtime, jobs, getter, &mut seat, tending, most)
 }

@@ -22,13 +22,24 @@ const MOST: usize = 64;
 const LOOK: u64 = 1;
 
 // A connection that carries no request.
-#[derive(Drop)]
 struct Idle {
     server: SocketAddr,
     host: String,
     socket: Paced,
     // When it is closed.
     until: Instant,
+}
+
+// Written by hand, as other drops of this file, so that what lets it go is one call for the prover (docs/GATE.md).
+impl Drop for Idle {
+    fn drop(self) {
+        let Self {
+            server: _,
+            host: _,
+            socket: _,
+            until: _,
+        } = self;
+    }
 }
 
 impl Idle {
@@ -40,6 +51,21 @@ impl Idle {
     // Whether it may still carry a request: its time is not over, and nothing has come on it since its last answer.
     fn is_good(&self, now: Instant) -> bool {
         now < self.until && self.socket.is_silent()
+    }
+
+    // The connection itself, if it may still carry a request. It is closed otherwise.
+    fn into_good(self, now: Instant) -> Option<Paced> {
+        if !self.is_good(now) {
+            drop(self);
+            return None;
+        }
+        let Self {
+            server: _server,
+            host: _host,
+            socket,
+            until: _until,
+        } = self;
+        Some(socket)
     }
 }
 
@@ -55,10 +81,11 @@ impl Bench {
     fn take(&mut self, server: SocketAddr, host: &str, now: Instant) -> Option<Paced> {
         for place in (0..self.idle.len()).rev() {
             if place < self.idle.len() && self.idle[place].is_for(server, host) {
-                let found = self.idle.remove(place);
-                if found.is_good(now) {
-                    return Some(found.socket);
+                let found = self.idle.remove(place).into_good(now);
+                if found.is_some() {
+                    return found;
                 }
+                drop(found);
             }
         }
         None
@@ -79,10 +106,11 @@ impl Bench {
     // all, the one that was kept first is closed for it. Errors: out of memory.
     fn add(&mut self, idle: Idle) -> Result<(), AllocError> {
         if self.count(idle.server, idle.host.as_str()) >= MOST_EACH {
+            drop(idle);
             return Ok(());
         }
         if self.idle.len() >= MOST {
-            self.idle.remove(0);
+            drop(self.idle.remove(0));
         }
         self.idle.push(idle)?;
         Ok(())
@@ -90,7 +118,6 @@ impl Bench {
 }
 
 /// The idle connections of a thread. Reference-counted within it.
-#[derive(Drop)]
 pub struct Kept<R> {
     rt: R,
     // How long one may be idle.
@@ -98,7 +125,17 @@ pub struct Kept<R> {
     bench: Rc<RefCell<Bench>>,
 }
 
-impl<R: Clock + Copy> Kept<R> {
+impl<R: Drop> Drop for Kept<R> {
+    fn drop(self) {
+        let Self {
+            rt: _,
+            keep: _,
+            bench: _,
+        } = self;
+    }
+}
+
+impl<R: Copy> Kept<R> {
     /// None as yet, each to be closed after so long. Errors: out of memory.
     pub fn new(rt: R, alloc: Global, keep: Duration) -> Result<Kept<R>, AllocError> {
         let bench = Bench {
@@ -119,15 +156,17 @@ impl<R: Clock + Copy> Kept<R> {
             bench: self.bench.clone()?,
         })
     }
+}
 
+impl<R: Clock + Copy> Kept<R> {
     /// Takes a connection to this server under this name on which nothing has come since its last answer. `None` if there is none, or if
     /// the clock cannot be read.
     pub fn take(&self, server: SocketAddr, host: &str) -> Option<Paced> {
-        let mut bench = self.bench.try_borrow_mut().ok()?;
-        if bench.idle.is_empty() {
+        if self.is_empty() {
             return None;
         }
         let now = Instant::now(&self.rt).ok()?;
+        let mut bench = self.bench.try_borrow_mut().ok()?;
         bench.take(server, host, now)
     }
 
@@ -135,6 +174,7 @@ impl<R: Clock + Copy> Kept<R> {
     /// and for lack of memory.
     pub fn keep(&self, server: SocketAddr, host: String, socket: Paced) {
         let Some(until) = self.until() else {
+            drop(socket);
             return;
         };
         let idle = Idle {
@@ -143,8 +183,11 @@ impl<R: Clock + Copy> Kept<R> {
             socket,
             until,
         };
-        if let Ok(mut bench) = self.bench.try_borrow_mut() {
-            let _ = bench.add(idle);
+        match self.bench.try_borrow_mut() {
+            Ok(mut bench) => {
+                let _ = bench.add(idle);
+            }
+            Err(_) => drop(idle),
         }
     }
 
@@ -174,7 +217,6 @@ impl<R: Clock + Copy> Kept<R> {
 }
 
 /// Closes the idle connections of a thread once their time is over, or their server has ended them.
-#[derive(Drop)]
 pub struct Keeper<R> {
     rt: R,
     // None where no connection is kept.
@@ -183,6 +225,17 @@ pub struct Keeper<R> {
     timers: Option<Handle>,
     // Runs while there are some.
     sleep: Option<Sleep>,
+}
+
+impl<R: Drop> Drop for Keeper<R> {
+    fn drop(self) {
+        let Self {
+            rt: _,
+            kept: _,
+            timers: _,
+            sleep: _,
+        } = self;
+    }
 }
 
 impl<R: Clock + Copy> Keeper<R> {
