@@ -411,7 +411,7 @@ impl<R: Drop, A: Admit, T: Talk> Visit<R, A, T> {
 }
 
 impl<R: Net + Clock + Copy, A: Admit, T: Talk> Visit<R, A, T> {
-    // Makes the call to one of these addresses. It is gone as `call` says.
+    // Makes the call to one of these addresses, if `call` gives one.
     fn begin(&mut self, servers: Addresses)
         ensures { IfSome self.new.call (λ c. IfSome c.talking T.Talking.can_poll) }
     {
@@ -663,11 +663,7 @@ impl<P: Drop, S: Submit<Fetched>> Submit<Done<P>> for PassOn<'_, S> {
 }
 
 // Where connections are kept for so long. `None` where none is. Errors: out of memory.
-fn kept_of<R: Clock + Copy>(
-    rt: R,
-    alloc: Global,
-    keep: Option<Duration>,
-) -> io::Result<Option<Kept<R>>> {
+fn kept_of<R: Copy>(rt: R, alloc: Global, keep: Option<Duration>) -> io::Result<Option<Kept<R>>> {
     match keep {
         Some(keep) => Ok(Some(Kept::new(rt, alloc, keep)?)),
         None => Ok(None),
@@ -683,23 +679,43 @@ fn getter_of<R, A>(
     limits: FetchLimits,
 ) -> io::Result<(Getter<R, A>, Doorman<A>)>
 where
-    R: RandomSource + AllocGlobal + Clock + Copy,
-    A: Admit,
+    R: RandomSource + AllocGlobal + Copy,
+    A: Drop,
 {
     let alloc = rt.alloc();
     let rules = Rc::new(alloc, rules)?;
     let (gate, doorman) = gate(alloc, &rules)?;
-    let getter = Getter {
+    match getter_at(rt, alloc, runtime, rules, gate, limits) {
+        Ok(getter) => Ok((getter, doorman)),
+        Err(error) => {
+            drop(doorman);
+            Err(error)
+        }
+    }
+}
+
+// What starts the fetches of a runtime by these rules, and offers their answers at this gate. Errors: as `getter_of`.
+fn getter_at<R: RandomSource + Copy, A: Drop>(
+    rt: R,
+    alloc: Global,
+    runtime: &LocalRuntime,
+    rules: Rc<FetchRules<A>>,
+    gate: UnboundedSender<Offered>,
+    limits: FetchLimits,
+) -> io::Result<Getter<R, A>> {
+    let kept = kept_of(rt, alloc, limits.keep)?;
+    let handle = runtime.handle().clone()?;
+    let http = http1::Builder::new(alloc, RandomState::new(&rt)?);
+    Ok(Getter {
         rt,
         alloc,
-        kept: kept_of(rt, alloc, limits.keep)?,
-        handle: runtime.handle().clone()?,
-        http: http1::Builder::new(alloc, RandomState::new(&rt)?),
+        handle,
+        http,
         limits,
         rules,
+        kept,
         gate,
-    };
-    Ok((getter, doorman))
+    })
 }
 
 // Looks after the connections that are kept, and after answers that are given while they are collected.
