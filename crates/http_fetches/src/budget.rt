@@ -55,31 +55,21 @@ fn wake(waiting: Vec<oneshot::Sender<()>>) {
 }
 
 impl Left {
-    // Takes so many octets, or returns what is ready once some have been given back. Errors: out of memory.
-    fn take(
-        &mut self,
-        alloc: Global,
-        octets: usize,
-    ) -> Result<Option<oneshot::Receiver<()>>, AllocError> {
-        if octets <= self.octets {
-            self.octets -= octets;
-            return Ok(None);
+    // Takes so many octets, if as many are left. Returns whether they are.
+    fn take(&mut self, octets: usize) -> bool {
+        if self.octets < octets {
+            return false;
         }
-        let (bell, turn) = oneshot::channel(alloc)?;
-        match self.wait(bell) {
-            Ok(()) => Ok(Some(turn)),
-            Err(error) => {
-                drop(turn);
-                Err(error)
-            }
-        }
+        self.octets -= octets;
+        true
     }
 
-    // Has this told once some octets have been given back, and forgets those that wait no more. Errors: out of memory.
-    fn wait(&mut self, bell: oneshot::Sender<()>) -> Result<(), AllocError> {
+    // What is ready once some octets have been given back; those that wait no more are forgotten. Returns `None` if out of memory.
+    fn wait(&mut self, alloc: Global) -> Option<oneshot::Receiver<()>> {
+        let (bell, turn) = oneshot::channel(alloc).ok()?;
         self.waiting.retain(|other| !other.is_canceled());
-        self.waiting.push(bell)?;
-        Ok(())
+        self.waiting.push(bell).ok()?;
+        Some(turn)
     }
 }
 
@@ -122,18 +112,14 @@ impl<R: Wait + Copy> Share<R> {
             return Some(Err(ReadFault::TooLong));
         }
         let mut left = self.budget.purse.lock(&self.rt);
-        let taken = left.take(self.alloc, octets);
-        drop(left);
-        match taken {
-            Ok(None) => {
-                self.held = self.held.saturating_add(octets);
-                Some(Ok(()))
-            }
-            Ok(Some(turn)) => {
-                self.turn = Some(turn);
-                None
-            }
-            Err(_) => Some(Err(ReadFault::NoMemory)),
+        if left.take(octets) {
+            self.held = self.held.saturating_add(octets);
+            return Some(Ok(()));
+        }
+        self.turn = left.wait(self.alloc);
+        match &self.turn {
+            Some(_) => None,
+            None => Some(Err(ReadFault::NoMemory)),
         }
     }
 

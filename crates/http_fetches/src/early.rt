@@ -74,10 +74,11 @@ pub fn gate<A: Drop>(
     alloc: Global,
     rules: &Rc<FetchRules<A>>,
 ) -> Result<(UnboundedSender<Offered>, Doorman<A>), AllocError> {
+    let rules = rules.clone()?;
     let (offers, offered) = mpsc::unbounded(alloc)?;
     let doorman = Doorman {
         alloc,
-        rules: rules.clone()?,
+        rules,
         offered,
     };
     Ok((offers, doorman))

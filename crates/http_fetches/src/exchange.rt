@@ -1,6 +1,6 @@
 //! One request to a server, over a new connection or one that was kept.
 ghost use Rattle.std.specs.Prelude.{◌≡◌, IfOk, IfSome};
-ghost use Rattle.futures.specs.Poll.{OnPending};
+ghost use Rattle.futures.specs.Poll.{IfReady, OnPending};
 ghost use Rattle.futures.specs.Task.{Covers, Keeps};
 
 use crate::budget::{Budget, Share};
@@ -9,9 +9,9 @@ use crate::fetching::put;
 use crate::kept::Kept;
 use crate::moves::{Moves, Noted, Patience};
 use bytes::Bytes;
+use futures::Future;
 use futures::channel::mpsc::UnboundedSender;
 use futures::task::{Context, Poll};
-use futures::{Future, ready};
 use http_body::Body;
 use http_body_util::Empty;
 use http_content::{Content, Gathered, ReadFault, add_fields, has_foreign_coding};
@@ -23,10 +23,12 @@ use hyper::client::conn::http1::{Parts, ResponseFuture, WithoutShutdown};
 use hyper::{HeaderMap, Request, Response, Version, header};
 use paced_stream::{FETCH_TURN, Paced};
 use std::alloc::Global;
+use std::io;
 use std::net::SocketAddr;
 use std::sync::{Arc, Wait};
 use std::time::{Clock, Duration};
 use tokio::net::{ConnectFuture, TcpStream};
+use tokio::time::error::Elapsed;
 use tokio::time::{Handle, Timeout};
 
 /// A page, and the share of the budget that its body takes.
@@ -132,8 +134,19 @@ impl<T: Talk> Call<T> {
         }
     }
 
-    /// A call to this server that has begun, over a connection that was kept.
-    pub fn resumed(server: SocketAddr, talk: T, talking: T::Talking) -> Call<T>
+    /// A call to this server that has begun, over a connection that was kept. Errors: the exchange, if that cannot be.
+    pub fn over_kept(server: SocketAddr, talk: T) -> Result<Call<T>, T>
+        ensures { IfOk result (λ c. IfSome c.talking T.Talking.can_poll) }
+    {
+        let mut talk = talk;
+        match talk.resume(server) {
+            Some(talking) => Ok(Call::resumed(server, talk, talking)),
+            None => Err(talk),
+        }
+    }
+
+    // A call to this server that has begun, over a connection that was kept.
+    fn resumed(server: SocketAddr, talk: T, talking: T::Talking) -> Call<T>
         requires { T.Talking.can_poll talking }
         ensures { IfSome result.talking T.Talking.can_poll }
     {
@@ -145,9 +158,10 @@ impl<T: Talk> Call<T> {
         }
     }
 
-    // Waits for the connection. Errors: why there is none.
-    fn poll_socket(&mut self, cx: &mut Context<'_>) -> Poll<Result<TcpStream, FetchFault>>
-        ensures same { self.new.talking ≡ self.old.talking }
+    // Waits for the connection, and begins the exchange over it. Errors: why there is none.
+    fn poll_socket(&mut self, cx: &mut Context<'_>) -> Poll<Result<(), FetchFault>>
+        ensures begun { IfReady result (λ begun. IfOk begun (λ _. IfSome self.new.talking T.Talking.can_poll)) }
+        ensures same { OnPending result (self.new.talking ≡ self.old.talking) }
         ensures registered { OnPending result (Covers cx.new (λ _. ⊥)) }
         ensures kept { Keeps cx.old cx.new }
     {
@@ -155,12 +169,24 @@ impl<T: Talk> Call<T> {
             return Poll::Ready(Err(FetchFault::NoMemory));
         };
         match connecting.poll(cx) {
-            Poll::Ready(Ok(Ok(socket))) => Poll::Ready(Ok(socket)),
-            Poll::Ready(failed) => {
-                drop(failed);
-                Poll::Ready(Err(FetchFault::Connect))
-            }
+            Poll::Ready(connected) => Poll::Ready(self.begin(connected)),
             Poll::Pending => Poll::Pending,
+        }
+    }
+
+    // Begins the exchange over this connection. Errors: there is none.
+    fn begin(&mut self, connected: Result<io::Result<TcpStream>, Elapsed>) -> Result<(), FetchFault>
+        ensures { IfOk result (λ _. IfSome self.new.talking T.Talking.can_poll) }
+    {
+        match connected {
+            Ok(Ok(socket)) => {
+                self.talking = self.talk.talk(socket);
+                Ok(())
+            }
+            failed => {
+                drop(failed);
+                Err(FetchFault::Connect)
+            }
         }
     }
 
@@ -198,7 +224,7 @@ impl<T: Talk> Future for Call<T> {
     fn poll(&mut self, cx: &mut Context<'_>) -> Poll<Result<T::Page, FetchFault>> {
         if self.talking.is_none() {
             match self.poll_socket(cx) {
-                Poll::Ready(Ok(socket)) => self.talking = self.talk.talk(socket),
+                Poll::Ready(Ok(())) => {}
                 Poll::Ready(Err(fault)) => return Poll::Ready(Err(fault)),
                 Poll::Pending => return Poll::Pending,
             }
@@ -355,16 +381,21 @@ impl<R: Wait + Clock + Copy> Get<R> {
     fn begin(&self, noted: Noted, moves: &Moves) -> Option<Patient<R, Getting<R>>>
         ensures { IfSome result ⟦<Patient<R, Getting<R>> as Future>⟧.can_poll }
     {
-        let Some(request) = self.request() else {
-            drop(noted);
-            return None;
-        };
-        let metered = self.metered(moves);
-        let patience = self.patience(moves);
-        match begun(&self.http, noted, request, metered, self.may_last()) {
-            Some(getting) => Some(Patient::new(getting, patience)),
+        let getting = self.getting(noted, moves)?;
+        Some(Patient::new(getting, self.patience(moves)))
+    }
+
+    // As `begin`, without its patience.
+    fn getting(&self, noted: Noted, moves: &Moves) -> Option<Getting<R>>
+        ensures { IfSome result ⟦<Getting<R> as Future>⟧.can_poll }
+    {
+        match self.request() {
+            Some(request) => {
+                let metered = self.metered(moves);
+                begun(&self.http, noted, request, metered, self.may_last())
+            }
             None => {
-                drop(patience);
+                drop(noted);
                 None
             }
         }
@@ -475,11 +506,10 @@ pub struct Borne<A, B> {
 
 impl<A: Drop, B: Drop> Drop for Borne<A, B> {
     fn drop(self) {
-        let Self {
-            reply: _,
-            conn: _,
-            left: _,
-        } = self;
+        let Self { reply, conn, left } = self;
+        drop(reply);
+        drop(conn);
+        drop(left);
     }
 }
 
@@ -775,12 +805,16 @@ impl<B: Read> Drop for Reply<B> {
     fn drop(self) {
         let Self {
             alloc: _,
-            answer: _,
-            head: _,
-            body: _,
-            read: _,
+            answer,
+            head,
+            body,
+            read,
             may_last: _,
         } = self;
+        drop(answer);
+        drop(head);
+        drop(body);
+        drop(read);
     }
 }
 
@@ -795,6 +829,19 @@ impl<B: Read<Body = Incoming<Noted>>> Reply<B> {
             body: None,
             read,
             may_last,
+        }
+    }
+
+    // Waits for the head of the answer, and begins with its body. Errors: why there is none.
+    fn poll_answer(&mut self, cx: &mut Context<'_>) -> Poll<Result<(), FetchFault>>
+        ensures begun { IfReady result (λ begun. IfOk begun (λ _. IfSome self.new.body B.Reading.can_poll)) }
+        ensures same { OnPending result (self.new.body ≡ self.old.body) }
+        ensures registered { OnPending result (Covers cx.new (λ _. ⊥)) }
+        ensures kept { Keeps cx.old cx.new }
+    {
+        match self.answer.poll(cx) {
+            Poll::Ready(answer) => Poll::Ready(self.begin(answer)),
+            Poll::Pending => Poll::Pending,
         }
     }
 
@@ -844,9 +891,10 @@ impl<P: Drop, B: Read<Body = Incoming<Noted>, Content = Content<P>>> Future for 
 
     fn poll(&mut self, cx: &mut Context<'_>) -> Poll<Result<Paid<P>, FetchFault>> {
         if self.body.is_none() {
-            let answer = ready!(self.answer.poll(cx));
-            if let Err(fault) = self.begin(answer) {
-                return Poll::Ready(Err(fault));
+            match self.poll_answer(cx) {
+                Poll::Ready(Ok(())) => {}
+                Poll::Ready(Err(fault)) => return Poll::Ready(Err(fault)),
+                Poll::Pending => return Poll::Pending,
             }
         }
         let Some(reading) = &mut self.body else {

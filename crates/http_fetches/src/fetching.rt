@@ -32,6 +32,7 @@ use std::time::{Clock, Duration, Instant};
 use tokio::net::{ConnectFuture, TcpStream};
 use tokio::runtime::{Handle, LocalRuntime};
 use tokio::time::Timeout;
+use tokio::time::error::Elapsed;
 
 /// How many requests that are passed on run beside the fetches of a thread.
 pub const MOST_PASSAGES: usize = 256;
@@ -410,7 +411,7 @@ impl<R: Drop, A: Admit, T: Talk> Visit<R, A, T> {
 }
 
 impl<R: Net + Clock + Copy, A: Admit, T: Talk> Visit<R, A, T> {
-    // Makes the call to one of these addresses. It is gone as `call` says.
+    // Makes the call to one of these addresses, if `call` gives one.
     fn begin(&mut self, servers: Addresses)
         ensures { IfSome self.new.call (λ c. IfSome c.talking T.Talking.can_poll) }
     {
@@ -427,20 +428,32 @@ impl<R: Net + Clock + Copy, A: Admit, T: Talk> Visit<R, A, T> {
         if let Some(dialer) = &mut self.dialer {
             dialer.connecting = servers.share(dialer.connecting);
         }
-        let mut talk = self.talk.take()?;
+        let talk = self.talk.take()?;
         self.other = other;
-        if let Some(talking) = talk.resume(first) {
-            return Some(Call::resumed(first, talk, talking));
+        match Call::over_kept(first, talk) {
+            Ok(call) => Some(call),
+            Err(talk) => self.call_second(first, other, talk),
         }
+    }
+
+    // As `call`, where no connection to the first address was kept.
+    fn call_second(
+        &mut self,
+        first: SocketAddr,
+        other: Option<SocketAddr>,
+        talk: T,
+    ) -> Option<Call<T>>
+        ensures { IfSome result (λ c. IfSome c.talking T.Talking.can_poll) }
+    {
         let Some(second) = other else {
             return self.new_call(first, talk);
         };
-        match talk.resume(second) {
-            Some(talking) => {
+        match Call::over_kept(second, talk) {
+            Ok(call) => {
                 self.other = Some(first);
-                Some(Call::resumed(second, talk, talking))
+                Some(call)
             }
-            None => self.new_call(first, talk),
+            Err(talk) => self.new_call(first, talk),
         }
     }
 
@@ -485,6 +498,32 @@ impl<R: Net + Clock + Copy, A: Admit, T: Talk> Visit<R, A, T> {
         put(&mut self.call, call);
     }
 
+    // Polls the call, and makes it once more where it has failed and may be.
+    fn poll_call(&mut self, cx: &mut Context<'_>) -> Poll<Visited<T::Page>>
+        requires { IfSome self.old.call (λ c. IfSome c.talking T.Talking.can_poll) }
+        ensures again { OnPending result (IfSome self.new.call (λ c. IfSome c.talking T.Talking.can_poll)) }
+        ensures registered { OnPending result (Covers cx.new (λ _. ⊥)) }
+        ensures kept { Keeps cx.old cx.new }
+    {
+        let Some(call) = &mut self.call else {
+            return Poll::Ready(Visited::Failed(FetchFault::NoMemory));
+        };
+        match call.poll(cx) {
+            Poll::Ready(Ok(page)) => {
+                let mut page = page;
+                call.keep(&mut page);
+                Poll::Ready(Visited::Whole(page))
+            }
+            Poll::Ready(Err(fault)) => {
+                if self.makes_again(fault) {
+                    return cx.yield_now();
+                }
+                Poll::Ready(Visited::Failed(fault))
+            }
+            Poll::Pending => Poll::Pending,
+        }
+    }
+
     // Makes the call, which has failed so, once more, if it may be. Returns whether it has.
     fn makes_again(&mut self, fault: FetchFault) -> bool
         ensures { result ≡ true → IfSome self.new.call (λ c. IfSome c.talking T.Talking.can_poll) }
@@ -516,23 +555,7 @@ impl<R: Net + Clock + Copy, A: Admit, T: Talk> Future for Visit<R, A, T> {
             };
             self.begin(servers);
         }
-        let Some(call) = &mut self.call else {
-            return Poll::Ready(Visited::Failed(FetchFault::NoMemory));
-        };
-        match call.poll(cx) {
-            Poll::Ready(Ok(page)) => {
-                let mut page = page;
-                call.keep(&mut page);
-                Poll::Ready(Visited::Whole(page))
-            }
-            Poll::Ready(Err(fault)) => {
-                if self.makes_again(fault) {
-                    return cx.yield_now();
-                }
-                Poll::Ready(Visited::Failed(fault))
-            }
-            Poll::Pending => Poll::Pending,
-        }
+        self.poll_call(cx)
     }
 }
 
@@ -568,14 +591,21 @@ impl<R: Net + Clock + Copy, A: Admit, P: Drop, T: Talk<Page = Paid<P>>> Future f
             return Poll::Ready(self.failed(FetchFault::NoMemory));
         };
         match visit.poll(cx) {
-            Poll::Ready(Ok(visited)) => Poll::Ready(done_of(self.fetch, self.attempt, visited)),
-            Poll::Ready(Err(_elapsed)) => Poll::Ready(self.failed(FetchFault::Time)),
+            Poll::Ready(visited) => Poll::Ready(self.ended(visited)),
             Poll::Pending => Poll::Pending,
         }
     }
 }
 
 impl<R: Drop, A: Drop, T: Talk> Fetch<R, A, T> {
+    // The result of the fetch, whose visit has ended so, or has had its time.
+    fn ended<P: Drop>(&self, visited: Result<Visited<Paid<P>>, Elapsed>) -> Done<P> {
+        match visited {
+            Ok(visited) => done_of(self.fetch, self.attempt, visited),
+            Err(_elapsed) => self.failed(FetchFault::Time),
+        }
+    }
+
     // The result of the fetch, which has failed so.
     fn failed<P: Drop>(&self, fault: FetchFault) -> Done<P> {
         finished(self.fetch, self.attempt, FetchEnd::Failed(fault), None)
@@ -633,11 +663,7 @@ impl<P: Drop, S: Submit<Fetched>> Submit<Done<P>> for PassOn<'_, S> {
 }
 
 // Where connections are kept for so long. `None` where none is. Errors: out of memory.
-fn kept_of<R: Clock + Copy>(
-    rt: R,
-    alloc: Global,
-    keep: Option<Duration>,
-) -> io::Result<Option<Kept<R>>> {
+fn kept_of<R: Copy>(rt: R, alloc: Global, keep: Option<Duration>) -> io::Result<Option<Kept<R>>> {
     match keep {
         Some(keep) => Ok(Some(Kept::new(rt, alloc, keep)?)),
         None => Ok(None),
@@ -653,23 +679,43 @@ fn getter_of<R, A>(
     limits: FetchLimits,
 ) -> io::Result<(Getter<R, A>, Doorman<A>)>
 where
-    R: RandomSource + AllocGlobal + Clock + Copy,
-    A: Admit,
+    R: RandomSource + AllocGlobal + Copy,
+    A: Drop,
 {
     let alloc = rt.alloc();
     let rules = Rc::new(alloc, rules)?;
     let (gate, doorman) = gate(alloc, &rules)?;
-    let getter = Getter {
+    match getter_at(rt, alloc, runtime, rules, gate, limits) {
+        Ok(getter) => Ok((getter, doorman)),
+        Err(error) => {
+            drop(doorman);
+            Err(error)
+        }
+    }
+}
+
+// What starts the fetches of a runtime by these rules, and offers their answers at this gate. Errors: as `getter_of`.
+fn getter_at<R: RandomSource + Copy, A: Drop>(
+    rt: R,
+    alloc: Global,
+    runtime: &LocalRuntime,
+    rules: Rc<FetchRules<A>>,
+    gate: UnboundedSender<Offered>,
+    limits: FetchLimits,
+) -> io::Result<Getter<R, A>> {
+    let kept = kept_of(rt, alloc, limits.keep)?;
+    let handle = runtime.handle().clone()?;
+    let http = http1::Builder::new(alloc, RandomState::new(&rt)?);
+    Ok(Getter {
         rt,
         alloc,
-        kept: kept_of(rt, alloc, limits.keep)?,
-        handle: runtime.handle().clone()?,
-        http: http1::Builder::new(alloc, RandomState::new(&rt)?),
+        handle,
+        http,
         limits,
         rules,
+        kept,
         gate,
-    };
-    Ok((getter, doorman))
+    })
 }
 
 // Looks after the connections that are kept, and after answers that are given while they are collected.

@@ -1,7 +1,8 @@
 //! One request that is passed on as it is, over a connection of its own, its content and that of the answer as they come.
 ghost use Rattle.std.specs.Prelude.{◌≡◌, IfSome, IsSomeAnd, box_value};
 ghost use Rattle.futures.specs.Channel.{readable_source};
-ghost use Rattle.futures.specs.Task.{Keeps};
+ghost use Rattle.futures.specs.Poll.{OnPending};
+ghost use Rattle.futures.specs.Task.{Covers, Keeps};
 
 use crate::budget::Share;
 use crate::exchange::{Beside, Talk, head_fault};
@@ -273,14 +274,33 @@ impl Drop for Answering {
     fn drop(self) {
         let Self {
             alloc: _,
-            answer: _,
-            outlet: _,
-            content: _,
+            answer,
+            outlet,
+            content,
         } = self;
+        drop(answer);
+        drop(outlet);
+        drop(content);
     }
 }
 
 impl Answering {
+    // Waits for the head of the answer, and passes it on as `begin` does. Errors: it is no answer to the request, or why there is none.
+    fn poll_head(&mut self, cx: &mut Context<'_>) -> Poll<Result<(), FetchFault>>
+        ensures registered { OnPending result (Covers cx.new (λ _. ⊥)) }
+        ensures kept { Keeps cx.old cx.new }
+    {
+        match self.answer.poll(cx) {
+            Poll::Ready(Ok(response)) => Poll::Ready(self.begin(response)),
+            Poll::Ready(Err(error)) => {
+                let fault = head_fault(&error);
+                drop(error);
+                Poll::Ready(Err(fault))
+            }
+            Poll::Pending => Poll::Pending,
+        }
+    }
+
     // Passes on the head of an answer, and begins with its content, unless nobody wants it. Errors: it is no answer to the request.
     fn begin(&mut self, response: Response<Incoming<Noted>>) -> Result<(), FetchFault> {
         if let Some(fault) = fault_of(&response) {
@@ -321,12 +341,10 @@ impl Future for Answering {
 
     fn poll(&mut self, cx: &mut Context<'_>) -> Poll<Result<(), FetchFault>> {
         if self.content.is_none() {
-            let begun = match ready!(self.answer.poll(cx)) {
-                Ok(response) => self.begin(response),
-                Err(error) => Err(head_fault(&error)),
-            };
-            if let Err(fault) = begun {
-                return Poll::Ready(Err(fault));
+            match self.poll_head(cx) {
+                Poll::Ready(Ok(())) => {}
+                Poll::Ready(Err(fault)) => return Poll::Ready(Err(fault)),
+                Poll::Pending => return Poll::Pending,
             }
         }
         let Some(content) = &mut self.content else {
@@ -355,10 +373,13 @@ impl Drop for Post {
         let Self {
             alloc: _,
             http: _,
-            request: _,
-            outlet: _,
-            moves: _,
+            request,
+            outlet,
+            moves,
         } = self;
+        drop(request);
+        drop(outlet);
+        drop(moves);
     }
 }
 
@@ -622,6 +643,15 @@ impl<R: Clock + Drop, A: Drop, T: Talk> Pass<R, A, T> {
         }
     }
 
+    // Says why there is no head, unless there was one, where the visit has ended without an exchange.
+    fn end(&self, visited: &Visited<()>) {
+        match visited {
+            Visited::Whole(()) => {}
+            Visited::Refused => self.fail(PassFault::Refused),
+            Visited::Failed(fault) => self.fail(PassFault::Failed(*fault)),
+        }
+    }
+
     // Whether nobody wants the answer any more, or nothing has moved for too long. The time does not pass while the answer waits for the
     // client, whose own limits end that.
     fn is_over(&mut self, cx: &mut Context<'_>) -> bool
@@ -656,13 +686,8 @@ impl<R: Wait + Net + Clock + Copy, A: Admit, T: Talk<Page = ()>> Future for Pass
             return Poll::Ready(ended());
         };
         match visit.poll(cx) {
-            Poll::Ready(Visited::Whole(())) => Poll::Ready(ended()),
-            Poll::Ready(Visited::Refused) => {
-                self.fail(PassFault::Refused);
-                Poll::Ready(ended())
-            }
-            Poll::Ready(Visited::Failed(fault)) => {
-                self.fail(PassFault::Failed(fault));
+            Poll::Ready(visited) => {
+                self.end(&visited);
                 Poll::Ready(ended())
             }
             Poll::Pending if self.is_over(cx) => Poll::Ready(ended()),
