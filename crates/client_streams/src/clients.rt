@@ -266,9 +266,9 @@ impl<A: Accept, R: Wait + Clock + Copy> AcceptedClients<A, R> {
         if let Poll::Pending = stop.poll(cx) {
             return false;
         }
-        drop(self.stop.take());
-        drop(self.listeners.take());
-        drop(self.arrival.take());
+        self.stop = None;
+        self.listeners = None;
+        self.arrival = None;
         self.seats.open();
         self.ending = self.timers.sleep(&self.rt, self.grace).ok();
         true
@@ -345,7 +345,7 @@ impl<A: Accept, R: Wait + Clock + Copy> Stream for AcceptedClients<A, R> {
         }
         if let Some(resting) = &mut self.resting {
             let _ = ready!(resting.poll(cx));
-            drop(self.resting.take());
+            self.resting = None;
         }
         if let Some(room) = self.next_room() {
             return Poll::Ready(Some(room));
@@ -364,7 +364,7 @@ impl<A: Accept, R: Wait + Clock + Copy> Stream for AcceptedClients<A, R> {
                 None => cx.yield_now(),
             },
             Ok(None) => {
-                drop(self.arrival.replace(arrival));
+                self.arrival = Some(arrival);
                 if self.must_look(cx) {
                     self.seats.want();
                     return cx.yield_now();
@@ -372,10 +372,7 @@ impl<A: Accept, R: Wait + Clock + Copy> Stream for AcceptedClients<A, R> {
                 let _ = ready!(self.seats.wait(cx));
                 cx.yield_now()
             }
-            Err(_) => {
-                drop(arrival);
-                cx.yield_now()
-            }
+            Err(_) => cx.yield_now(),
         }
     }
 }

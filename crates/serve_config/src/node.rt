@@ -42,13 +42,8 @@ pub(crate) fn node_keys(alloc: Global, value: &Value) -> Result<NodeKeys, Fault>
     ensures filters { IfOk result (λ s. AreFiles (length s.config.neighbours.items) (view value.now) s.filters.items) }
 {
     let config = config(alloc, value)?;
-    match filters(alloc, value, config.neighbours.len()) {
-        Ok(filters) => Ok(NodeKeys { config, filters }),
-        Err(fault) => {
-            drop(config);
-            Err(fault)
-        }
-    }
+    let filters = filters(alloc, value, config.neighbours.len())?;
+    Ok(NodeKeys { config, filters })
 }
 
 // Parses the configuration of the node.

@@ -182,21 +182,10 @@ impl Settings {
         ensures ports { IfOk result (λ s. shares_port s ≡ false) }
     {
         let value = json(alloc, text)?;
-        if let Err(fault) = check(alloc, &value) {
-            drop(value);
-            return Err(fault);
-        }
-        let parsed = parse_values(alloc, &value);
-        drop(value);
-        let settings = parsed?;
-        if let Err(fault) = check_apart(alloc, &settings, settings.node.neighbours.as_slice()) {
-            drop(settings);
-            return Err(fault);
-        }
-        if let Err(fault) = check_ports(alloc, &settings) {
-            drop(settings);
-            return Err(fault);
-        }
+        check(alloc, &value)?;
+        let settings = parse_values(alloc, &value)?;
+        check_apart(alloc, &settings, settings.node.neighbours.as_slice())?;
+        check_ports(alloc, &settings)?;
         Ok(settings)
     }
 }
@@ -282,35 +271,15 @@ fn parse_values(alloc: Global, value: &Value) -> Result<Settings, Fault>
 {
     let limits = limit_keys(alloc, value)?;
     let front = front_keys(alloc, value)?;
-    let logs = match log_keys(alloc, value) {
-        Ok(logs) => logs,
-        Err(fault) => {
-            drop(front);
-            return Err(fault);
-        }
-    };
-    let node = match node_keys(alloc, value) {
-        Ok(node) => node,
-        Err(fault) => {
-            drop(front);
-            return Err(fault);
-        }
-    };
-    let web = match web_keys(alloc, value) {
-        Ok(web) => web,
-        Err(fault) => {
-            drop(front);
-            drop(node);
-            return Err(fault);
-        }
-    };
+    let logs = log_keys(alloc, value)?;
+    let node = node_keys(alloc, value)?;
     let WebKeys {
         origins,
         freshness,
         passing,
         mirrors,
         shared_fields,
-    } = web;
+    } = web_keys(alloc, value)?;
     let address = front.address;
     Ok(Settings {
         address,
