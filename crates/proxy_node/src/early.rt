@@ -2,7 +2,7 @@
 use crate::clock::date_seconds;
 use crate::front::NodeFront;
 use crate::proxy_state::ProxyState;
-use forwarding::{Led, add_ours};
+use forwarding::{Field, Led, add_ours};
 use http_rules::is_plain_request;
 use http_traffic::{Asked, Early, Outcome};
 use httpdate::HttpDate;
@@ -44,18 +44,39 @@ impl<L: Ledger> ProxyState<L> {
             return false;
         };
         let led = self.mailbox.lock(rt).take_leader(fetch);
-        let Some(Led { reply, supplier }) = led else {
-            return false;
-        };
-        reply.send(Outcome::Early { early, supplier }).is_ok()
+        match led {
+            Some(led) => give_to(led, early),
+            None => {
+                drop(early);
+                false
+            }
+        }
     }
 
     /// An answer with the fields that its object has. `None` if the date is out of range, or if out of memory.
     fn whole_head<R: Clock>(&self, rt: &R, alloc: Global, early: Early) -> Option<Box<Early>> {
         let mut early = early;
-        let date = HttpDate::from_unix_secs(date_seconds(rt)).ok()?.to_bytes();
-        let name = self.name.as_bytes();
-        add_ours(alloc, &mut early.fields, name, date.as_slice()).ok()?;
-        Box::new(alloc, early).ok()
+        match self.add_date(rt, alloc, &mut early.fields) {
+            Some(()) => Box::new(alloc, early).ok(),
+            None => {
+                drop(early);
+                None
+            }
+        }
     }
+
+    // Adds the fields that an object has of this cache. `None` if the date is out of range, or if out of memory.
+    fn add_date<R: Clock>(&self, rt: &R, alloc: Global, fields: &mut Vec<Field>) -> Option<()> {
+        let date = HttpDate::from_unix_secs(date_seconds(rt)).ok()?.to_bytes();
+        add_ours(alloc, fields, self.name.as_bytes(), date.as_slice()).ok()
+    }
+}
+
+// Gives a client an answer while it is collected. Returns whether it takes it.
+fn give_to(led: Led, early: Box<Early>) -> bool {
+    let Led { reply, supplier } = led;
+    let sent = reply.send(Outcome::Early { early, supplier });
+    let is_sent = sent.is_ok();
+    drop(sent);
+    is_sent
 }

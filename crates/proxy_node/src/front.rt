@@ -5,6 +5,7 @@ use crate::node_handle::{Given, NodeHandle};
 use crate::proxy_state::{ProxyState, Stale};
 use crate::storage::Purger;
 use crossbeam_channel::Sender;
+use filter_slots::Moment;
 use forwarding::{Field, KnownKeys, Profile, Waiting, server_in_digits};
 use futures::channel::oneshot;
 use http_rules::{
@@ -16,18 +17,17 @@ use http_traffic::{
     Asked, Asking, FollowUp, Forward, Front, How, Outcome, PassOn, Shape, Supplier, Told,
 };
 use node_core::{Event, Mode, Network};
-use object_store::{CacheKey, Object};
+use object_store::{CacheKey, Entry, Object};
 use std::alloc::{AllocError, Global};
-use std::io;
 use std::net::{IpAddr, SocketAddr};
 use std::sync::atomic::Ordering;
 use std::sync::ledger::Ledger;
 use std::sync::{Arc, Mutex, Wait};
 use std::time::{Clock, Instant};
+use std::{io, mem};
 use traffic_figures::{AnswerNote, Course};
 
 /// Whose requests are taken, and what they stand for.
-#[derive(Drop)]
 pub struct FrontRules {
     /// Networks whose clients are admitted.
     pub allowed: Vec<Network>,
@@ -37,6 +37,18 @@ pub struct FrontRules {
     pub mirrors: Vec<Mirror>,
     /// Takes objects out of the store that a request has changed.
     pub purger: Purger,
+}
+
+// Written by hand, so that what lets it go is one call for the prover (docs/GATE.md).
+impl Drop for FrontRules {
+    fn drop(self) {
+        let Self {
+            allowed: _allowed,
+            allowed_six: _allowed_six,
+            mirrors: _mirrors,
+            purger: _purger,
+        } = self;
+    }
 }
 
 /// Serves a front, whichever it is.
@@ -67,9 +79,9 @@ pub struct NodeFront<R, L: Ledger> {
     pub stop: Sender<(), Global>,
 }
 
-/// A request as the node takes it, and the fields that a fetch for it forwards.
-struct Request {
-    key: CacheKey,
+/// What a fetch for a request forwards.
+#[derive(Drop)]
+struct Forwarded {
     fields: Vec<Field>,
     looped: Option<CacheKey>,
     validates: bool,
@@ -99,39 +111,68 @@ fn key_for(
         Some(url) => keys.key_of(url.as_str()),
         None => keys.key_of(target),
     };
-    key.map_err(|fault| match fault {
-        TargetFault::NotHttp => 400,
-        TargetFault::TooLong => 414,
-        TargetFault::NoMemory => 503,
-    })
+    match key {
+        Ok(key) => Ok(key),
+        Err(TargetFault::NotHttp) => Err(400),
+        Err(TargetFault::TooLong) => Err(414),
+        Err(TargetFault::NoMemory) => Err(503),
+    }
 }
 
-/// The node's view of a request for this key in this mode, which has CDN-Loop fields only if `is_marked`. A private fetch for it may ask
-/// the origin about what is there unless the request itself wants another answer. Errors: the HTTP status to answer.
-fn request_of(
+/// What a fetch forwards for a request for this key in this mode, which has CDN-Loop fields only if `is_marked`. A private fetch for it
+/// may ask the origin about what is there unless the request itself wants another answer. Errors: the HTTP status to answer.
+fn forwarded_of(
     alloc: Global,
     asked: &Asked,
-    key: CacheKey,
+    key: &CacheKey,
     mode: Mode,
     is_marked: bool,
-) -> Result<Request, u16> {
-    let fields = match mode {
-        Mode::Private => passed_on(alloc, asked).map_err(status_of)?,
-        Mode::Shared | Mode::Cached if is_marked => {
-            loop_fields(alloc, asked).map_err(|_| 503u16)?
+) -> Result<Forwarded, u16> {
+    let fields = fields_of(alloc, asked, mode, is_marked)?;
+    let is_looped = mode == Mode::Shared && !fields.is_empty();
+    match looped_of(key, is_looped) {
+        Ok(looped) => Ok(Forwarded {
+            fields,
+            looped,
+            validates: mode == Mode::Private && may_validate(&asked.head),
+        }),
+        Err(status) => {
+            drop(fields);
+            Err(status)
         }
-        Mode::Shared | Mode::Cached => Vec::new(alloc),
-    };
-    let looped = match mode {
-        Mode::Shared if !fields.is_empty() => Some(key.share().map_err(|_| 503u16)?),
-        _ => None,
-    };
-    Ok(Request {
-        key,
-        fields,
-        looped,
-        validates: mode == Mode::Private && may_validate(&asked.head),
-    })
+    }
+}
+
+/// The fields that a fetch forwards for a request in this mode, which has CDN-Loop fields only if `is_marked`. Errors: the HTTP status to
+/// answer.
+fn fields_of(
+    alloc: Global,
+    asked: &Asked,
+    mode: Mode,
+    is_marked: bool,
+) -> Result<Vec<Field>, u16> {
+    match mode {
+        Mode::Private => match passed_on(alloc, asked) {
+            Ok(fields) => Ok(fields),
+            Err(fault) => Err(status_of(fault)),
+        },
+        Mode::Shared | Mode::Cached if is_marked => match loop_fields(alloc, asked) {
+            Ok(fields) => Ok(fields),
+            Err(_) => Err(503),
+        },
+        Mode::Shared | Mode::Cached => Ok(Vec::new(alloc)),
+    }
+}
+
+/// The key of a request, if it is shared and has CDN-Loop fields. Errors: 503, as one owner more cannot be counted.
+fn looped_of(key: &CacheKey, is_looped: bool) -> Result<Option<CacheKey>, u16> {
+    if !is_looped {
+        return Ok(None);
+    }
+    match key.share() {
+        Ok(key) => Ok(Some(key)),
+        Err(_) => Err(503),
+    }
 }
 
 /// The status for a request whose fields are not passed on.
@@ -150,8 +191,13 @@ fn has_marks(asked: &Asked) -> bool {
 /// The CDN-Loop fields of a request (RFC 8586), which a shared fetch for it forwards as well.
 fn loop_fields(alloc: Global, asked: &Asked) -> Result<Vec<Field>, AllocError> {
     let mut fields = Vec::new(alloc);
-    add_values(alloc, &mut fields, asked, "cdn-loop")?;
-    Ok(fields)
+    match add_values(alloc, &mut fields, asked, "cdn-loop") {
+        Ok(()) => Ok(fields),
+        Err(fault) => {
+            drop(fields);
+            Err(fault)
+        }
+    }
 }
 
 /// Adds the fields of this name that a request has.
@@ -162,10 +208,26 @@ pub(crate) fn add_values(
     name: &'static str,
 ) -> Result<(), AllocError> {
     for value in asked.head.get_all(name).iter() {
-        let name = name.as_bytes().to_vec(alloc)?;
-        fields.push((name, value.as_bytes().to_vec(alloc)?))?;
+        add_field(alloc, fields, name.as_bytes(), value.as_bytes())?;
     }
     Ok(())
+}
+
+/// Adds a field of this name and value. Errors: out of memory.
+pub(crate) fn add_field(
+    alloc: Global,
+    fields: &mut Vec<Field>,
+    name: &[u8],
+    value: &[u8],
+) -> Result<(), AllocError> {
+    let name = name.to_vec(alloc)?;
+    match value.to_vec(alloc) {
+        Ok(value) => Ok(fields.push((name, value))?),
+        Err(fault) => {
+            drop(name);
+            Err(fault)
+        }
+    }
 }
 
 /// The fields of a request that a private fetch forwards: the end-to-end fields without Host, Expect and those that describe the
@@ -196,9 +258,33 @@ fn outcome_of(stale: Stale) -> Outcome {
 
 /// What receives an answer with an object that is stale. `None` if out of memory.
 fn given_stale(alloc: Global, stale: Stale) -> Option<oneshot::Receiver<Outcome>> {
-    let (reply, answer) = oneshot::channel(alloc).ok()?;
-    let _ = reply.send(outcome_of(stale));
-    Some(answer)
+    match oneshot::channel(alloc) {
+        Ok((reply, answer)) => {
+            drop(reply.send(outcome_of(stale)));
+            Some(answer)
+        }
+        Err(_) => {
+            drop(stale);
+            None
+        }
+    }
+}
+
+/// A client that waits for its answer, before its fetch has started.
+fn waiting_of(reply: oneshot::Sender<Outcome>, forwarded: Forwarded) -> Waiting {
+    let Forwarded {
+        fields,
+        looped,
+        validates,
+    } = forwarded;
+    Waiting {
+        reply,
+        fields,
+        looped,
+        validates,
+        fetch: None,
+        leads: None,
+    }
 }
 
 /// How a request that is not a hit is forwarded, by its mode and the number of actions it caused: a shared request without an
@@ -223,22 +309,27 @@ impl<R: Wait + Clock + Drop, L: Ledger> NodeFront<R, L> {
     fn expect(
         &self,
         client: u64,
-        fields: Vec<Field>,
-        looped: Option<CacheKey>,
-        validates: bool,
+        forwarded: Forwarded,
     ) -> Result<oneshot::Receiver<Outcome>, AllocError> {
-        let (reply, answer) = oneshot::channel(self.alloc)?;
-        let waiting = Waiting {
-            reply,
-            fields,
-            looped,
-            validates,
-            fetch: None,
-            leads: None,
-        };
+        match oneshot::channel(self.alloc) {
+            Ok((reply, answer)) => match self.add(client, waiting_of(reply, forwarded)) {
+                Ok(()) => Ok(answer),
+                Err(fault) => {
+                    drop(answer);
+                    Err(fault)
+                }
+            },
+            Err(_) => {
+                drop(forwarded);
+                Err(AllocError)
+            }
+        }
+    }
+
+    /// Adds a waiting client.
+    fn add(&self, client: u64, waiting: Waiting) -> Result<(), AllocError> {
         let mut mailbox = self.proxy.mailbox.lock(&self.rt);
-        mailbox.add(self.alloc, client, waiting)?;
-        Ok(answer)
+        mailbox.add(self.alloc, client, waiting)
     }
 
     /// Removes a client and cancels its private fetch.
@@ -278,14 +369,23 @@ impl<R: Wait + Clock + Drop, L: Ledger> NodeFront<R, L> {
     /// stored; a request of the cache's own, whose answer nobody waits for, asks for it. Without a key to sign with it stays.
     fn renew(&mut self, key: CacheKey) {
         let now = now(&self.rt, &self.proxy.timeline);
-        let Ok(event) = self.rules.purger.event(self.alloc, &key, now) else {
-            return;
-        };
-        self.proxy.withdraw(&self.rt, &key);
-        if self.take(event).is_none() {
-            return;
+        match self.rules.purger.event(self.alloc, &key, now) {
+            Ok(event) => self.replace(key, event),
+            Err(fault) => {
+                drop(fault);
+                drop(key);
+            }
         }
-        self.fetch_for_all(key);
+    }
+
+    /// Takes what is stored under a key out by this event, and has it fetched anew for all.
+    fn replace(&mut self, key: CacheKey, event: Event) {
+        self.proxy.withdraw(&self.rt, &key);
+        if self.take(event).is_some() {
+            self.fetch_for_all(key);
+        } else {
+            drop(key);
+        }
     }
 
     /// Fetches what is under a key for all, by a request of the cache's own, whose answer nobody waits for.
@@ -318,10 +418,18 @@ impl<R: Wait + Clock + Drop, L: Ledger> NodeFront<R, L> {
     /// A request that the node has refused since there is no room for a fetch, with what is on the shelf in place of that answer, if it may
     /// be given.
     fn instead(&mut self, asked: &Asked, asking: Asking) -> Asking {
-        let stale = self.stale_instead(asked);
-        match stale.and_then(|stale| given_stale(self.alloc, stale)) {
-            Some(answer) => Asking { answer, ..asking },
-            None => asking,
+        let mut asking = asking;
+        if let Some(answer) = self.answer_instead(asked) {
+            drop(mem::replace(&mut asking.answer, answer));
+        }
+        asking
+    }
+
+    /// What receives the answer with what is on the shelf for a request that the node has refused. `None` also if out of memory.
+    fn answer_instead(&mut self, asked: &Asked) -> Option<oneshot::Receiver<Outcome>> {
+        match self.stale_instead(asked) {
+            Some(stale) => given_stale(self.alloc, stale),
+            None => None,
         }
     }
 
@@ -332,27 +440,53 @@ impl<R: Wait + Clock + Drop, L: Ledger> NodeFront<R, L> {
             return None;
         }
         let occasion = stale_use(&asked.head)?;
-        let key = self.key(asked).ok()?;
-        let found = self.proxy.stale(&self.rt, key.as_slice(), occasion);
-        if found.is_some() {
-            return found;
+        match self.key(asked) {
+            Ok(key) => {
+                let found = self.stale_or_instead(&key, occasion);
+                drop(key);
+                found
+            }
+            Err(_) => None,
         }
-        let occasion = StaleUse::InPlaceOfError;
-        self.proxy.stale(&self.rt, key.as_slice(), occasion)
+    }
+
+    /// What is on the shelf under a key, if it may be given now, or in place of an error.
+    fn stale_or_instead(&self, key: &CacheKey, occasion: StaleUse) -> Option<Stale> {
+        match self.proxy.stale(&self.rt, key.as_slice(), occasion) {
+            Some(found) => Some(found),
+            None => {
+                let occasion = StaleUse::InPlaceOfError;
+                self.proxy.stale(&self.rt, key.as_slice(), occasion)
+            }
+        }
     }
 
     /// The answer to a request that is refused with this status since it wants nothing fetched: what is on the shelf, if the client accepts
     /// that (RFC 9111, sections 5.2.1.2 and 5.2.1.7). Errors: the status, 508 or 403 as `check` says, or 503 if out of memory.
     fn without_fetch(&mut self, asked: &Asked, key: &CacheKey, status: u16) -> Result<Asking, u16> {
-        let stale = self.accepted_stale(asked, key).ok_or(status)?;
-        self.check(asked, key, has_marks(asked))?;
-        let answer = given_stale(self.alloc, stale).ok_or(503u16)?;
-        Ok(Asking {
-            client: self.next_client(),
-            forward: Forward::Miss,
-            began: Instant::now(&self.rt).ok(),
-            answer,
-        })
+        let Some(stale) = self.accepted_stale(asked, key) else {
+            return Err(status);
+        };
+        match self.check(asked, key, has_marks(asked)) {
+            Ok(()) => self.asking_of(stale),
+            Err(status) => {
+                drop(stale);
+                Err(status)
+            }
+        }
+    }
+
+    /// A new client's answer with an object that is stale. Errors: 503, if out of memory.
+    fn asking_of(&mut self, stale: Stale) -> Result<Asking, u16> {
+        match given_stale(self.alloc, stale) {
+            Some(answer) => Ok(Asking {
+                client: self.next_client(),
+                forward: Forward::Miss,
+                began: Instant::now(&self.rt).ok(),
+                answer,
+            }),
+            None => Err(503),
+        }
     }
 
     /// What is on the shelf under a key, if this request would be answered by it were it fresh, and accepts that it is not.
@@ -384,8 +518,8 @@ impl<R: Wait + Clock + Drop, L: Ledger> NodeFront<R, L> {
         let Ok(key) = self.key(asked) else {
             return;
         };
-        let key = key.as_slice();
-        let found = self.proxy.stale(&self.rt, key, occasion);
+        let found = self.proxy.stale(&self.rt, key.as_slice(), occasion);
+        drop(key);
         if let Some(stale) = found {
             let answer = outcome_of(stale);
             self.proxy.mailbox.lock(&self.rt).answer(client, answer);
@@ -438,14 +572,20 @@ impl<R: Wait + Clock + Drop, L: Ledger> NodeFront<R, L> {
     fn counted_mode(&mut self, asked: &Asked, key: &CacheKey) -> Result<Mode, u16> {
         let stored = self.stored_for(asked, key);
         let mode = choose(asked.method.as_str(), &asked.head, stored)?;
-        let is_alone = mode == Mode::Private && stored.is_none();
-        if is_alone
-            && self.is_for_the_whole(asked, key)
-            && let Ok(key) = key.share()
-        {
-            self.fetch_for_all(key);
+        if mode == Mode::Private && stored.is_none() {
+            self.count_part(asked, key);
         }
         Ok(mode)
+    }
+
+    /// Counts a request for this key if it is for a part, and has the whole fetched for all if it is the third.
+    fn count_part(&mut self, asked: &Asked, key: &CacheKey) {
+        if !self.is_for_the_whole(asked, key) {
+            return;
+        }
+        if let Ok(key) = key.share() {
+            self.fetch_for_all(key);
+        }
     }
 
     /// Whether a GET for which nothing is stored and which asks for a part has the whole fetched: it is counted.
@@ -474,15 +614,14 @@ impl<R: Wait + Clock + Drop, L: Ledger> NodeFront<R, L> {
             return None;
         }
         let now = now(&self.rt, &self.proxy.timeline);
-        let found = self.proxy.desk.stored(&self.rt, key.as_slice(), now);
-        let entry = found.unwrap_or(None)?;
-        let object = entry.object.get();
-        let stay = now.millis().saturating_sub(entry.at.millis()) / 1000;
-        let stay = u32::try_from(stay).unwrap_or(u32::MAX);
-        Some(Stored {
-            age: object.age().saturating_add(stay),
-            life: object.life().saturating_sub(stay),
-        })
+        match self.proxy.desk.stored(&self.rt, key.as_slice(), now) {
+            Ok(Some(entry)) => {
+                let stored = stored_in(&entry, now);
+                drop(entry);
+                Some(stored)
+            }
+            Ok(None) | Err(_) => None,
+        }
     }
 
     /// How a request for this key in this mode is taken beside what is being fetched: alone where that was changed meanwhile.
@@ -503,26 +642,53 @@ impl<R: Wait + Clock + Drop, L: Ledger> NodeFront<R, L> {
         is_marked: bool,
     ) -> Result<Asking, u16> {
         let mode = self.mode_beside(mode, &key);
-        let Request {
-            key,
-            fields,
-            looped,
-            validates,
-        } = request_of(self.alloc, asked, key, mode, is_marked)?;
-        self.check(asked, &key, is_marked)?;
+        match self.forwarded(asked, &key, mode, is_marked) {
+            Ok(forwarded) => self.submit(asked, key, mode, is_marked, forwarded),
+            Err(status) => {
+                drop(key);
+                Err(status)
+            }
+        }
+    }
+
+    /// What a fetch for a request forwards, if the request may be taken, as `check` says. Errors: the HTTP status to answer.
+    fn forwarded(
+        &self,
+        asked: &Asked,
+        key: &CacheKey,
+        mode: Mode,
+        is_marked: bool,
+    ) -> Result<Forwarded, u16> {
+        let forwarded = forwarded_of(self.alloc, asked, key, mode, is_marked)?;
+        match self.check(asked, key, is_marked) {
+            Ok(()) => Ok(forwarded),
+            Err(status) => {
+                drop(forwarded);
+                Err(status)
+            }
+        }
+    }
+
+    /// Submits a request that may be taken, as a new client. Errors: 503, if it is refused, or if out of memory.
+    fn submit(
+        &mut self,
+        asked: &Asked,
+        key: CacheKey,
+        mode: Mode,
+        is_marked: bool,
+        forwarded: Forwarded,
+    ) -> Result<Asking, u16> {
         let began = Instant::now(&self.rt).ok();
         let client = self.next_client();
-        let Ok(answer) = self.expect(client, fields, looped, validates) else {
-            return Err(503);
+        let answer = match self.expect(client, forwarded) {
+            Ok(answer) => answer,
+            Err(_) => {
+                drop(key);
+                return Err(503);
+            }
         };
-        let event = Event::Request {
-            client,
-            key,
-            mode,
-            now: now(&self.rt, &self.proxy.timeline),
-        };
-        let Some(taken) = self.take_request(event) else {
-            self.forget(client);
+        let Some(taken) = self.take_new(client, key, mode) else {
+            drop(answer);
             return Err(503);
         };
         let asking = Asking {
@@ -535,6 +701,21 @@ impl<R: Wait + Clock + Drop, L: Ledger> NodeFront<R, L> {
             Mode::Shared if !is_marked => Ok(self.with_stale(asked, taken.given, asking)),
             _ => Ok(asking),
         }
+    }
+
+    /// Submits the event of a new client's request for this key. If it is refused, the client is no longer waiting, and this returns `None`.
+    fn take_new(&mut self, client: u64, key: CacheKey, mode: Mode) -> Option<Taken> {
+        let event = Event::Request {
+            client,
+            key,
+            mode,
+            now: now(&self.rt, &self.proxy.timeline),
+        };
+        let taken = self.take_request(event);
+        if taken.is_none() {
+            self.forget(client);
+        }
+        taken
     }
 }
 
@@ -564,20 +745,8 @@ impl<R: Wait + Clock + Drop, L: Ledger> TakeCalls for NodeFront<R, L> {
 impl<R: Wait + Clock + Drop, L: Ledger> NodeFront<R, L> {
     fn allows(&mut self, address: IpAddr) -> bool {
         match address {
-            IpAddr::V4(address) => {
-                let octets = address.octets();
-                self.rules
-                    .allowed
-                    .iter()
-                    .any(|network| network.contains(octets))
-            }
-            IpAddr::V6(address) => {
-                let number = address.to_bits();
-                self.rules
-                    .allowed_six
-                    .iter()
-                    .any(|network| network.contains(number))
-            }
+            IpAddr::V4(address) => is_in(self.rules.allowed.as_slice(), address.octets()),
+            IpAddr::V6(address) => is_in_six(self.rules.allowed_six.as_slice(), address.to_bits()),
         }
     }
 
@@ -588,14 +757,22 @@ impl<R: Wait + Clock + Drop, L: Ledger> NodeFront<R, L> {
         }
         let published = self.published_mode(asked)?;
         let key = self.key(asked)?;
-        let mode = match published {
-            Some(mode) => mode,
-            None => match self.counted_mode(asked, &key) {
-                Ok(mode) => mode,
-                Err(status) => return self.without_fetch(asked, &key, status),
-            },
-        };
-        self.request(asked, key, mode, has_marks(asked))
+        match published {
+            Some(mode) => self.request(asked, key, mode, has_marks(asked)),
+            None => self.ask_fresh(asked, key),
+        }
+    }
+
+    /// Accepts a request for this key by RFC 9111.
+    fn ask_fresh(&mut self, asked: &Asked, key: CacheKey) -> Result<Asking, u16> {
+        match self.counted_mode(asked, &key) {
+            Ok(mode) => self.request(asked, key, mode, has_marks(asked)),
+            Err(status) => {
+                let asking = self.without_fetch(asked, &key, status);
+                drop(key);
+                asking
+            }
+        }
     }
 
     fn ask_alone(&mut self, asked: &Asked) -> Result<Asking, u16> {
@@ -606,7 +783,10 @@ impl<R: Wait + Clock + Drop, L: Ledger> NodeFront<R, L> {
     fn shape(&mut self, asked: &Asked, object: &Object) -> Shape {
         match self.proxy.profile {
             Profile::Published => Shape::Whole,
-            Profile::Rfc9111(_) => shape_of(self.alloc, asked, object).unwrap_or(Shape::Whole),
+            Profile::Rfc9111(_) => match shape_of(self.alloc, asked, object) {
+                Ok(shape) => shape,
+                Err(_) => Shape::Whole,
+            },
         }
     }
 
@@ -644,6 +824,37 @@ impl<R: Wait + Clock + Drop, L: Ledger> NodeFront<R, L> {
     }
 }
 
+/// The age and the life that the object of an entry has left now.
+fn stored_in(entry: &Entry, now: Moment) -> Stored {
+    let object = entry.object.get();
+    let stay = now.millis().saturating_sub(entry.at.millis()) / 1000;
+    let stay = u32::try_from(stay).unwrap_or(u32::MAX);
+    Stored {
+        age: object.age().saturating_add(stay),
+        life: object.life().saturating_sub(stay),
+    }
+}
+
+/// Whether an address is in one of these networks.
+fn is_in(networks: &[Network], octets: [u8; 4]) -> bool {
+    for network in networks {
+        if network.contains(octets) {
+            return true;
+        }
+    }
+    false
+}
+
+/// Whether an address of IPv6 is in one of these networks.
+fn is_in_six(networks: &[SixNetwork], number: u128) -> bool {
+    for network in networks {
+        if network.contains(number) {
+            return true;
+        }
+    }
+    false
+}
+
 /// What of an object its request is answered with by RFC 9110: all of one that is not stored (RFC 9111, section 4.3.2), and all where
 /// the request is plain. Errors: out of memory.
 fn shape_of(alloc: Global, asked: &Asked, object: &Object) -> Result<Shape, AllocError> {
@@ -669,23 +880,43 @@ fn shape_of(alloc: Global, asked: &Asked, object: &Object) -> Result<Shape, Allo
 
 /// Whether an object with status 200 says that it is a part or parts of another one (RFC 9110, sections 14.4 and 14.6), as it should not.
 fn is_part(fields: &[Field]) -> bool {
-    fields.iter().any(|(name, value)| {
-        let (name, value) = (name.as_slice(), value.as_slice());
-        name == b"content-range".as_slice()
-            || (name == b"content-type".as_slice() && value.starts_with(b"multipart/byteranges"))
-    })
+    for (name, value) in fields {
+        let is_saying = match name.as_slice() {
+            b"content-range" => true,
+            b"content-type" => value.as_slice().starts_with(b"multipart/byteranges"),
+            _ => false,
+        };
+        if is_saying {
+            return true;
+        }
+    }
+    false
 }
 
 /// The fields of an object that a 304 has (RFC 9110, section 15.4.5). Errors: out of memory.
 fn validators_of(alloc: Global, fields: &[(Vec<u8>, Vec<u8>)]) -> Result<Vec<Field>, AllocError> {
     let mut kept = Vec::new(alloc);
-    for (name, value) in fields {
-        if is_in_not_modified(name.as_slice()) {
-            let (name, value) = (name.as_slice(), value.as_slice());
-            kept.push((name.to_vec(alloc)?, value.to_vec(alloc)?))?;
+    match add_validators(alloc, &mut kept, fields) {
+        Ok(()) => Ok(kept),
+        Err(fault) => {
+            drop(kept);
+            Err(fault)
         }
     }
-    Ok(kept)
+}
+
+/// Adds the fields that a 304 has.
+fn add_validators(
+    alloc: Global,
+    kept: &mut Vec<Field>,
+    fields: &[Field],
+) -> Result<(), AllocError> {
+    for (name, value) in fields {
+        if is_in_not_modified(name.as_slice()) {
+            add_field(alloc, kept, name.as_slice(), value.as_slice())?;
+        }
+    }
+    Ok(())
 }
 
 /// How a request was answered. It was by the proxy itself where nothing was fetched for it: what is not stored and was to come from

@@ -21,11 +21,13 @@ use std::time::{Clock, Instant};
 /// How many pieces of an answer that is passed on wait for its client.
 const PIECES: usize = 2;
 
-/// The fields of a request that is passed on. Errors: 501 for one whose last recipient this cache is (RFC 9110, section 7.6.2).
-fn fields_of(onward: Onward) -> Result<Vec<Field>, u16> {
-    match onward {
-        Onward::Pass(fields) => Ok(fields),
-        Onward::Last => Err(501),
+/// The fields of a request that is passed on. Errors: 501 for one whose last recipient this cache is (RFC 9110, section 7.6.2), 400 or
+/// 503 as `status_of` says.
+fn end_to_end_fields(alloc: Global, asked: &Asked) -> Result<Vec<Field>, u16> {
+    match onward(alloc, asked.method.as_str(), &asked.head) {
+        Ok(Onward::Pass(fields)) => Ok(fields),
+        Ok(Onward::Last) => Err(501),
+        Err(fault) => Err(status_of(fault)),
     }
 }
 
@@ -62,18 +64,54 @@ impl Lines {
     /// Errors: out of memory.
     fn new<R: Clock>(rt: &R, alloc: Global, asked: &Asked) -> Result<Lines, AllocError> {
         let method = String::from_str(alloc, asked.method.as_str())?;
-        let (head, heard) = oneshot::channel(alloc)?;
-        let (pieces, coming) = mpsc::channel(alloc, PIECES)?;
-        Ok(Lines {
-            method,
+        match open_ends(alloc) {
+            Ok(Ends {
+                head,
+                heard,
+                pieces,
+                coming,
+            }) => Ok(Lines {
+                method,
+                head,
+                pieces,
+                passing: Passing {
+                    head: heard,
+                    pieces: coming,
+                    began: Instant::now(rt).ok(),
+                },
+            }),
+            Err(fault) => {
+                drop(method);
+                Err(fault)
+            }
+        }
+    }
+}
+
+/// Both ends of what an answer comes over that is passed on.
+#[derive(Drop)]
+struct Ends {
+    head: oneshot::Sender<Result<PassedHead, PassFault>>,
+    heard: oneshot::Receiver<Result<PassedHead, PassFault>>,
+    pieces: mpsc::Sender<Piece>,
+    coming: mpsc::Receiver<Piece>,
+}
+
+/// Errors: out of memory.
+fn open_ends(alloc: Global) -> Result<Ends, AllocError> {
+    let (head, heard) = oneshot::channel(alloc)?;
+    match mpsc::channel(alloc, PIECES) {
+        Ok((pieces, coming)) => Ok(Ends {
             head,
+            heard,
             pieces,
-            passing: Passing {
-                head: heard,
-                pieces: coming,
-                began: Instant::now(rt).ok(),
-            },
-        })
+            coming,
+        }),
+        Err(_) => {
+            drop(head);
+            drop(heard);
+            Err(AllocError)
+        }
     }
 }
 
@@ -110,13 +148,20 @@ impl<R: Wait + Clock + Drop, L: Ledger> NodeFront<R, L> {
             return Ok(false);
         }
         let key = self.key(asked)?;
-        if !self.proxy.passes.is_large(&self.rt, &key) {
+        let is_beside = self.is_large_and_unstored(asked, &key);
+        drop(key);
+        is_beside
+    }
+
+    // Whether a GET is passed on whose answer is known to be too long to be stored, and which nothing stored answers.
+    fn is_large_and_unstored(&self, asked: &Asked, key: &CacheKey) -> Result<bool, u16> {
+        if !self.proxy.passes.is_large(&self.rt, key) {
             return Ok(false);
         }
-        match self.mode(asked, &key)? {
+        match self.mode(asked, key)? {
             Mode::Cached => Ok(false),
             Mode::Private => Ok(true),
-            Mode::Shared => Ok(!self.is_stored(&key)),
+            Mode::Shared => Ok(!self.is_stored(key)),
         }
     }
 
@@ -133,7 +178,9 @@ impl<R: Wait + Clock + Drop, L: Ledger> NodeFront<R, L> {
             return Ok(false);
         }
         let key = self.key(asked)?;
-        match self.mode(asked, &key) {
+        let mode = self.mode(asked, &key);
+        drop(key);
+        match mode {
             Ok(_) => Ok(false),
             Err(501) => Ok(true),
             Err(status) => Err(status),
@@ -142,47 +189,89 @@ impl<R: Wait + Clock + Drop, L: Ledger> NodeFront<R, L> {
 
     /// Passes on a request, which is without its content here. Errors: the status to answer.
     pub(crate) fn pass(&mut self, asked: &Asked, content: Option<Coming>) -> Result<Passing, u16> {
-        let way = self.way_of(asked)?;
-        let _ = self.next_client();
-        self.send_on(asked, content, way).map_err(|_| 503u16)
+        match self.way_of(asked) {
+            Ok(way) => {
+                let _ = self.next_client();
+                self.pass_by(asked, content, way)
+            }
+            Err(status) => {
+                drop(content);
+                Err(status)
+            }
+        }
+    }
+
+    // Passes on a request in this way. Errors: 503, if it was not taken, or if out of memory.
+    fn pass_by(&self, asked: &Asked, content: Option<Coming>, way: Way) -> Result<Passing, u16> {
+        match Lines::new(&self.rt, self.alloc, asked) {
+            Ok(lines) => self.send_on(content, way, lines),
+            Err(_) => {
+                drop(content);
+                drop(way);
+                Err(503)
+            }
+        }
     }
 
     // How a request is passed on. Errors: the status to answer.
     fn way_of(&mut self, asked: &Asked) -> Result<Way, u16> {
         let key = self.key(asked)?;
-        self.check(asked, &key, true)?;
+        let way = self.way_under(asked, &key);
+        drop(key);
+        way
+    }
+
+    // How a request for this key is passed on. Errors: the status to answer.
+    fn way_under(&self, asked: &Asked, key: &CacheKey) -> Result<Way, u16> {
+        self.check(asked, key, true)?;
         let fields = self.onward_fields(asked)?;
+        match self.road_on(key) {
+            Some((onwards, ticket)) => Ok(Way {
+                fields,
+                onwards,
+                ticket,
+            }),
+            None => {
+                drop(fields);
+                Err(503)
+            }
+        }
+    }
+
+    // Where a request for this key goes that is passed on, and its ticket. `None` if there is nobody to pass it on to, if there are too
+    // many, or if out of memory.
+    fn road_on(&self, key: &CacheKey) -> Option<(Onwards, Ticket)> {
         let passes = &self.proxy.passes;
-        Ok(Way {
-            fields,
-            onwards: passes.onwards(self.alloc, &key).ok_or(503u16)?,
-            ticket: passes.streams.take().ok_or(503u16)?,
-        })
+        let onwards = passes.onwards(self.alloc, key)?;
+        match passes.streams.take() {
+            Some(ticket) => Some((onwards, ticket)),
+            None => {
+                drop(onwards);
+                None
+            }
+        }
     }
 
     // The fields of a request that is passed on, with the marks of this cache. Errors: the status to answer.
     fn onward_fields(&self, asked: &Asked) -> Result<Vec<Field>, u16> {
-        let onward = onward(self.alloc, asked.method.as_str(), &asked.head).map_err(status_of)?;
-        let mut fields = fields_of(onward)?;
+        let mut fields = end_to_end_fields(self.alloc, asked)?;
         match self.proxy.add_marks(self.alloc, &mut fields) {
             Ok(()) => Ok(fields),
-            Err(_) => Err(503),
+            Err(_) => {
+                drop(fields);
+                Err(503)
+            }
         }
     }
 
-    // Hands a request to a fetch thread. Errors: it was not taken, or out of memory.
-    fn send_on(
-        &self,
-        asked: &Asked,
-        content: Option<Coming>,
-        way: Way,
-    ) -> Result<Passing, AllocError> {
+    // Hands a request to a fetch thread. Errors: 503, if it was not taken, or if out of memory.
+    fn send_on(&self, content: Option<Coming>, way: Way, lines: Lines) -> Result<Passing, u16> {
         let Lines {
             method,
             head,
             pieces,
             passing,
-        } = Lines::new(&self.rt, self.alloc, asked)?;
+        } = lines;
         let Way {
             fields,
             onwards,
@@ -210,12 +299,23 @@ impl<R: Wait + Clock + Drop, L: Ledger> NodeFront<R, L> {
             pieces,
             ticket,
         };
+        let sent = self.send_to(name.as_str(), port, passage);
+        drop(name);
+        match sent {
+            Ok(()) => Ok(passing),
+            Err(_) => {
+                drop(passing);
+                Err(503)
+            }
+        }
+    }
+
+    // Hands what is passed on to a fetch thread, for the server of this name. Errors: it was not taken, or out of memory.
+    fn send_to(&self, name: &str, port: u16, passage: Passage) -> Result<(), AllocError> {
         // The count of this thread's clients, by which they take turns at the fetch threads.
         let count = self.last.checked_div(self.step).unwrap_or(0);
-        let name = name.as_str();
-        self.proxy
-            .pass_on(&self.rt, self.alloc, count, name, port, passage)?;
-        Ok(passing)
+        let (rt, alloc) = (&self.rt, self.alloc);
+        self.proxy.pass_on(rt, alloc, count, name, port, passage)
     }
 
     /// Takes out of the store what a request has changed whose answer has this head. Where memory is short, it stays there until it is
@@ -225,21 +325,33 @@ impl<R: Wait + Clock + Drop, L: Ledger> NodeFront<R, L> {
             return;
         };
         let method = asked.method.as_str();
-        if let Ok(changed) = changed_keys(self.alloc, &key, method, status, head) {
-            for key in &changed {
-                self.clear(key);
-            }
+        let changed = changed_keys(self.alloc, &key, method, status, head);
+        drop(key);
+        if let Ok(changed) = changed {
+            self.clear_all(changed.as_slice());
+            drop(changed);
+        }
+    }
+
+    // Takes what is stored under each of these keys out of the store and off the shelf.
+    fn clear_all(&self, changed: &[CacheKey]) {
+        for key in changed {
+            self.clear(key);
         }
     }
 
     /// Takes out of the store what a request may have changed that has no answer of its server: its client has left before, or the server
     /// was lost. Nobody knows then whether the server has carried it out.
     pub(crate) fn clear_unanswered(&mut self, told: &Told<'_>) {
-        if let Some(asked) = told.asked
-            && is_unsafe(asked.method.as_str())
-            && let Ok(key) = self.key(asked)
-        {
+        let Some(asked) = told.asked else {
+            return;
+        };
+        if !is_unsafe(asked.method.as_str()) {
+            return;
+        }
+        if let Ok(key) = self.key(asked) {
             self.clear(&key);
+            drop(key);
         }
     }
 
@@ -247,8 +359,11 @@ impl<R: Wait + Clock + Drop, L: Ledger> NodeFront<R, L> {
     fn clear(&self, key: &CacheKey) {
         self.proxy.withdraw(&self.rt, key);
         let now = now(&self.rt, &self.proxy.timeline);
-        if let Ok(event) = self.rules.purger.event(self.alloc, key, now) {
-            let _ = self.take(event);
+        match self.rules.purger.event(self.alloc, key, now) {
+            Ok(event) => {
+                let _ = self.take(event);
+            }
+            Err(fault) => drop(fault),
         }
     }
 
@@ -257,8 +372,10 @@ impl<R: Wait + Clock + Drop, L: Ledger> NodeFront<R, L> {
     pub(crate) fn lead(&self, asked: &Asked) -> Result<TunnelEnd, u16> {
         let authority = self.authority(asked).ok_or(400u16)?;
         self.check_end(asked, authority)?;
-        let ticket = self.proxy.passes.tunnels.take().ok_or(503u16)?;
-        self.end_of(asked, authority, ticket).ok_or(503)
+        match self.proxy.passes.tunnels.take() {
+            Some(ticket) => self.end_of(asked, authority, ticket),
+            None => Err(503),
+        }
     }
 
     // The end of a tunnel that a request names, where servers are connected to at addresses of IPv6 also such an address.
@@ -286,25 +403,50 @@ impl<R: Wait + Clock + Drop, L: Ledger> NodeFront<R, L> {
         }
     }
 
-    // The end of a tunnel: the server itself, or the parent. `None` if there is neither, or if out of memory.
-    fn end_of(&self, asked: &Asked, authority: Authority<'_>, ticket: Ticket) -> Option<TunnelEnd> {
+    // The end of a tunnel with this ticket. Errors: 503 if there is none, or if out of memory.
+    fn end_of(
+        &self,
+        asked: &Asked,
+        authority: Authority<'_>,
+        ticket: Ticket,
+    ) -> Result<TunnelEnd, u16> {
         let passes = &self.proxy.passes;
-        let (server, greeting) = if passes.is_direct {
+        match self.next_hop(asked, authority) {
+            Some((server, greeting)) => Ok(TunnelEnd {
+                server,
+                greeting,
+                is_origin: passes.is_direct,
+                still: passes.tunnel_still,
+                connecting: passes.connecting,
+                ticket,
+            }),
+            None => {
+                drop(ticket);
+                Err(503)
+            }
+        }
+    }
+
+    // What a tunnel is connected to, the server itself, or the parent with what it is asked. `None` if there is neither, or if out of
+    // memory.
+    fn next_hop(
+        &self,
+        asked: &Asked,
+        authority: Authority<'_>,
+    ) -> Option<(Server, Option<Vec<u8>>)> {
+        if self.proxy.passes.is_direct {
             let Authority { host, port } = authority;
             let server = self.proxy.server_of(&self.rt, self.alloc, host, port)?;
-            (server, None)
-        } else {
-            let greeting = self.greeting(asked, authority).ok()?;
-            (self.parent()?, Some(greeting))
-        };
-        Some(TunnelEnd {
-            server,
-            greeting,
-            is_origin: passes.is_direct,
-            still: passes.tunnel_still,
-            connecting: passes.connecting,
-            ticket,
-        })
+            return Some((server, None));
+        }
+        let server = self.parent()?;
+        match self.greeting(asked, authority) {
+            Ok(greeting) => Some((server, Some(greeting))),
+            Err(_) => {
+                drop(server);
+                None
+            }
+        }
     }
 
     // The HTTP server of the first parent, if there is one.
@@ -319,19 +461,56 @@ impl<R: Wait + Clock + Drop, L: Ledger> NodeFront<R, L> {
     fn greeting(&self, asked: &Asked, authority: Authority<'_>) -> Result<Vec<u8>, AllocError> {
         let alloc = self.alloc;
         let Authority { host, port } = authority;
-        let mut fields = Vec::new(alloc);
-        add_values(alloc, &mut fields, asked, "cdn-loop")?;
-        add_values(alloc, &mut fields, asked, "via")?;
-        self.proxy.add_marks(alloc, &mut fields)?;
-        let line = format!(in alloc; "CONNECT {host}:{port} HTTP/1.1\r\nhost: {host}:{port}\r\n")?;
-        let mut head = line.into_bytes();
-        for (name, value) in &fields {
-            head.extend_from_slice(name.as_slice())?;
-            head.extend_from_slice(b": ")?;
-            head.extend_from_slice(value.as_slice())?;
-            head.extend_from_slice(b"\r\n")?;
-        }
-        head.extend_from_slice(b"\r\n")?;
-        Ok(head)
+        let fields = self.greeting_fields(asked)?;
+        let head = connect_head(alloc, host, port, fields.as_slice());
+        drop(fields);
+        head
     }
+
+    // The fields of that request.
+    fn greeting_fields(&self, asked: &Asked) -> Result<Vec<Field>, AllocError> {
+        let mut fields = Vec::new(self.alloc);
+        match self.add_greeting_fields(asked, &mut fields) {
+            Ok(()) => Ok(fields),
+            Err(fault) => {
+                drop(fields);
+                Err(fault)
+            }
+        }
+    }
+
+    fn add_greeting_fields(
+        &self,
+        asked: &Asked,
+        fields: &mut Vec<Field>,
+    ) -> Result<(), AllocError> {
+        add_values(self.alloc, fields, asked, "cdn-loop")?;
+        add_values(self.alloc, fields, asked, "via")?;
+        self.proxy.add_marks(self.alloc, fields)
+    }
+}
+
+/// The head of a request for a tunnel to this host and port. Errors: out of memory.
+fn connect_head(
+    alloc: Global,
+    host: &str,
+    port: u16,
+    fields: &[Field],
+) -> Result<Vec<u8>, AllocError> {
+    let line = format!(in alloc; "CONNECT {host}:{port} HTTP/1.1\r\nhost: {host}:{port}\r\n")?;
+    let mut head = line.into_bytes();
+    for field in fields {
+        add_line(&mut head, field)?;
+    }
+    head.extend_from_slice(b"\r\n")?;
+    Ok(head)
+}
+
+/// Adds the line of a field to a head.
+fn add_line(head: &mut Vec<u8>, field: &Field) -> Result<(), AllocError> {
+    let (name, value) = field;
+    head.extend_from_slice(name.as_slice())?;
+    head.extend_from_slice(b": ")?;
+    head.extend_from_slice(value.as_slice())?;
+    head.extend_from_slice(b"\r\n")
 }

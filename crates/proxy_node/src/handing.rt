@@ -68,17 +68,20 @@ pub struct Handed<T> {
 impl<T: TakeCalls> Handed<T> {
     // A call that returns whether something is so.
     fn whether(&mut self, call: Call<'_>) -> bool {
-        match self.to.take_call(call) {
-            Returned::Whether(whether) => whether,
-            _ => false,
-        }
+        let returned = self.to.take_call(call);
+        let whether = matches!(&returned, Returned::Whether(true));
+        drop(returned);
+        whether
     }
 
     // A call that accepts a request.
     fn asking(&mut self, call: Call<'_>) -> Result<Asking, u16> {
         match self.to.take_call(call) {
             Returned::Asking(asking) => asking,
-            _ => Err(503),
+            other => {
+                drop(other);
+                Err(503)
+            }
         }
     }
 }
@@ -89,10 +92,13 @@ impl<T: TakeCalls> Front for Handed<T> {
     }
 
     fn road(&mut self, method: &str) -> Road {
-        match self.to.take_call(Call::Road(method)) {
-            Returned::Road(road) => road,
+        let returned = self.to.take_call(Call::Road(method));
+        let road = match &returned {
+            Returned::Road(road) => *road,
             _ => Road::Refused,
-        }
+        };
+        drop(returned);
+        road
     }
 
     fn ask(&mut self, asked: &Asked) -> Result<Asking, u16> {
@@ -108,20 +114,23 @@ impl<T: TakeCalls> FollowUp for Handed<T> {
     fn shape(&mut self, asked: &Asked, object: &Object) -> Shape {
         match self.to.take_call(Call::Shape(asked, object)) {
             Returned::Shape(shape) => shape,
-            _ => Shape::Whole,
+            other => {
+                drop(other);
+                Shape::Whole
+            }
         }
     }
 
     fn gone(&mut self, client: u64) {
-        let _ = self.to.take_call(Call::Gone(client));
+        drop(self.to.take_call(Call::Gone(client)));
     }
 
     fn answered(&mut self) {
-        let _ = self.to.take_call(Call::Answered);
+        drop(self.to.take_call(Call::Answered));
     }
 
     fn tell(&mut self, told: &Told<'_>) {
-        let _ = self.to.take_call(Call::Tell(told));
+        drop(self.to.take_call(Call::Tell(told)));
     }
 }
 
@@ -137,18 +146,24 @@ impl<T: TakeCalls> PassOn for Handed<T> {
     fn pass_on(&mut self, asked: &Asked, content: Option<Coming>) -> Result<Passing, u16> {
         match self.to.take_call(Call::PassOn(asked, content)) {
             Returned::Passing(passing) => passing,
-            _ => Err(501),
+            other => {
+                drop(other);
+                Err(501)
+            }
         }
     }
 
     fn passed(&mut self, asked: &Asked, status: u16, head: &HeaderMap) {
-        let _ = self.to.take_call(Call::Passed(asked, status, head));
+        drop(self.to.take_call(Call::Passed(asked, status, head)));
     }
 
     fn tunnel(&mut self, asked: &Asked) -> Result<TunnelEnd, u16> {
         match self.to.take_call(Call::Tunnel(asked)) {
             Returned::Tunnel(tunnel) => tunnel,
-            _ => Err(501),
+            other => {
+                drop(other);
+                Err(501)
+            }
         }
     }
 

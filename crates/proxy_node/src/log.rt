@@ -9,10 +9,19 @@ use std::sync::Wait;
 use std::time::Clock;
 
 /// The access log: where lines go, and their form.
-#[derive(Drop)]
 pub struct AccessLog {
     pub desk: LogDesk,
     pub form: Form,
+}
+
+// Written by hand, so that what lets it go is one call for the prover (docs/GATE.md).
+impl Drop for AccessLog {
+    fn drop(self) {
+        let Self {
+            desk: _desk,
+            form: _form,
+        } = self;
+    }
 }
 
 impl AccessLog {
@@ -52,7 +61,10 @@ fn entry_of<'a>(told: &Told<'a>, how: How, millis: u64, taken: u64) -> Entry<'a>
         octets: told.octets,
         taken,
         course: course_of(how),
-        supplier: told.supplier.map(supplier_of),
+        supplier: match told.supplier {
+            Some(supplier) => Some(supplier_of(supplier)),
+            None => None,
+        },
         is_whole: told.is_whole,
     }
 }
@@ -77,7 +89,10 @@ fn supplier_of(supplier: traffic::Supplier) -> Supplier {
 
 // The value of a request's field; empty where there is none.
 fn field_of<'a>(asked: Option<&'a Asked>, name: &str) -> &'a [u8] {
-    match asked.and_then(|asked| asked.head.get(name)) {
+    let Some(asked) = asked else {
+        return b"";
+    };
+    match asked.head.get(name) {
         Some(value) => value.as_bytes(),
         None => b"",
     }

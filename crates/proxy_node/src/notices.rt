@@ -15,11 +15,20 @@ const NOTICES_A_SECOND: u32 = 20;
 const URL_OCTETS: usize = 1_024;
 
 /// Where notices go.
-#[derive(Drop)]
 pub struct Notices {
     desk: LogDesk,
     // Locked to count one notice.
     pace: Mutex<Pace>,
+}
+
+// Written by hand, so that what lets it go is one call for the prover (docs/GATE.md).
+impl Drop for Notices {
+    fn drop(self) {
+        let Self {
+            desk: _desk,
+            pace: _pace,
+        } = self;
+    }
 }
 
 impl Notices {

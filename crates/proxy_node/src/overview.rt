@@ -13,7 +13,9 @@ use std::sync::Wait;
 use std::sync::atomic::Ordering;
 use std::sync::ledger::Ledger;
 use std::time::{Clock, Instant};
-use traffic_figures::{LogLines, NeighbourFigures, NeighbourState, Page, SocketFigures, Sockets};
+use traffic_figures::{
+    LogLines, NeighbourFigures, NeighbourState, Page, Snapshot, SocketFigures, Sockets,
+};
 
 /// The octets of a page of memory, as the system's counts of them have it.
 const PAGE_OCTETS: u64 = 4096;
@@ -24,22 +26,61 @@ pub fn page_of<R: Wait + Clock + Files + AllocGlobal, L: Ledger>(
     alloc: Global,
     proxy: &ProxyState<L>,
 ) -> Result<Page, AllocError> {
+    let process = Process {
+        resident: resident_octets(rt),
+        open_files: open_files(rt),
+    };
+    page_with(rt, alloc, proxy, process)
+}
+
+/// What the system says of this process.
+#[derive(Clone, Copy)]
+struct Process {
+    resident: Option<u64>,
+    open_files: Option<u64>,
+}
+
+// What there is to show now, with what the system says of this process. Errors: out of memory.
+fn page_with<R: Wait + Clock, L: Ledger>(
+    rt: &R,
+    alloc: Global,
+    proxy: &ProxyState<L>,
+    process: Process,
+) -> Result<Page, AllocError> {
+    let figures = proxy.figures.snapshot(alloc)?;
+    match neighbours_of(rt, alloc, proxy) {
+        Ok(neighbours) => Ok(gathered(rt, proxy, process, figures, neighbours)),
+        Err(fault) => {
+            drop(figures);
+            Err(fault)
+        }
+    }
+}
+
+// What there is to show now beside what memory was needed for.
+fn gathered<R: Wait + Clock, L: Ledger>(
+    rt: &R,
+    proxy: &ProxyState<L>,
+    process: Process,
+    figures: Snapshot,
+    neighbours: Vec<NeighbourFigures>,
+) -> Page {
     let uptime = uptime_of(rt, proxy.started);
     let stats = proxy.desk.stats(rt);
     let sizes = proxy.desk.sizes(rt);
     let (waiting, fetching) = waiting_in(rt, proxy);
-    Ok(Page {
-        figures: proxy.figures.snapshot(alloc)?,
+    Page {
+        figures,
         version: proxy.version,
         uptime,
         started: date_seconds(rt).checked_sub(uptime),
-        resident: resident_octets(rt),
-        open_files: open_files(rt),
+        resident: process.resident,
+        open_files: process.open_files,
         sockets: Some(Sockets {
             icp: socket_figures(stats.icp),
             htcp: socket_figures(stats.htcp),
         }),
-        neighbours: neighbours_of(rt, alloc, proxy)?,
+        neighbours,
         connections: Some(proxy.connections.load(Ordering::SeqCst) as u64),
         fetching: Some(fetching),
         waiting: Some(waiting),
@@ -51,8 +92,8 @@ pub fn page_of<R: Wait + Clock + Files + AllocGlobal, L: Ledger>(
         swaps: Some(proxy.desk.swaps()),
         book: Some(sizes.base),
         events: Some(sizes.events),
-        log: proxy.log.as_ref().map(log_lines),
-    })
+        log: log_lines(proxy.log.as_ref()),
+    }
 }
 
 // How many requests are being passed on. `None` if none ever are.
@@ -93,7 +134,14 @@ fn waiting_in<R: Wait, L: Ledger>(rt: &R, proxy: &ProxyState<L>) -> (u64, u64) {
 // The octets of memory that are resident, by the second number of Linux's /proc/self/statm. `None` if it can't be read.
 fn resident_octets<R: Files + AllocGlobal>(rt: &R) -> Option<u64> {
     let text = fs::read(rt, "/proc/self/statm").ok()?;
-    let text = str::from_utf8(text.as_slice()).ok()?;
+    let resident = resident_in(text.as_slice());
+    drop(text);
+    resident
+}
+
+// The octets of memory that are resident, by the second number of this text.
+fn resident_in(text: &[u8]) -> Option<u64> {
+    let text = str::from_utf8(text).ok()?;
     let pages: u64 = text.split(' ').nth(1)?.parse().ok()?;
     pages.checked_mul(PAGE_OCTETS)
 }
@@ -102,6 +150,13 @@ fn resident_octets<R: Files + AllocGlobal>(rt: &R) -> Option<u64> {
 // be read.
 fn open_files<R: Files>(rt: &R) -> Option<u64> {
     let mut listing = rt.open_dir("/proc/self/fd/").ok()?;
+    let names = names_in(&mut listing);
+    drop(listing);
+    names?.checked_sub(3)
+}
+
+// How many names there are in a listing. `None` if it can't be read.
+fn names_in<D: Read>(listing: &mut D) -> Option<u64> {
     let mut piece = [0; 4096];
     let mut names: u64 = 0;
     for _ in 0..u64::MAX {
@@ -111,12 +166,18 @@ fn open_files<R: Files>(rt: &R) -> Option<u64> {
         }
         names = names.saturating_add(ends_in(&piece[..count]));
     }
-    names.checked_sub(3)
+    Some(names)
 }
 
 // How many names end in these octets of a listing: each ends with a NUL.
 fn ends_in(piece: &[u8]) -> u64 {
-    piece.iter().filter(|octet| **octet == 0).count() as u64
+    let mut ends: u64 = 0;
+    for octet in piece {
+        if *octet == 0 {
+            ends = ends.saturating_add(1);
+        }
+    }
+    ends
 }
 
 fn socket_figures(counters: Counters) -> SocketFigures {
@@ -134,12 +195,13 @@ fn socket_figures(counters: Counters) -> SocketFigures {
     }
 }
 
-fn log_lines(log: &AccessLog) -> LogLines {
-    let counts = log.desk.counts();
-    LogLines {
+// The lines of the access log, if there is one.
+fn log_lines(log: Option<&AccessLog>) -> Option<LogLines> {
+    let counts = log?.desk.counts();
+    Some(LogLines {
         written: counts.written,
         lost: counts.lost,
-    }
+    })
 }
 
 // What is known of each neighbour, in the order of the configuration. Errors: out of memory.
@@ -163,7 +225,10 @@ fn neighbour_of(view: &NeighbourView) -> NeighbourFigures {
         state: Some(NeighbourState {
             is_up: view.is_up,
             // (its unit is an eighth of a millisecond)
-            micros: view.time.map(|eighths| u64::from(eighths) * 125),
+            micros: match view.time {
+                Some(eighths) => Some(u64::from(eighths) * 125),
+                None => None,
+            },
             misses: u64::from(view.misses),
             outstanding: None,
         }),

@@ -8,11 +8,12 @@ use bpf_asm::to_text;
 use bpf_check::Checked;
 use capture_tap::{CaptureLimits, QUERY_LINE, TapFault};
 use filter_files::{FilesFault, Filter, read_filters};
-use filter_slots::{Moment, Slot};
+use filter_slots::{Moment, Slot, Slots};
 use filter_text::{ProgramFault, read_program};
 use futures::channel::mpsc;
 use http_rules::{is_administrator, is_authorized};
 use http_traffic::{Asked, CaptureFault, Figures, Panel, PutFault, StoreFault, StoreOrder};
+use node_book::{Desk, NeighbourView};
 use node_core::Event;
 use node_figures::{neighbour_figures_text, neighbours_text, stats_text, store_text, stored_text};
 use object_store::{CacheKey, Entry};
@@ -23,8 +24,8 @@ use std::sync::atomic::Ordering;
 use std::sync::ledger::Ledger;
 use std::sync::{Arc, Mutex, Wait};
 use std::time::{Clock, Duration};
-use std::{io, mem, thread};
-use traffic_figures::{Page, clients_text, metrics_text};
+use std::{io, thread};
+use traffic_figures::{NeighbourCounts, Page, clients_text, metrics_text};
 
 /// Installs and removes filters, reads counters, and begins captures. Owned by the administration thread, the only one that swaps filters.
 #[derive(Drop)]
@@ -54,6 +55,31 @@ impl<R: Wait + Clock + Files + AllocGlobal + Drop, L: Ledger> NodePanel<R, L> {
         server.serve(self)
     }
 
+    // All that the texts of figures show.
+    fn page(&self) -> Result<Page, AllocError> {
+        let node = self.node.lock(&self.rt);
+        page_of(&self.rt, self.alloc, node.proxy())
+    }
+
+    // The counters of answers and fetches, as JSON.
+    fn client_figures(&self) -> Result<Vec<u8>, AllocError> {
+        let page = self.page()?;
+        let text = clients_text(self.alloc, &page);
+        drop(page);
+        text
+    }
+
+    // All figures, as metrics.
+    fn metrics(&self) -> Result<Vec<u8>, AllocError> {
+        let page = self.page()?;
+        let text = metrics_text(self.alloc, &page);
+        drop(page);
+        text
+    }
+}
+
+// What opens no file has no bounds for that: the prover lays them out anew for each function.
+impl<R: Wait + Clock + Drop, L: Ledger> NodePanel<R, L> {
     // The port that administration is served on.
     fn port(&self) -> u16 {
         let node = self.node.lock(&self.rt);
@@ -71,14 +97,28 @@ impl<R: Wait + Clock + Files + AllocGlobal + Drop, L: Ledger> NodePanel<R, L> {
     // Installs a filter; where memory is short, it is tried again for some seconds.
     fn swap_at_last(&mut self, slot: Slot, program: &Arc<Checked>) -> Result<(), AllocError> {
         for _ in 0..RETRIES {
-            if let Ok(program) = Arc::try_clone(program)
-                && self.swap(slot, Some(program)).is_ok()
-            {
+            if self.swap_one_more(slot, program).is_ok() {
                 return Ok(());
             }
             thread::sleep(&self.rt, Duration::from_millis(RETRY_MILLIS));
         }
         Err(AllocError)
+    }
+
+    // Installs a filter that has other owners.
+    fn swap_one_more(&mut self, slot: Slot, program: &Arc<Checked>) -> Result<(), AllocError> {
+        let program = Arc::try_clone(program)?;
+        self.swap(slot, Some(program))
+    }
+
+    // Installs filters. Errors: out of memory for some seconds.
+    fn swap_all(&mut self, filters: &[Filter]) -> Result<(), PutFault> {
+        for filter in filters {
+            if self.swap_at_last(filter.slot, &filter.program).is_err() {
+                return Err(PutFault::NoMemory);
+            }
+        }
+        Ok(())
     }
 
     // The moment of what is asked now.
@@ -88,15 +128,10 @@ impl<R: Wait + Clock + Files + AllocGlobal + Drop, L: Ledger> NodePanel<R, L> {
 
     // The objects that were used last, as JSON, and how much is stored.
     fn list(&self, query: &str) -> Result<Vec<u8>, StoreFault> {
-        let (alloc, moment) = (self.alloc, self.moment());
-        let most = limit_of(alloc, query)?;
+        let moment = self.moment();
+        let most = limit_of(self.alloc, query)?;
         let node = self.node.lock(&self.rt);
-        let desk = &node.proxy().desk;
-        let Ok(newest) = desk.newest(&self.rt, alloc, most) else {
-            return Err(StoreFault::NoMemory);
-        };
-        let sizes = desk.sizes(&self.rt);
-        octets_of(store_text(alloc, sizes, newest.as_slice(), moment))
+        list_of(&self.rt, self.alloc, &node.proxy().desk, most, moment)
     }
 
     // What is stored under a key. Errors: nothing fresh, or out of memory.
@@ -113,24 +148,49 @@ impl<R: Wait + Clock + Files + AllocGlobal + Drop, L: Ledger> NodePanel<R, L> {
     // What is stored under a percent-encoded URL, as JSON.
     fn stored(&self, url: &str) -> Result<Vec<u8>, StoreFault> {
         let key = key_in(self.alloc, url)?;
-        let entry = self.entry(&key)?;
-        octets_of(stored_text(self.alloc, &key, &entry, self.moment()))
+        let text = self.stored_under(&key);
+        drop(key);
+        text
+    }
+
+    // What is stored under a key, as JSON.
+    fn stored_under(&self, key: &CacheKey) -> Result<Vec<u8>, StoreFault> {
+        let entry = self.entry(key)?;
+        let text = stored_text(self.alloc, key, &entry, self.moment());
+        drop(entry);
+        octets_of(text)
     }
 
     // Takes the object of a percent-encoded URL out of the store, and off the shelf even if it is no longer stored. Shows nothing.
     fn remove(&self, url: &str) -> Result<Vec<u8>, StoreFault> {
         let key = key_in(self.alloc, url)?;
-        self.node.lock(&self.rt).proxy().withdraw(&self.rt, &key);
-        let _ = self.entry(&key)?;
-        let moment = self.moment();
-        let event = self.purger.event(self.alloc, &key, moment)?;
-        if self.node.lock(&self.rt).take(event).is_err() {
-            return Err(StoreFault::NoMemory);
-        }
-        match self.entry(&key) {
+        let removed = self.remove_under(&key);
+        drop(key);
+        removed
+    }
+
+    // Takes the object of a key out of the store, and off the shelf even if it is no longer stored. Shows nothing.
+    fn remove_under(&self, key: &CacheKey) -> Result<Vec<u8>, StoreFault> {
+        self.node.lock(&self.rt).proxy().withdraw(&self.rt, key);
+        drop(self.entry(key)?);
+        self.purge(key)?;
+        match self.entry(key) {
             Err(StoreFault::NotStored) => Ok(Vec::new(self.alloc)),
             Err(fault) => Err(fault),
-            Ok(_) => Err(kept(self.alloc, Obstacle::StillStored)),
+            Ok(entry) => {
+                drop(entry);
+                Err(kept(self.alloc, Obstacle::StillStored))
+            }
+        }
+    }
+
+    // Submits the event that takes the object of a key out of the store.
+    fn purge(&self, key: &CacheKey) -> Result<(), StoreFault> {
+        let moment = self.moment();
+        let event = self.purger.event(self.alloc, key, moment)?;
+        match self.node.lock(&self.rt).take(event) {
+            Ok(_) => Ok(()),
+            Err(_) => Err(StoreFault::NoMemory),
         }
     }
 
@@ -142,26 +202,90 @@ impl<R: Wait + Clock + Files + AllocGlobal + Drop, L: Ledger> NodePanel<R, L> {
 
     // The state of each neighbour, as JSON.
     fn neighbour_states(&self) -> Result<Vec<u8>, AllocError> {
-        let alloc = self.alloc;
+        let views = self.views()?;
+        let text = neighbours_text(self.alloc, views.as_slice());
+        drop(views);
+        line_of(text)
+    }
+
+    // The state of each neighbour.
+    fn views(&self) -> Result<Vec<NeighbourView>, AllocError> {
         let node = self.node.lock(&self.rt);
-        let views = node.proxy().desk.neighbours(&self.rt, alloc)?;
-        line_of(neighbours_text(alloc, views.as_slice()))
+        node.proxy().desk.neighbours(&self.rt, self.alloc)
+    }
+
+    // What is counted of each neighbour.
+    fn counts(&self) -> Result<Vec<NeighbourCounts>, AllocError> {
+        self.node.lock(&self.rt).proxy().figures.by_neighbour(self.alloc)
     }
 
     // The state of each neighbour and what is counted of it, as JSON.
     fn neighbour_figures(&self) -> Result<Vec<u8>, AllocError> {
-        let alloc = self.alloc;
-        let node = self.node.lock(&self.rt);
-        let proxy = node.proxy();
-        let views = proxy.desk.neighbours(&self.rt, alloc)?;
-        let counts = proxy.figures.by_neighbour(alloc)?;
-        line_of(neighbour_figures_text(alloc, views.as_slice(), counts.as_slice()))
+        let views = self.views()?;
+        let text = self.figures_with(views.as_slice());
+        drop(views);
+        text
     }
 
-    // All that the texts of figures show.
-    fn page(&self) -> Result<Page, AllocError> {
+    // These states of the neighbours and what is counted of them, as JSON.
+    fn figures_with(&self, views: &[NeighbourView]) -> Result<Vec<u8>, AllocError> {
+        let counts = self.counts()?;
+        let text = neighbour_figures_text(self.alloc, views, counts.as_slice());
+        drop(counts);
+        line_of(text)
+    }
+
+    // The program that is installed in a slot, as text.
+    fn shown(&self, slot: Slot) -> Result<Vec<u8>, AllocError> {
+        let programs = self.node.lock(&self.rt).proxy().desk.programs(&self.rt)?;
+        let text = shown_in(self.alloc, &programs, slot);
+        drop(programs);
+        text
+    }
+
+    // Begins a capture.
+    fn capture_within(
+        &self,
+        limits: CaptureLimits,
+    ) -> Result<mpsc::Receiver<Vec<u8>>, CaptureFault> {
         let node = self.node.lock(&self.rt);
-        page_of(&self.rt, self.alloc, node.proxy())
+        match node.proxy().tap.begin(&self.rt, self.alloc, limits) {
+            Ok(pieces) => Ok(pieces),
+            Err(TapFault::Busy) => Err(CaptureFault::Busy),
+            Err(TapFault::NoMemory) => Err(CaptureFault::NoMemory),
+        }
+    }
+}
+
+/// The objects that were used last, as JSON, and how much is stored.
+fn list_of<R: Wait, L: Ledger>(
+    rt: &R,
+    alloc: Global,
+    desk: &Desk<L>,
+    most: usize,
+    moment: Moment,
+) -> Result<Vec<u8>, StoreFault> {
+    let Ok(newest) = desk.newest(rt, alloc, most) else {
+        return Err(StoreFault::NoMemory);
+    };
+    let text = store_text(alloc, desk.sizes(rt), newest.as_slice(), moment);
+    drop(newest);
+    octets_of(text)
+}
+
+/// The program that is installed in a slot, as text. Errors: out of memory.
+fn shown_in(alloc: Global, programs: &Slots, slot: Slot) -> Result<Vec<u8>, AllocError> {
+    match programs.installed(slot) {
+        Some(program) => Ok(to_text(alloc, program)?.into_bytes()),
+        None => b"none\n".to_vec(alloc),
+    }
+}
+
+/// What says how a capture is asked for.
+fn no_limits(alloc: Global) -> CaptureFault {
+    match QUERY_LINE.as_bytes().to_vec(alloc) {
+        Ok(line) => CaptureFault::NoLimits(line),
+        Err(_) => CaptureFault::NoMemory,
     }
 }
 
@@ -173,11 +297,22 @@ fn filters_in<R: Files + AllocGlobal>(
 ) -> Result<Vec<Filter>, PutFault> {
     match read_filters(rt, files) {
         Ok(filters) => Ok(filters),
-        Err(FilesFault::NoMemory) => Err(PutFault::NoMemory),
-        Err(fault) => match format!(in alloc; "{fault}\n") {
-            Ok(line) => Err(PutFault::NoFilter(line.into_bytes())),
-            Err(_) => Err(PutFault::NoMemory),
-        },
+        Err(fault) => {
+            let shown = files_fault(alloc, &fault);
+            drop(fault);
+            Err(shown)
+        }
+    }
+}
+
+/// A fault of the files as one line of text, or out of memory.
+fn files_fault(alloc: Global, fault: &FilesFault) -> PutFault {
+    if matches!(fault, FilesFault::NoMemory) {
+        return PutFault::NoMemory;
+    }
+    match format!(in alloc; "{fault}\n") {
+        Ok(line) => PutFault::NoFilter(line.into_bytes()),
+        Err(_) => PutFault::NoMemory,
     }
 }
 
@@ -197,8 +332,23 @@ fn octets_of(text: Option<String>) -> Result<Vec<u8>, StoreFault> {
     }
 }
 
+/// The program that a text is.
+fn program_of(alloc: Global, text: &[u8]) -> Result<Arc<Checked>, PutFault> {
+    match read_program(alloc, text) {
+        Ok(program) => match Arc::new(alloc, program) {
+            Ok(program) => Ok(program),
+            Err(_) => Err(PutFault::NoMemory),
+        },
+        Err(fault) => {
+            let shown = put_fault(alloc, &fault);
+            drop(fault);
+            Err(shown)
+        }
+    }
+}
+
 /// A fault as one line of text, or out of memory.
-fn put_fault(alloc: Global, fault: ProgramFault) -> PutFault {
+fn put_fault(alloc: Global, fault: &ProgramFault) -> PutFault {
     if fault.is_want_of_memory() {
         return PutFault::NoMemory;
     }
@@ -229,13 +379,11 @@ impl<R: Wait + Clock + Files + AllocGlobal + Drop, L: Ledger> Panel for NodePane
     }
 
     fn put(&mut self, slot: Slot, text: &[u8]) -> Result<(), PutFault> {
-        let alloc = self.alloc;
-        let program = read_program(alloc, text).map_err(|fault| put_fault(alloc, fault))?;
-        let Ok(program) = Arc::new(alloc, program) else {
-            return Err(PutFault::NoMemory);
-        };
-        self.swap(slot, Some(program))
-            .map_err(|_| PutFault::NoMemory)
+        let program = program_of(self.alloc, text)?;
+        match self.swap(slot, Some(program)) {
+            Ok(()) => Ok(()),
+            Err(_) => Err(PutFault::NoMemory),
+        }
     }
 
     fn clear(&mut self, slot: Slot) -> Result<(), AllocError> {
@@ -243,12 +391,7 @@ impl<R: Wait + Clock + Files + AllocGlobal + Drop, L: Ledger> Panel for NodePane
     }
 
     fn show(&mut self, slot: Slot) -> Result<Vec<u8>, AllocError> {
-        let alloc = self.alloc;
-        let programs = self.node.lock(&self.rt).proxy().desk.programs(&self.rt)?;
-        match programs.installed(slot) {
-            Some(program) => Ok(to_text(alloc, program)?.into_bytes()),
-            None => b"none\n".to_vec(alloc),
-        }
+        self.shown(slot)
     }
 
     fn figures(&mut self, figures: Figures) -> Result<Vec<u8>, AllocError> {
@@ -256,8 +399,8 @@ impl<R: Wait + Clock + Files + AllocGlobal + Drop, L: Ledger> Panel for NodePane
             Figures::Sockets => self.socket_figures(),
             Figures::Neighbours => self.neighbour_states(),
             Figures::NeighbourFigures => self.neighbour_figures(),
-            Figures::Clients => clients_text(self.alloc, &self.page()?),
-            Figures::Metrics => metrics_text(self.alloc, &self.page()?),
+            Figures::Clients => self.client_figures(),
+            Figures::Metrics => self.metrics(),
         }
     }
 
@@ -270,15 +413,10 @@ impl<R: Wait + Clock + Files + AllocGlobal + Drop, L: Ledger> Panel for NodePane
     }
 
     fn reload(&mut self) -> Result<(), PutFault> {
-        let files = mem::replace(&mut self.files, Vec::new(self.alloc));
-        let read = filters_in(&self.rt, self.alloc, files.as_slice());
-        self.files = files;
-        for filter in read? {
-            if self.swap_at_last(filter.slot, &filter.program).is_err() {
-                return Err(PutFault::NoMemory);
-            }
-        }
-        Ok(())
+        let filters = filters_in(&self.rt, self.alloc, self.files.as_slice())?;
+        let swapped = self.swap_all(filters.as_slice());
+        drop(filters);
+        swapped
     }
 
     fn reopen_log(&mut self) -> bool {
@@ -297,18 +435,9 @@ impl<R: Wait + Clock + Files + AllocGlobal + Drop, L: Ledger> Panel for NodePane
     }
 
     fn capture(&mut self, query: Option<&str>) -> Result<mpsc::Receiver<Vec<u8>>, CaptureFault> {
-        let alloc = self.alloc;
-        let Some(limits) = CaptureLimits::of(query) else {
-            return match QUERY_LINE.as_bytes().to_vec(alloc) {
-                Ok(line) => Err(CaptureFault::NoLimits(line)),
-                Err(_) => Err(CaptureFault::NoMemory),
-            };
-        };
-        let node = self.node.lock(&self.rt);
-        match node.proxy().tap.begin(&self.rt, alloc, limits) {
-            Ok(pieces) => Ok(pieces),
-            Err(TapFault::Busy) => Err(CaptureFault::Busy),
-            Err(TapFault::NoMemory) => Err(CaptureFault::NoMemory),
+        match CaptureLimits::of(query) {
+            Some(limits) => self.capture_within(limits),
+            None => Err(no_limits(self.alloc)),
         }
     }
 }

@@ -8,12 +8,21 @@ use std::alloc::{AllocError, Global};
 const PART_KEYS: usize = 1_024;
 
 /// The requests for parts of each of these URLs.
-#[derive(Drop)]
 pub struct PartKeys {
     // The ones of which parts were asked for last before the others.
     requests: LruCache<CacheKey, PartRequests, KeyHashes>,
     // The most octets that a stored body has.
     limit: u32,
+}
+
+// Written by hand, so that what lets it go is one call for the prover (docs/GATE.md).
+impl Drop for PartKeys {
+    fn drop(self) {
+        let Self {
+            requests: _requests,
+            limit: _limit,
+        } = self;
+    }
 }
 
 impl PartKeys {
@@ -39,7 +48,8 @@ impl PartKeys {
     pub fn note(&mut self, key: CacheKey, now: u64) -> bool {
         let requests = self.requests_for(&key);
         if requests.is_third(now, self.limit) {
-            let _ = self.requests.pop(&key);
+            drop(self.requests.pop(&key));
+            drop(key);
             return true;
         }
         self.put(key, requests.with_request(now));
@@ -51,14 +61,16 @@ impl PartKeys {
         let requests = self.requests_for(&key);
         if requests.last.is_some() {
             self.put(key, requests.with_length(length));
+        } else {
+            drop(key);
         }
     }
 
     // Puts the requests for a URL in front of all others.
     fn put(&mut self, key: CacheKey, requests: PartRequests) {
-        let _ = self.requests.put(key, requests);
+        drop(self.requests.put(key, requests));
         if self.requests.len() > PART_KEYS {
-            let _ = self.requests.pop_lru();
+            drop(self.requests.pop_lru());
         }
     }
 }

@@ -1,5 +1,6 @@
 //! State shared by the threads of a proxy.
 use crate::clock::now;
+use crate::front::add_field;
 use crate::log::AccessLog;
 use crate::neighbour_counts::NeighbourEnds;
 use crate::notices::Notices;
@@ -35,12 +36,21 @@ use std::time::{Clock, Duration, Instant};
 use traffic_figures::Figures;
 
 /// Senders to the threads that fetch.
-#[derive(Drop)]
 pub struct Lanes {
     /// To the threads that look up names.
     pub names: NameDesk,
     /// To each fetch thread, by index.
     pub jobs: Vec<UnboundedSender<Job>>,
+}
+
+// Written by hand, so that what lets it go is one call for the prover (docs/GATE.md).
+impl Drop for Lanes {
+    fn drop(self) {
+        let Self {
+            names: _names,
+            jobs: _jobs,
+        } = self;
+    }
 }
 
 /// One attempt of a fetch.
@@ -168,6 +178,15 @@ impl Wanted {
     }
 }
 
+/// What a fetch thread is told of a fetch that is in flight.
+#[derive(Drop)]
+struct Entered {
+    flight: Flight,
+    deadline: Instant,
+    fields: Vec<Field>,
+    receiver: oneshot::Receiver<()>,
+}
+
 /// An object that is stale and may be served all the same, and its age in seconds.
 #[derive(Drop)]
 pub struct Stale {
@@ -245,23 +264,90 @@ impl<L: Ledger> ProxyState<L> {
         alloc: Global,
         wanted: Wanted,
     ) -> Result<(), NoMemory> {
-        let Some(key) = self.desk.key_of(rt, wanted.fetch)? else {
+        match self.desk.key_of(rt, wanted.fetch)? {
+            Some(key) => {
+                let begun = self.begin_under(rt, alloc, wanted, &key);
+                drop(key);
+                begun
+            }
+            None => Err(AllocError),
+        }
+    }
+
+    /// Starts a fetch of this key.
+    fn begin_under<R: Wait + Clock>(
+        &self,
+        rt: &R,
+        alloc: Global,
+        wanted: Wanted,
+        key: &CacheKey,
+    ) -> Result<(), NoMemory> {
+        let Some(destination) = self.destination(alloc, wanted.source, key.as_slice()) else {
             return Err(AllocError);
         };
-        let destination = self.destination(alloc, wanted.source, key.as_slice());
-        let destination = destination.ok_or(AllocError)?;
+        match self.entered(rt, alloc, wanted, key) {
+            Ok(entered) => self.send_to(rt, alloc, wanted, destination, entered),
+            Err(fault) => {
+                drop(destination);
+                Err(fault)
+            }
+        }
+    }
+
+    /// Notes that a fetch of `key` is in flight, as `enter` does. Errors: out of memory, or there is no clock; the fetch is not in flight.
+    fn entered<R: Wait + Clock>(
+        &self,
+        rt: &R,
+        alloc: Global,
+        wanted: Wanted,
+        key: &CacheKey,
+    ) -> Result<Entered, AllocError> {
+        let began = Instant::now(rt).ok();
+        let flight = wanted.flight(began);
+        let Some(deadline) = self.deadline(began) else {
+            return Err(AllocError);
+        };
         let (sender, receiver) = oneshot::channel(alloc)?;
-        let now = Instant::now(rt).ok();
-        let flight = wanted.flight(now);
-        let deadline = now.and_then(|now| now.checked_add(self.fetching));
-        let deadline = deadline.ok_or(AllocError)?;
-        let fields = self.enter(rt, alloc, wanted, &key, flight, sender)?;
+        match self.enter(rt, alloc, wanted, key, flight, sender) {
+            Ok(fields) => Ok(Entered {
+                flight,
+                deadline,
+                fields,
+                receiver,
+            }),
+            Err(fault) => {
+                drop(receiver);
+                Err(fault)
+            }
+        }
+    }
+
+    /// When the time of a fetch ends that began then. `None` if the clock could not be read.
+    fn deadline(&self, began: Option<Instant>) -> Option<Instant> {
+        began?.checked_add(self.fetching)
+    }
+
+    /// Sends the order of a fetch that is in flight to a fetch thread, as `send` does.
+    fn send_to<R: Wait + Clock>(
+        &self,
+        rt: &R,
+        alloc: Global,
+        wanted: Wanted,
+        destination: Destination,
+        entered: Entered,
+    ) -> Result<(), NoMemory> {
         let Destination {
             name,
             port,
             host,
             target,
         } = destination;
+        let Entered {
+            flight,
+            deadline,
+            fields,
+            receiver,
+        } = entered;
         let order = Order {
             fetch: wanted.fetch,
             attempt: wanted.attempt,
@@ -287,10 +373,16 @@ impl<L: Ledger> ProxyState<L> {
         flight: Flight,
         sender: oneshot::Sender<()>,
     ) -> Result<Vec<Field>, AllocError> {
-        let own = key.share()?;
-        self.mailbox
-            .lock(rt)
-            .begin(wanted.fetch, own, flight, sender)?;
+        match key.share() {
+            Ok(own) => self
+                .mailbox
+                .lock(rt)
+                .begin(wanted.fetch, own, flight, sender)?,
+            Err(fault) => {
+                drop(sender);
+                return Err(fault);
+            }
+        }
         let asked = self.asked_about(rt, wanted, key.as_slice());
         let fields = self.fields(rt, alloc, wanted, key.as_slice(), asked.as_ref());
         self.note_asked(rt, wanted.fetch, asked);
@@ -318,17 +410,15 @@ impl<L: Ledger> ProxyState<L> {
     ) -> Result<(), NoMemory> {
         let fetch = order.fetch;
         let taken = match &*self.lanes.lock(rt) {
-            Some(lanes) => hand_over(
-                rt,
-                alloc,
-                &lanes.names,
-                lanes.jobs.as_slice(),
-                name,
-                port,
-                order,
-            )
-            .is_ok(),
-            None => false,
+            Some(lanes) => {
+                let (names, jobs) = (&lanes.names, lanes.jobs.as_slice());
+                hand_over(rt, alloc, names, jobs, name, port, order).is_ok()
+            }
+            None => {
+                drop(name);
+                drop(order);
+                false
+            }
         };
         if taken {
             return Ok(());
@@ -388,47 +478,78 @@ impl<L: Ledger> ProxyState<L> {
         asked: Option<&SharedObject>,
     ) -> Result<Vec<Field>, AllocError> {
         let mut fields = match wanted.owner {
-            Some(client) => {
-                let kept = self
-                    .mailbox
-                    .lock(rt)
-                    .fields_for(alloc, client, wanted.fetch)?;
-                let kept = kept.ok_or(AllocError)?;
-                match asked {
-                    Some(_) => without_codings(alloc, kept)?,
-                    None => kept,
-                }
-            }
+            Some(client) => self.own_fields(rt, alloc, client, wanted.fetch, asked.is_some())?,
             None => self.shared(rt, alloc, key)?,
         };
+        match self.add_further(alloc, wanted, asked, &mut fields) {
+            Ok(()) => Ok(fields),
+            Err(fault) => {
+                drop(fields);
+                Err(fault)
+            }
+        }
+    }
+
+    /// The fields of the client that owns a private fetch, without Accept-Encoding where something is asked about.
+    fn own_fields<R: Wait>(
+        &self,
+        rt: &R,
+        alloc: Global,
+        client: u64,
+        fetch: u32,
+        is_asking: bool,
+    ) -> Result<Vec<Field>, AllocError> {
+        let found = self.mailbox.lock(rt).fields_for(alloc, client, fetch)?;
+        match found {
+            Some(kept) if is_asking => without_codings(alloc, kept),
+            Some(kept) => Ok(kept),
+            None => Err(AllocError),
+        }
+    }
+
+    /// Adds the conditions of the object that is asked about, `only-if-cached` for a sibling, and CDN-Loop and Via of this cache.
+    fn add_further(
+        &self,
+        alloc: Global,
+        wanted: Wanted,
+        asked: Option<&SharedObject>,
+        fields: &mut Vec<Field>,
+    ) -> Result<(), AllocError> {
         if let Some(object) = asked {
             for field in conditions_for(alloc, object.get().head())? {
                 fields.push(field)?;
             }
         }
         if wanted.only_if_cached {
-            let name = b"cache-control".to_vec(alloc)?;
-            fields.push((name, b"only-if-cached".to_vec(alloc)?))?;
+            add_field(alloc, fields, b"cache-control", b"only-if-cached")?;
         }
-        self.add_marks(alloc, &mut fields)?;
-        Ok(fields)
+        self.add_marks(alloc, fields)
     }
 
     /// The fields of a shared fetch of `key`: the CDN-Loop fields of a client that waits for it, and those of all shared fetches.
     fn shared<R: Wait>(&self, rt: &R, alloc: Global, key: &[u8]) -> Result<Vec<Field>, AllocError> {
         let mut fields = self.mailbox.lock(rt).loop_fields(alloc, key)?;
-        for (name, value) in &self.shared_fields {
-            fields.push((name.to_vec(alloc)?, value.to_vec(alloc)?))?;
+        match self.add_shared(alloc, &mut fields) {
+            Ok(()) => Ok(fields),
+            Err(fault) => {
+                drop(fields);
+                Err(fault)
+            }
         }
-        Ok(fields)
+    }
+
+    /// Adds the fields of all shared fetches.
+    fn add_shared(&self, alloc: Global, fields: &mut Vec<Field>) -> Result<(), AllocError> {
+        for (name, value) in &self.shared_fields {
+            add_field(alloc, fields, name.as_slice(), value.as_slice())?;
+        }
+        Ok(())
     }
 
     /// Adds CDN-Loop and Via of this cache. Errors: out of memory.
     pub fn add_marks(&self, alloc: Global, fields: &mut Vec<Field>) -> Result<(), AllocError> {
-        let mark = self.loop_mark.to_vec(alloc)?;
-        fields.push((b"cdn-loop".to_vec(alloc)?, mark))?;
-        fields.push(via(alloc, self.name.as_bytes())?)?;
-        Ok(())
+        add_field(alloc, fields, b"cdn-loop", self.loop_mark.as_slice())?;
+        Ok(fields.push(via(alloc, self.name.as_bytes())?)?)
     }
 
     /// Sends a request that is passed on to a fetch thread, that of `number`. Errors: it was not taken.
@@ -443,6 +564,7 @@ impl<L: Ledger> ProxyState<L> {
     ) -> Result<(), NoMemory> {
         let lanes = self.lanes.lock(rt);
         let Some(lanes) = &*lanes else {
+            drop(passage);
             return Err(AllocError);
         };
         let (names, jobs) = (&lanes.names, lanes.jobs.as_slice());
@@ -503,7 +625,9 @@ impl<L: Ledger> ProxyState<L> {
     pub fn note_changed<R: Wait>(&self, rt: &R, key: CacheKey) {
         let mut changed = self.changed.lock(rt);
         if changed.len() < CHANGED_KEYS {
-            let _ = changed.push(key);
+            drop(changed.push(key));
+        } else {
+            drop(key);
         }
         self.has_changed.store(true, Ordering::SeqCst);
     }
@@ -556,6 +680,7 @@ impl<L: Ledger> ProxyState<L> {
             self.unasked.lock(rt).note(key);
         } else {
             self.unshelve(rt, &key);
+            drop(key);
         }
     }
 
@@ -578,8 +703,10 @@ impl<L: Ledger> ProxyState<L> {
             return;
         }
         let hurries = self.hurries.lock(rt).take();
-        for hurry in hurries.into_iter().flatten() {
-            let _ = hurry.send(());
+        if let Some(hurries) = hurries {
+            for hurry in hurries {
+                drop(hurry.send(()));
+            }
         }
     }
 

@@ -17,8 +17,8 @@ use object_store::{CacheKey, SharedObject};
 use std::alloc::Global;
 use std::sync::ledger::Ledger;
 use std::sync::{Arc, RwLock, Wait};
-use std::thread;
 use std::time::{Clock, Duration};
+use std::{mem, thread};
 use traffic_figures::{FetchNote, FetchOutcome, FetchedFrom};
 
 /// The status with which a cache refuses a request that has come back to it (RFC 5842, section 7.2).
@@ -91,6 +91,26 @@ fn is_unanswered(landed: &Landed, end: &FetchEnd) -> bool {
         }
 }
 
+/// What the shelf does after a response that stands for nothing.
+fn step_of_none(landed: &Landed, page: &Page) -> ShelfStep {
+    if page.status == NOT_MODIFIED && landed.asked.is_some() {
+        ShelfStep::Remove
+    } else {
+        ShelfStep::Stay
+    }
+}
+
+/// What the page of a fetch stands for.
+#[derive(Clone, Copy)]
+enum Meaning {
+    /// A response of its own.
+    Itself,
+    /// What was asked about, which it may confirm.
+    Confirmation,
+    /// Nothing.
+    Nothing,
+}
+
 /// What the shelf does when the object of a fetch is handed in.
 #[derive(Clone, Copy)]
 enum ShelfStep {
@@ -103,13 +123,23 @@ enum ShelfStep {
 }
 
 /// What a fetch brought by itself.
-#[derive(Drop)]
 struct Brought {
     /// `None` if the attempt has failed.
     object: Option<SharedObject>,
     step: ShelfStep,
     /// Whether a client's reload has found something else than was there.
     is_changed: bool,
+}
+
+// Written by hand, so that what lets it go is one call for the prover (docs/GATE.md).
+impl Drop for Brought {
+    fn drop(self) {
+        let Self {
+            object: _object,
+            step: _step,
+            is_changed: _is_changed,
+        } = self;
+    }
 }
 
 impl Brought {
@@ -124,10 +154,19 @@ impl Brought {
 }
 
 /// What is handed in of a fetch, and whom its object comes from.
-#[derive(Drop)]
 struct Delivery {
     brought: Brought,
     supplier: Option<Supplier>,
+}
+
+// Written by hand, so that what lets it go is one call for the prover (docs/GATE.md).
+impl Drop for Delivery {
+    fn drop(self) {
+        let Self {
+            brought: _brought,
+            supplier: _supplier,
+        } = self;
+    }
 }
 
 /// How a fetch has ended that a stale object takes the place of.
@@ -138,7 +177,6 @@ struct Replaced {
 }
 
 /// All that is made of what a fetch brought before it is handed in.
-#[derive(Drop)]
 struct Made {
     flight: Flight,
     /// The key of the fetch, where responses are kept by RFC 9111.
@@ -147,6 +185,19 @@ struct Made {
     is_unanswered: bool,
     delivery: Delivery,
     replaced: Option<Replaced>,
+}
+
+// Written by hand, so that what lets it go is one call for the prover (docs/GATE.md).
+impl Drop for Made {
+    fn drop(self) {
+        let Self {
+            flight: _flight,
+            key: _key,
+            is_unanswered: _is_unanswered,
+            delivery: _delivery,
+            replaced: _replaced,
+        } = self;
+    }
 }
 
 impl Made {
@@ -204,21 +255,45 @@ impl<R: Wait + Clock + Drop, L: Ledger> Results<R, L> {
         }
     }
 
-    // The response that a page stands for: what was asked about, if it is a 304 that confirms this, and otherwise itself. `None` for
-    // a 304 that fits nothing: that of another object, and one that nobody's conditions have asked for. `None` also for a 412 to
-    // conditions that are not the client's.
-    fn whole_of(&self, flight: Flight, asked: Option<SharedObject>, page: Page) -> Option<Page> {
-        if page.status == PRECONDITION_FAILED && asked.is_some() {
-            return None;
+    // What a page stands for: what was asked about, if it is a 304 that may confirm this, and otherwise itself. Nothing for a 304 that
+    // nobody's conditions have asked for, and for a 412 to conditions that are not the client's.
+    fn meaning_of(&self, landed: &Landed, page: &Page) -> Meaning {
+        let is_asking = landed.asked.is_some();
+        match page.status {
+            PRECONDITION_FAILED if is_asking => Meaning::Nothing,
+            NOT_MODIFIED if is_asking => Meaning::Confirmation,
+            NOT_MODIFIED if !self.is_theirs(landed.flight) => Meaning::Nothing,
+            _ => Meaning::Itself,
         }
-        if page.status != NOT_MODIFIED {
-            return Some(page);
+    }
+
+    // Whether a 304 to a fetch that asked about nothing answers conditions of a client's own.
+    fn is_theirs(&self, flight: Flight) -> bool {
+        self.node.proxy().shelf.is_none() || flight.mode != Mode::Shared
+    }
+
+    // The response that a page stands for, as `meaning_of` says. `None` also for a 304 that fits another object than was asked about.
+    fn whole_of(&self, landed: &Landed, page: Page) -> Option<Page> {
+        match self.meaning_of(landed, &page) {
+            Meaning::Itself => Some(page),
+            Meaning::Confirmation => {
+                let whole = self.confirmed_by(landed, &page);
+                drop(page);
+                whole
+            }
+            Meaning::Nothing => {
+                drop(page);
+                None
+            }
         }
-        let Some(asked) = asked else {
-            let is_theirs = self.node.proxy().shelf.is_none() || flight.mode != Mode::Shared;
-            return if is_theirs { Some(page) } else { None };
-        };
-        confirmed(self.alloc, &page.head, asked.get())
+    }
+
+    // What was asked about with the fields of this 304, if it fits that.
+    fn confirmed_by(&self, landed: &Landed, page: &Page) -> Option<Page> {
+        match &landed.asked {
+            Some(asked) => confirmed(self.alloc, &page.head, asked.get()),
+            None => None,
+        }
     }
 
     // Puts an object on the shelf that is stored, and that can be asked about or may be of use once it is stale. Returns whether it is there:
@@ -287,12 +362,14 @@ impl<R: Wait + Clock + Drop, L: Ledger> Results<R, L> {
         let Some(length) = complete_length(&page.head) else {
             return;
         };
-        if let Some(key) = self.key_of(fetch)
-            && proxy
-                .profile
-                .may_keep_whole(self.exchange(Some(&key), flight), &page.head)
-        {
+        let Some(key) = self.key_of(fetch) else {
+            return;
+        };
+        let exchange = self.exchange(Some(&key), flight);
+        if proxy.profile.may_keep_whole(exchange, &page.head) {
             parts.lock(&self.rt).note_length(key, length);
+        } else {
+            drop(key);
         }
     }
 
@@ -335,31 +412,27 @@ impl<R: Wait + Clock + Drop, L: Ledger> Results<R, L> {
         object_of(self.alloc, name, life, page, date).ok()
     }
 
+    // Whether the object of a response is not to be kept.
+    fn is_unkept(&self, key: Option<&CacheKey>, landed: &Landed, page: &Page) -> bool {
+        let is_by_rules = key.is_some() || landed.asked.is_some();
+        landed.is_outdated || (is_by_rules && hides_rules(self.alloc, &page.head))
+    }
+
     // What a response brought that came on this date. After a 304 that fits nothing, what was asked about goes, so that the next fetch asks
     // for the whole of it.
     fn brought_by(
         &self,
         key: Option<&CacheKey>,
-        landed: Landed,
+        landed: &Landed,
         page: Page,
         date: &[u8],
     ) -> Brought {
-        let is_changed = self.is_changed(key, &landed, &page);
-        let Landed {
-            flight,
-            asked,
-            is_outdated,
-        } = landed;
-        let is_by_rules = key.is_some() || asked.is_some();
-        let is_unkept = is_outdated || (is_by_rules && hides_rules(self.alloc, &page.head));
-        let step_of_none = if page.status == NOT_MODIFIED && asked.is_some() {
-            ShelfStep::Remove
-        } else {
-            ShelfStep::Stay
-        };
-        match self.whole_of(flight, asked, page) {
+        let is_changed = self.is_changed(key, landed, &page);
+        let is_unkept = self.is_unkept(key, landed, &page);
+        let step_of_none = step_of_none(landed, &page);
+        match self.whole_of(landed, page) {
             Some(page) => Brought {
-                object: self.object_of_whole(key, flight, is_unkept, page, date),
+                object: self.object_of_whole(key, landed.flight, is_unkept, page, date),
                 step: ShelfStep::Follow,
                 is_changed,
             },
@@ -372,37 +445,46 @@ impl<R: Wait + Clock + Drop, L: Ledger> Results<R, L> {
     }
 
     // What a fetch brought by itself.
-    fn brought(&self, key: Option<&CacheKey>, landed: Landed, end: FetchEnd) -> Brought {
-        let Ok(date) = HttpDate::from_unix_secs(date_seconds(&self.rt)) else {
-            return Brought::alone(None);
-        };
-        let date = date.to_bytes();
+    fn brought(&self, key: Option<&CacheKey>, landed: &Landed, end: FetchEnd) -> Brought {
+        match HttpDate::from_unix_secs(date_seconds(&self.rt)) {
+            Ok(date) => self.brought_on(key, landed, end, date.to_bytes().as_slice()),
+            Err(_) => {
+                drop(end);
+                Brought::alone(None)
+            }
+        }
+    }
+
+    // What a fetch brought by itself that ended on this date.
+    fn brought_on(
+        &self,
+        key: Option<&CacheKey>,
+        landed: &Landed,
+        end: FetchEnd,
+        date: &[u8],
+    ) -> Brought {
         match end {
-            FetchEnd::Whole(page) if is_for_the_next(landed.flight, &page) => Brought::alone(None),
-            FetchEnd::Whole(page) => self.brought_by(key, landed, page, date.as_slice()),
-            FetchEnd::Refused => Brought::alone(refusal(self.alloc, date.as_slice()).ok()),
+            FetchEnd::Whole(page) => {
+                if is_for_the_next(landed.flight, &page) {
+                    drop(page);
+                    return Brought::alone(None);
+                }
+                self.brought_by(key, landed, page, date)
+            }
+            FetchEnd::Refused => Brought::alone(refusal(self.alloc, date).ok()),
             FetchEnd::Failed(_) => Brought::alone(None),
         }
     }
 
     // What is handed in of a fetch where nothing takes its place.
-    fn delivery(&self, key: Option<&CacheKey>, landed: Landed, end: FetchEnd) -> Delivery {
-        let supplier = supplier_of(&landed, &end);
+    fn delivery(&self, key: Option<&CacheKey>, landed: &Landed, end: FetchEnd) -> Delivery {
+        let supplier = supplier_of(landed, &end);
         let is_too_long = is_too_long(landed.flight, &end);
-        let Brought {
-            object,
-            step,
-            is_changed,
-        } = self.brought(key, landed, end);
-        let step = if is_too_long { ShelfStep::Remove } else { step };
-        Delivery {
-            brought: Brought {
-                object,
-                step,
-                is_changed,
-            },
-            supplier,
+        let mut brought = self.brought(key, landed, end);
+        if is_too_long {
+            brought.step = ShelfStep::Remove;
         }
+        Delivery { brought, supplier }
     }
 
     // What is served in place of what the origin could not give, if there is something. After a change there is nothing: the shelf has
@@ -415,11 +497,15 @@ impl<R: Wait + Clock + Drop, L: Ledger> Results<R, L> {
             .node
             .proxy()
             .stale(&self.rt, key?.as_slice(), StaleUse::InPlaceOfError)?;
-        let object = stale_object(self.alloc, object.get(), age).ok()?;
-        Some(Delivery {
-            brought: Brought::alone(Some(object)),
-            supplier: Some(Supplier::Stale(age)),
-        })
+        let in_place = stale_object(self.alloc, object.get(), age);
+        drop(object);
+        match in_place {
+            Ok(object) => Some(Delivery {
+                brought: Brought::alone(Some(object)),
+                supplier: Some(Supplier::Stale(age)),
+            }),
+            Err(_) => None,
+        }
     }
 
     // Makes all that is handed in of a fetch, while it is still in flight and no change waits for that. Beside what is counted and told of
@@ -432,7 +518,11 @@ impl<R: Wait + Clock + Drop, L: Ledger> Results<R, L> {
         let is_unanswered = is_unanswered(&landed, &end);
         let (delivery, replaced) = match self.stale(key.as_ref(), &landed, &end) {
             Some(stale) => (stale, Some(Replaced { landed, end })),
-            None => (self.delivery(key.as_ref(), landed, end), None),
+            None => {
+                let delivery = self.delivery(key.as_ref(), &landed, end);
+                drop(landed);
+                (delivery, None)
+            }
         };
         Made {
             flight,
@@ -443,57 +533,32 @@ impl<R: Wait + Clock + Drop, L: Ledger> Results<R, L> {
         }
     }
 
-    // The same with an object that is not kept. Where memory is short, with none.
-    fn unkept(&self, delivery: Delivery) -> Delivery {
-        let Delivery { brought, supplier } = delivery;
-        let Brought {
-            object,
-            step,
-            is_changed,
-        } = brought;
-        let object = match object {
+    // Has an object be one that is not kept. Where memory is short, there is none then.
+    fn unkeep(&self, brought: &mut Brought) {
+        let unkept = match &brought.object {
             Some(object) => unkept_object(self.alloc, object.get()).ok(),
             None => None,
         };
-        Delivery {
-            brought: Brought {
-                object,
-                step,
-                is_changed,
-            },
-            supplier,
-        }
+        drop(mem::replace(&mut brought.object, unkept));
     }
 
     // What is handed in of a fetch after a change, where a stale object was to take its place.
     fn in_its_place(&self, key: Option<&CacheKey>, replaced: Replaced) -> Delivery {
-        let Replaced { landed, end } = replaced;
-        let landed = Landed {
-            is_outdated: true,
-            ..landed
-        };
-        self.delivery(key, landed, end)
+        let Replaced { mut landed, end } = replaced;
+        landed.is_outdated = true;
+        let delivery = self.delivery(key, &landed, end);
+        drop(landed);
+        delivery
     }
 
     // Makes anew what is handed in of a fetch, after a change: so that it is not kept, and without what the change has taken off the shelf.
-    fn make_unkept(&self, made: Made) -> Made {
-        let Made {
-            flight,
-            key,
-            is_unanswered,
-            delivery,
-            replaced,
-        } = made;
-        let delivery = match replaced {
-            Some(replaced) => self.in_its_place(key.as_ref(), replaced),
-            None => self.unkept(delivery),
-        };
-        Made {
-            flight,
-            key,
-            is_unanswered,
-            delivery,
-            replaced: None,
+    fn make_unkept(&self, made: &mut Made) {
+        match made.replaced.take() {
+            Some(replaced) => {
+                let delivery = self.in_its_place(made.key.as_ref(), replaced);
+                drop(mem::replace(&mut made.delivery, delivery));
+            }
+            None => self.unkeep(&mut made.delivery.brought),
         }
     }
 
@@ -565,6 +630,7 @@ impl<R: Wait + Clock + Drop, L: Ledger> Results<R, L> {
     // changed meanwhile is made anew, and not kept. `false` also where the lock of changes cannot get one more owner.
     fn land(&mut self, done: Fetched) -> bool {
         let Ok(changes) = Arc::try_clone(&self.changes) else {
+            drop(done);
             return false;
         };
         let Fetched {
@@ -572,32 +638,44 @@ impl<R: Wait + Clock + Drop, L: Ledger> Results<R, L> {
             attempt,
             end,
         } = done;
-        let made = self.make(fetch, end);
-        match self.hand_in(&changes, fetch, attempt, made) {
-            Ok(is_taken) => is_taken,
-            Err(made) => {
-                let made = self.make_unkept(made);
-                self.hand_in(&changes, fetch, attempt, made)
-                    .unwrap_or(false)
+        let mut made = self.make(fetch, end);
+        let is_taken = self.hand_in_at_last(&changes, fetch, attempt, &mut made);
+        drop(made);
+        is_taken
+    }
+
+    // Hands in what was made of an attempt, made anew if it would be kept and was changed. Returns whether the node has taken it.
+    fn hand_in_at_last(
+        &mut self,
+        changes: &RwLock<()>,
+        fetch: u32,
+        attempt: u16,
+        made: &mut Made,
+    ) -> bool {
+        match self.hand_in(changes, fetch, attempt, made) {
+            Some(is_taken) => is_taken,
+            None => {
+                self.make_unkept(made);
+                self.hand_in(changes, fetch, attempt, made).unwrap_or(false)
             }
         }
     }
 
     // Hands in what was made of an attempt. What was changed is noted until the attempt is taken out of the mailbox, and changes wait from
     // the look at that until the event was taken: so what is stored after all is there when the change takes it out of the store. Returns
-    // whether the node has taken it. Errors, with what was made: it would be kept, and was changed.
+    // whether the node has taken it; `None` if it was not handed in, since it would be kept, and was changed.
     fn hand_in(
         &mut self,
         changes: &RwLock<()>,
         fetch: u32,
         attempt: u16,
-        made: Made,
-    ) -> Result<bool, Made> {
+        made: &mut Made,
+    ) -> Option<bool> {
         let landing = changes.read(&self.rt);
-        let handed = if self.is_lost(fetch, &made) {
-            Err(made)
+        let handed = if self.is_lost(fetch, made) {
+            None
         } else {
-            Ok(self.deliver(fetch, attempt, made))
+            Some(self.deliver(fetch, attempt, made))
         };
         drop(landing);
         handed
@@ -609,18 +687,16 @@ impl<R: Wait + Clock + Drop, L: Ledger> Results<R, L> {
     }
 
     // Takes an attempt out of the mailbox, has the shelf know what it brought, and hands that in.
-    fn deliver(&mut self, fetch: u32, attempt: u16, made: Made) -> bool {
+    fn deliver(&mut self, fetch: u32, attempt: u16, made: &mut Made) -> bool {
         self.node.proxy().mailbox.lock(&self.rt).end(fetch);
         if let Some(key) = &made.key {
-            self.settle(key, &made);
+            self.settle(key, made);
         }
-        let Made { delivery, .. } = made;
-        let Delivery { brought, supplier } = delivery;
-        let Brought { object, .. } = brought;
-        let outcome = match object {
+        let outcome = match made.delivery.brought.object.take() {
             Some(object) => Outcome::Object(object),
             None => Outcome::Failed,
         };
+        let supplier = made.delivery.supplier;
         take(&self.rt, &mut self.node, fetch, attempt, supplier, outcome)
     }
 
