@@ -52,8 +52,10 @@ fn neighbour_number(text: &str) -> Option<usize> {
     if digits.len() > 1 && digits[0] == b'0' {
         return None;
     }
-    if !digits.iter().all(|digit| digit.is_ascii_digit()) {
-        return None;
+    for digit in digits {
+        if !digit.is_ascii_digit() {
+            return None;
+        }
     }
     text.parse().ok()
 }
@@ -129,8 +131,9 @@ fn removed<P: Panel>(
     panel: &mut P,
     path: &str,
 ) -> Result<Option<Given>, AllocError> {
-    let Some(asked) = store_question(path).filter(|asked| asked.starts_with('/')) else {
-        return Ok(None);
+    let asked = match store_question(path) {
+        Some(asked) if asked.starts_with('/') => asked,
+        _ => return Ok(None),
     };
     match panel.store(asked, StoreOrder::Remove) {
         Ok(_) => Ok(Some(text(204, Vec::new(alloc)))),
@@ -149,44 +152,56 @@ fn installed(alloc: Global, done: Result<(), PutFault>) -> Result<Given, AllocEr
 
 // The answer to a request that asks for something to be done. `None` if there is no such path. Errors: out of memory.
 fn done<P: Panel>(alloc: Global, panel: &mut P, path: &str) -> Result<Option<Given>, AllocError> {
-    if let Some(query) = capture_query(path) {
-        return Ok(Some(captured(alloc, panel.capture(query))?));
-    }
-    let given = match path {
-        "/filters/reload" => installed(alloc, panel.reload())?,
-        "/log/reopen" => {
-            if panel.reopen_log() {
-                text(204, Vec::new(alloc))
-            } else {
-                text(404, no_log(alloc)?)
-            }
+    let given = if let Some(query) = capture_query(path) {
+        captured(alloc, panel.capture(query))
+    } else {
+        match path {
+            "/filters/reload" => installed(alloc, panel.reload()),
+            "/log/reopen" => reopened(alloc, panel.reopen_log()),
+            "/stop" => stopped(alloc, panel),
+            _ => return Ok(None),
         }
-        "/stop" => {
-            // The text comes first, since what follows cannot be taken back.
-            let line = stopping(alloc)?;
-            panel.stop();
-            text(202, line)
-        }
-        _ => return Ok(None),
     };
-    Ok(Some(given))
+    found(given)
+}
+
+// An answer that there is. Errors: as it has.
+fn found(given: Result<Given, AllocError>) -> Result<Option<Given>, AllocError> {
+    match given {
+        Ok(given) => Ok(Some(given)),
+        Err(fault) => Err(fault),
+    }
+}
+
+// The answer to a request to open the log anew, given whether there is one. Errors: out of memory.
+fn reopened(alloc: Global, is_open: bool) -> Result<Given, AllocError> {
+    if is_open {
+        Ok(text(204, Vec::new(alloc)))
+    } else {
+        Ok(text(404, no_log(alloc)?))
+    }
+}
+
+// The answer to a request to stop. Errors: out of memory.
+fn stopped<P: Panel>(alloc: Global, panel: &mut P) -> Result<Given, AllocError> {
+    // The text comes first, since what follows cannot be taken back.
+    let line = stopping(alloc)?;
+    panel.stop();
+    Ok(text(202, line))
 }
 
 // The answer to a request of figures or of the page. `None` if there is no such path. Errors: out of memory.
 fn shown<P: Panel>(alloc: Global, panel: &mut P, path: &str) -> Result<Option<Given>, AllocError> {
-    let given = match path {
-        "/" => Given::Page(PAGE.as_bytes().to_vec(alloc)?),
-        "/metrics" => figures(panel.figures(Figures::Metrics)?, TextKind::Metrics),
-        "/stats" => figures(panel.figures(Figures::Sockets)?, TextKind::Json),
-        "/stats/clients" => figures(panel.figures(Figures::Clients)?, TextKind::Json),
-        "/stats/neighbours" => figures(panel.figures(Figures::Neighbours)?, TextKind::Json),
-        "/stats/neighbours/figures" => figures(
-            panel.figures(Figures::NeighbourFigures)?,
-            TextKind::Json,
-        ),
+    let (asked, kind) = match path {
+        "/" => return Ok(Some(Given::Page(PAGE.as_bytes().to_vec(alloc)?))),
+        "/metrics" => (Figures::Metrics, TextKind::Metrics),
+        "/stats" => (Figures::Sockets, TextKind::Json),
+        "/stats/clients" => (Figures::Clients, TextKind::Json),
+        "/stats/neighbours" => (Figures::Neighbours, TextKind::Json),
+        "/stats/neighbours/figures" => (Figures::NeighbourFigures, TextKind::Json),
         _ => return Ok(None),
     };
-    Ok(Some(given))
+    Ok(Some(figures(panel.figures(asked)?, kind)))
 }
 
 // The answer to a request to capture. Errors: out of memory.
@@ -260,28 +275,54 @@ impl<P: Panel> Administrators<P> {
         let Ok(mut panel) = self.office.panel.try_borrow_mut() else {
             return Err(AllocError);
         };
-        let method = asked.method.as_str();
         let path = path_of(asked.target.as_str());
-        let slot = slot_of(path).filter(|slot| panel.has(*slot));
-        let given = match (method, slot) {
-            ("PUT", Some(slot)) => {
-                Some(installed(alloc, panel.put(slot, asked.content.as_slice()))?)
-            }
-            ("DELETE", Some(slot)) => {
-                panel.clear(slot)?;
-                Some(text(204, Vec::new(alloc)))
-            }
-            ("GET", Some(slot)) => Some(text(200, panel.show(slot)?)),
-            ("GET", None) => stored(alloc, &mut *panel, path)?,
-            ("DELETE", None) => removed(alloc, &mut *panel, path)?,
-            ("POST", None) => done(alloc, &mut *panel, path)?,
-            _ => None,
-        };
-        match given {
-            Some(given) => Ok(given),
-            None => Ok(text(404, text_of(alloc, 404, path.as_bytes())?)),
+        match answer_at(alloc, &mut *panel, asked, path) {
+            Ok(Some(given)) => Ok(given),
+            Ok(None) => not_found(alloc, path),
+            Err(fault) => Err(fault),
         }
     }
+}
+
+// The answer to a request for this path and query. `None` if there is no such path. Errors: out of memory.
+fn answer_at<P: Panel>(
+    alloc: Global,
+    panel: &mut P,
+    asked: &Asked,
+    path: &str,
+) -> Result<Option<Given>, AllocError> {
+    match slot_of(path) {
+        Some(slot) if panel.has(slot) => answer_of_slot(alloc, panel, asked, slot),
+        _ => match asked.method.as_str() {
+            "GET" => stored(alloc, panel, path),
+            "DELETE" => removed(alloc, panel, path),
+            "POST" => done(alloc, panel, path),
+            _ => Ok(None),
+        },
+    }
+}
+
+// The answer to a request for a slot. `None` if there is no such method of it. Errors: out of memory.
+fn answer_of_slot<P: Panel>(
+    alloc: Global,
+    panel: &mut P,
+    asked: &Asked,
+    slot: Slot,
+) -> Result<Option<Given>, AllocError> {
+    match asked.method.as_str() {
+        "PUT" => found(installed(alloc, panel.put(slot, asked.content.as_slice()))),
+        "DELETE" => {
+            panel.clear(slot)?;
+            Ok(Some(text(204, Vec::new(alloc))))
+        }
+        "GET" => Ok(Some(text(200, panel.show(slot)?))),
+        _ => Ok(None),
+    }
+}
+
+// The answer where there is no such path. Errors: out of memory.
+fn not_found(alloc: Global, path: &str) -> Result<Given, AllocError> {
+    Ok(text(404, text_of(alloc, 404, path.as_bytes())?))
 }
 
 impl<P: Panel> Answers for Administrators<P> {

@@ -32,7 +32,6 @@ use std::net::IpAddr;
 const USUAL_TARGET: usize = 128;
 
 /// Passes the requests of one connection to `answers`, which is shared by all connections.
-#[derive(Drop)]
 pub(crate) struct Door<H> {
     pub(crate) alloc: Global,
     pub(crate) answers: H,
@@ -44,17 +43,50 @@ pub(crate) struct Door<H> {
     pub(crate) limit: usize,
 }
 
+// Written by hand, so that what lets it go is one call for the prover (docs/GATE.md).
+impl<H: Drop> Drop for Door<H> {
+    fn drop(self) {
+        let Self {
+            alloc: _,
+            answers: _,
+            from: _,
+            facts: _,
+            stage: _,
+            limit: _,
+        } = self;
+    }
+}
+
 impl<H: Answers> Door<H> {
     // The request to be answered, as yet without its content. Returns `None` if out of memory.
     fn keep(&self, parts: http::request::Parts) -> Option<Asked> {
+        let Some((method, target)) = self.line(&parts) else {
+            drop(parts);
+            return None;
+        };
+        let http::request::Parts {
+            method: sent,
+            uri,
+            version,
+            headers,
+        } = parts;
+        drop(sent);
+        drop(uri);
         Some(Asked {
-            method: String::from_str(self.alloc, parts.method.as_str()).ok()?,
-            target: target_of(self.alloc, &parts.uri).ok()?,
-            head: parts.headers,
+            method,
+            target,
+            head: headers,
             content: Vec::new(self.alloc),
             from: self.from,
-            is_old: parts.version != Version::HTTP_11,
+            is_old: version != Version::HTTP_11,
         })
+    }
+
+    // The method and the target of a request. Returns `None` if out of memory.
+    fn line(&self, parts: &http::request::Parts) -> Option<(String, String)> {
+        let method = String::from_str(self.alloc, parts.method.as_str()).ok()?;
+        let target = target_of(self.alloc, &parts.uri).ok()?;
+        Some((method, target))
     }
 
     // Asks for the tunnel that the request opens. Errors: the status to answer.
@@ -79,24 +111,16 @@ impl<I: Drop, H: Answers> Service<Request<Incoming<I>>> for Door<H> {
         let (parts, body) = req.into_parts();
         match self.way(&parts, body.size_hint().lower()) {
             Ok(Road::Passed) => self.pass(parts, body),
-            Ok(Road::Tunnel) => self.open(parts),
-            Ok(_) => {
-                let is_empty = body.size_hint().exact() == Some(0);
-                let mut serving = self.serving(parts);
-                if is_empty || self.answers.refuses(&self.facts) {
-                    self.stage.set(Stage::Asked);
-                    serving.answering = begin(&serving.telling, Vec::new(self.alloc));
-                    serving.is_last = serving.is_last || !is_empty;
-                    return serving;
-                }
-                let heard = Heard::new(body, Pieces(self.stage.share().ok()));
-                let reading = AtMost::new(self.alloc, self.limit).read(heard);
-                serving.content = boxed(self.alloc, reading);
+            Ok(Road::Tunnel) => {
+                let serving = self.open(parts);
+                drop(body);
                 serving
             }
+            Ok(_) => self.collect(parts, body),
             Err(status) => {
                 let mut serving = self.serving(parts);
                 serving.turn_down(status);
+                drop(body);
                 serving
             }
         }
@@ -156,6 +180,29 @@ impl<H: Answers> Door<H> {
         serving
     }
 
+    // Collects the content of a request, and answers it then; at once if it has none, or is refused whatever it is.
+    fn collect<I: Drop>(
+        &self,
+        parts: http::request::Parts,
+        body: Incoming<I>,
+    ) -> Serving<H, AtMost<I, Pieces>, I>
+        ensures { ⟦<Serving<H, AtMost<I, Pieces>, I> as Future>⟧.can_poll result }
+    {
+        let is_empty = body.size_hint().exact() == Some(0);
+        let mut serving = self.serving(parts);
+        if is_empty || self.answers.refuses(&self.facts) {
+            self.stage.set(Stage::Asked);
+            serving.answering = begin(&serving.telling, Vec::new(self.alloc));
+            serving.is_last = serving.is_last || !is_empty;
+            drop(body);
+            return serving;
+        }
+        let heard = Heard::new(body, Pieces(self.stage.share().ok()));
+        let reading = AtMost::new(self.alloc, self.limit).read(heard);
+        serving.content = boxed(self.alloc, reading);
+        serving
+    }
+
     // Passes on a request, and its content as it comes if it has one.
     fn pass<I: Drop>(
         &self,
@@ -169,22 +216,32 @@ impl<H: Answers> Door<H> {
         if length == Some(0) {
             self.stage.set(Stage::Asked);
             serving.answering = pass_on(&serving.telling, None);
+            drop(body);
             return serving;
         }
-        let heard = Heard::new(body, Pieces(self.stage.share().ok()));
-        let stage = self.stage.share().ok();
-        if let Some((upload, coming)) = Upload::new(self.alloc, heard, length, stage) {
-            serving.answering = pass_on(&serving.telling, Some(coming));
-            serving.upload = Some(upload);
-        } else {
-            serving.is_last = true;
+        match self.upload(body, length) {
+            Some((upload, coming)) => {
+                serving.answering = pass_on(&serving.telling, Some(coming));
+                serving.upload = Some(upload);
+            }
+            None => serving.is_last = true,
         }
         serving
+    }
+
+    // What passes on this content, of this length if that is known. Returns `None` if out of memory.
+    fn upload<I: Drop>(
+        &self,
+        body: Incoming<I>,
+        length: Option<u64>,
+    ) -> Option<(Box<Upload<I>>, Coming)> {
+        let heard = Heard::new(body, Pieces(self.stage.share().ok()));
+        let stage = self.stage.share().ok();
+        Upload::new(self.alloc, heard, length, stage)
     }
 }
 
 /// The future of one response: reads the content, then waits for the answer; or passes on the content while it waits for the answer.
-#[derive(Drop)]
 pub(crate) struct Serving<H: Answers, T: Read, I> {
     alloc: Global,
     stage: Option<SharedStage>,
@@ -201,13 +258,49 @@ pub(crate) struct Serving<H: Answers, T: Read, I> {
     answering: Option<H::Answering>,
 }
 
+// Written by hand, so that what lets it go is one call for the prover (docs/GATE.md).
+impl<H: Answers, T: Read, I: Drop> Drop for Serving<H, T, I> {
+    fn drop(self) {
+        let Self {
+            alloc: _,
+            stage: _,
+            is_last: _,
+            telling: _,
+            refusal: _,
+            tunnel: _,
+            content: _,
+            upload: _,
+            answering: _,
+        } = self;
+    }
+}
+
 impl<H: Answers, T: Read, I: Drop> Serving<H, T, I> {
     // The response, after which the connection is idle again. Status 503 if it cannot be made. A capture is the last response of
     // its connection, which stays at the stage in which nothing is awaited of the client. So it does while an answer is passed on. A
     // response before the end of its request's content is the connection's last.
     fn respond(&mut self, given: Given) -> Response<Reply<H, I>> {
         let is_passed = self.passes_content(&given);
-        if let Given::Capture(_) = &given {
+        self.note_given(&given, is_passed);
+        let mut response = match response_of(self.alloc, given) {
+            Some(response) => response,
+            None => bare(self.alloc, 503),
+        };
+        if self.is_last {
+            announce_close(response.headers_mut());
+        }
+        if is_passed {
+            response
+                .body_mut()
+                .attend(self.upload.take(), self.stage.take());
+        }
+        self.hand_over(&mut response);
+        response
+    }
+
+    // Notes that the response with this content begins, and whether it is its connection's last.
+    fn note_given(&mut self, given: &Given, is_passed: bool) {
+        if let Given::Capture(_) = given {
             self.is_last = true;
         } else if let Some(stage) = &self.stage
             && !is_passed
@@ -220,21 +313,6 @@ impl<H: Answers, T: Read, I: Drop> Serving<H, T, I> {
         if let Some(telling) = &self.telling {
             telling.answers.note_answer();
         }
-        let mut response = match response_of(self.alloc, given) {
-            Some(response) => response,
-            None => bare(self.alloc, 503),
-        };
-        if self.is_last {
-            let close = header::HeaderValue::from_static("close");
-            let _ = response.headers_mut().insert(header::CONNECTION, close);
-        }
-        if is_passed {
-            response
-                .body_mut()
-                .attend(self.upload.take(), self.stage.take());
-        }
-        self.hand_over(&mut response);
-        response
     }
 
     // Whether the response is one that is passed on and has a content (RFC 9110, section 6.4.1).
@@ -259,7 +337,7 @@ impl<H: Answers, T: Read, I: Drop> Serving<H, T, I> {
         let Poll::Ready(relayed) = upload.poll(cx) else {
             return false;
         };
-        self.upload = None;
+        drop(self.upload.take());
         if relayed == Relayed::Unwanted {
             self.is_last = true;
         }
@@ -353,7 +431,7 @@ impl<H: Answers, T: Read, I: Drop> Future for Serving<H, T, I> {
         }
         if self.is_broken(cx) {
             self.turn_down(400);
-            self.answering = None;
+            drop(self.answering.take());
         }
         let Some(answering) = &mut self.answering else {
             return Poll::Ready(Ok(self.refuse()));
@@ -439,6 +517,12 @@ fn status_of(status: u16) -> StatusCode {
     StatusCode::from_u16(status).unwrap_or(StatusCode::BAD_GATEWAY)
 }
 
+// Has the connection close after a response with these fields, as far as there is memory for one more.
+fn announce_close(headers: &mut HeaderMap) {
+    let close = HeaderValue::from_static("close");
+    drop(headers.insert(header::CONNECTION, close));
+}
+
 // The response with this content. Returns `None` if out of memory, or if there are too many fields.
 fn response_of<H: Answers, I: Drop>(alloc: Global, given: Given) -> Option<Response<Reply<H, I>>> {
     match given {
@@ -448,16 +532,16 @@ fn response_of<H: Answers, I: Drop>(alloc: Global, given: Given) -> Option<Respo
             age,
             told,
         } => {
-            let response = shaped_response(alloc, &object, shape, age.is_some());
+            let response = shaped_response(alloc, &object, &shape, age.is_some());
+            drop(shape);
+            drop(object);
             with_own_fields(alloc, response, age, told)
         }
-        Given::Text { status, text, kind } => text_response(alloc, status, text, kind.media_type()),
-        Given::Page(text) => page_response(alloc, text),
-        Given::Capture(pieces) => {
-            let response = Response::new(alloc, Reply::of_pieces(alloc, pieces));
-            let kind = b"application/x-pcapng";
-            with_field(alloc, Some(response), b"content-type", kind)
+        Given::Text { status, text, kind } => {
+            text_response(alloc, status, text, kind.media_type())
         }
+        Given::Page(text) => page_response(alloc, text),
+        Given::Capture(pieces) => capture_response(alloc, pieces),
         Given::Passed(answer) => passed_response(alloc, answer),
         Given::Early { early, told } => early_response(alloc, early, told),
         Given::Challenge(text) => {
@@ -465,6 +549,30 @@ fn response_of<H: Answers, I: Drop>(alloc: Global, given: Given) -> Option<Respo
             with_field(alloc, response, b"www-authenticate", b"Bearer")
         }
     }
+}
+
+// The response, if what was done to it has been done.
+fn if_done<H: Answers, I: Drop>(
+    response: Response<Reply<H, I>>,
+    done: Option<()>,
+) -> Option<Response<Reply<H, I>>> {
+    match done {
+        Some(()) => Some(response),
+        None => {
+            drop(response);
+            None
+        }
+    }
+}
+
+// The response with the pieces of a capture file. Returns `None` as `with_field` does.
+fn capture_response<H: Answers, I: Drop>(
+    alloc: Global,
+    pieces: mpsc::Receiver<Vec<u8>>,
+) -> Option<Response<Reply<H, I>>> {
+    let response = Response::new(alloc, Reply::of_pieces(alloc, pieces));
+    let kind = b"application/x-pcapng";
+    with_field(alloc, Some(response), b"content-type", kind)
 }
 
 // A response with this field as well. Returns `None` without a response, if out of memory, or if there are too many fields.
@@ -475,10 +583,8 @@ fn with_field<H: Answers, I: Drop>(
     value: &[u8],
 ) -> Option<Response<Reply<H, I>>> {
     let mut response = response?;
-    match add_field(alloc, response.headers_mut(), name, value) {
-        Some(()) => Some(response),
-        None => None,
-    }
+    let done = add_field(alloc, response.headers_mut(), name, value);
+    if_done(response, done)
 }
 
 // A response with this Age, if one is given, and this Cache-Status. Returns `None` as `with_field` does.
@@ -489,10 +595,8 @@ fn with_own_fields<H: Answers, I: Drop>(
     told: Vec<u8>,
 ) -> Option<Response<Reply<H, I>>> {
     let mut response = response?;
-    match add_own_fields(alloc, response.headers_mut(), age, told) {
-        Some(()) => Some(response),
-        None => None,
-    }
+    let done = add_own_fields(alloc, response.headers_mut(), age, told);
+    if_done(response, done)
 }
 
 // Appends this Age, if one is given, and this Cache-Status. Returns `None` as `add_field` does.
@@ -511,9 +615,14 @@ fn add_own_fields(
 
 // Appends a field whose value is not copied. Returns `None` as `add_field` does.
 fn append_field(headers: &mut HeaderMap, name: HeaderName, value: Vec<u8>) -> Option<()> {
-    let value = HeaderValue::from_vec(value).ok()?;
-    let _ = headers.append(name, value).ok()?;
-    Some(())
+    let Ok(value) = HeaderValue::from_vec(value) else {
+        drop(name);
+        return None;
+    };
+    match headers.append(name, value) {
+        Ok(_) => Some(()),
+        Err(_) => None,
+    }
 }
 
 // The response with an object in this shape, without Age if `is_age_apart`. Returns `None` if out of memory, or if there are too many
@@ -521,7 +630,7 @@ fn append_field(headers: &mut HeaderMap, name: HeaderName, value: Vec<u8>) -> Op
 fn shaped_response<H: Answers, I: Drop>(
     alloc: Global,
     object: &SharedObject,
-    shape: Shape,
+    shape: &Shape,
     is_age_apart: bool,
 ) -> Option<Response<Reply<H, I>>> {
     match shape {
@@ -537,7 +646,7 @@ fn shaped_response<H: Answers, I: Drop>(
         }
         Shape::Part { first, last, range } => {
             let share = object.share().ok()?;
-            let body = Portions::of_part(alloc, share, first, last.saturating_add(1));
+            let body = Portions::of_part(alloc, share, *first, last.saturating_add(1));
             let head = object.get().head();
             let response = object_response(alloc, 206, body, head, is_age_apart);
             with_field(alloc, response, b"content-range", range.as_slice())
@@ -560,11 +669,19 @@ fn object_response<H: Answers, I: Drop>(
 ) -> Option<Response<Reply<H, I>>> {
     let mut response = Response::new(alloc, Reply::of(body));
     *response.status_mut() = status_of(status);
-    let headers = response.headers_mut();
-    // Room for Age and Cache-Status as well.
+    let done = add_kept_fields(alloc, response.headers_mut(), fields, is_age_apart);
+    if_done(response, done)
+}
+
+// Adds the fields of an object, with room for Age and Cache-Status as well. Returns `None` as `add_object_fields` does.
+fn add_kept_fields(
+    alloc: Global,
+    headers: &mut HeaderMap,
+    fields: &[(Vec<u8>, Vec<u8>)],
+    is_age_apart: bool,
+) -> Option<()> {
     headers.reserve(fields.len().saturating_add(2)).ok()?;
-    add_object_fields(alloc, headers, fields, is_age_apart)?;
-    Some(response)
+    add_object_fields(alloc, headers, fields, is_age_apart)
 }
 
 // The response with an answer that is passed on. Returns `None` as `relayed_response` does.
@@ -596,17 +713,35 @@ fn relayed_response<H: Answers, I: Drop>(
         length,
         wanted,
     } = head;
-    let fields = end_to_end(alloc, &head).ok()?;
+    let fields = end_to_end(alloc, &head);
+    drop(head);
+    let Ok(fields) = fields else {
+        drop(wanted);
+        drop(pieces);
+        return None;
+    };
     let reply = if status == 205 {
+        drop(wanted);
+        drop(pieces);
         // It has no content, however it is framed (RFC 9110, section 15.3.6).
         Reply::of(Portions::of_text(alloc, Vec::new(alloc)))
     } else {
         Reply::of_passed(alloc, pieces, length, Some(wanted))?
     };
+    response_with(alloc, status, reply, fields.as_slice())
+}
+
+// The response with this status, body and fields. Returns `None` as `add_object_fields` does.
+fn response_with<H: Answers, I: Drop>(
+    alloc: Global,
+    status: u16,
+    reply: Reply<H, I>,
+    fields: &[(Vec<u8>, Vec<u8>)],
+) -> Option<Response<Reply<H, I>>> {
     let mut response = Response::new(alloc, reply);
     *response.status_mut() = status_of(status);
-    add_object_fields(alloc, response.headers_mut(), fields.as_slice(), false)?;
-    Some(response)
+    let done = add_object_fields(alloc, response.headers_mut(), fields, false);
+    if_done(response, done)
 }
 
 // The response with an answer that is still collected, and this Cache-Status. Returns `None` if out of memory, or if there are too many
@@ -622,9 +757,8 @@ fn early_response<H: Answers, I: Drop>(
         pieces,
     } = Box::into_inner(early);
     let reply = Reply::of_passed(alloc, pieces, Some(length), None)?;
-    let mut response = Response::new(alloc, reply);
-    add_object_fields(alloc, response.headers_mut(), fields.as_slice(), false)?;
-    with_own_fields(alloc, Some(response), None, told)
+    let response = response_with(alloc, 200, reply, fields.as_slice());
+    with_own_fields(alloc, response, None, told)
 }
 
 // The response with the administration's page. Returns `None` if out of memory.
@@ -633,6 +767,12 @@ fn page_response<H: Answers, I: Drop>(
     text: Vec<u8>,
 ) -> Option<Response<Reply<H, I>>> {
     let mut response = text_response(alloc, 200, text, b"text/html; charset=utf-8")?;
+    let done = add_page_fields(alloc, response.headers_mut());
+    if_done(response, done)
+}
+
+// Adds the fields of the administration's page, beside its media type. Returns `None` as `add_field` does.
+fn add_page_fields(alloc: Global, headers: &mut HeaderMap) -> Option<()> {
     let fields: [(&[u8], &[u8]); 4] = [
         (b"content-security-policy", POLICY.as_bytes()),
         (b"x-content-type-options", b"nosniff"),
@@ -640,9 +780,9 @@ fn page_response<H: Answers, I: Drop>(
         (b"referrer-policy", b"no-referrer"),
     ];
     for (name, value) in fields {
-        add_field(alloc, response.headers_mut(), name, value)?;
+        add_field(alloc, headers, name, value)?;
     }
-    Some(response)
+    Some(())
 }
 
 // The response with this text of this media type. Returns `None` if out of memory.
@@ -655,8 +795,8 @@ fn text_response<H: Answers, I: Drop>(
     let is_empty = text.is_empty();
     let mut response = Response::new(alloc, Reply::of(Portions::of_text(alloc, text)));
     *response.status_mut() = status_of(status);
-    if !is_empty {
-        add_field(alloc, response.headers_mut(), b"content-type", kind)?;
+    if is_empty {
+        return Some(response);
     }
-    Some(response)
+    with_field(alloc, Some(response), b"content-type", kind)
 }

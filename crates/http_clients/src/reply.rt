@@ -17,18 +17,30 @@ use http_body::{Body, Frame, SizeHint};
 use http_traffic::Piece;
 use object_body::Portions;
 use std::alloc::{AllocError, Global};
+use std::mem;
 
 // The most octets of a frame of an answer that is passed on: as many as the HTTP server sends without a copy of its own.
 const MOST_OCTETS: usize = 128 * 1024;
 
 /// Octets that are known when the response begins, or pieces that are made while it is sent, or those of an answer that is passed on.
 /// What became of the request is told when this is dropped.
-#[derive(Drop)]
 pub(crate) struct Reply<H: Answers, I> {
     known: Portions,
     coming: Option<mpsc::Receiver<Vec<u8>>>,
     passed: Option<Box<Passed<I>>>,
     telling: Option<Telling<H>>,
+}
+
+// Written by hand, so that what lets it go is one call for the prover (docs/GATE.md).
+impl<H: Answers, I: Drop> Drop for Reply<H, I> {
+    fn drop(self) {
+        let Self {
+            known: _,
+            coming: _,
+            passed: _,
+            telling: _,
+        } = self;
+    }
 }
 
 // The content of an answer that is passed on, and what is left of the content of its request.
@@ -54,7 +66,7 @@ impl<I: Drop> Passed<I> {
         if let Some(upload) = &mut self.upload
             && let Poll::Ready(_) = upload.poll(cx)
         {
-            self.upload = None;
+            drop(self.upload.take());
         }
         self.pieces.poll_next(cx)
     }
@@ -146,7 +158,7 @@ impl<H: Answers, I: Drop> Reply<H, I> {
                 let Ok(octets) = Bytes::from_vec(octets) else {
                     return Poll::Ready(Some(Err(AllocError)));
                 };
-                passed.rest = octets;
+                drop(mem::replace(&mut passed.rest, octets));
                 Poll::Ready(self.passed_frame())
             }
             Some(Piece::End) => {

@@ -18,7 +18,7 @@ use futures::task::{Context, Poll};
 use hyper::rt::TokioTimer;
 use hyper::server::conn::http1;
 use hyper::server::conn::http1::Connection;
-use std::alloc::{AllocGlobal, Global};
+use std::alloc::{AllocError, AllocGlobal, Global};
 use std::hash::RandomState;
 use std::net::{IpAddr, Ipv6Addr, Net, SocketAddr, SocketAddrV6};
 use std::random::RandomSource;
@@ -192,11 +192,15 @@ impl<R: Net + Clock + Copy, H: Answers> Http<R, H> {
     fn greet(&self, socket: TcpStream, from: IpAddr, stage: SharedStage) -> Option<Client<R, H>>
         ensures { IfSome result (λ c. ⟦<Either<Kept<R, H>, Refusal<R>> as Future>⟧.can_poll c.serving) }
     {
-        let shared = stage.share().ok()?;
-        let door = self.door(from, stage)?;
-        let watching = self.watching(&door)?;
-        let dialer = Dialer::new(self.rt, self.alloc, &self.handle).ok()?;
-        let patient = self.patient(socket, shared)?;
+        let Some((door, watching, patient)) = self.parts(socket, from, stage) else {
+            return None;
+        };
+        let Ok(dialer) = Dialer::new(self.rt, self.alloc, &self.handle) else {
+            drop(patient);
+            drop(watching);
+            drop(door);
+            return None;
+        };
         let inner = self.builder.serve_connection(patient, door);
         Some(Client {
             serving: Either::Left(Watched::new(inner, watching, dialer)),
@@ -214,6 +218,39 @@ impl<R: Net + Clock + Copy, H: Answers> Http<R, H> {
         Some(Client {
             serving: Either::Right(Refusal::new(patient, text)),
         })
+    }
+}
+
+impl<R: Clock + Copy, H: Answers> Http<R, H> {
+    // What serves the client at this address. Returns `None` if out of memory.
+    fn parts(
+        &self,
+        socket: TcpStream,
+        from: IpAddr,
+        stage: SharedStage,
+    ) -> Option<(Door<H>, Watching<H>, Patient<R>)> {
+        let shared = stage.share().ok()?;
+        let (door, watching) = self.watched_door(from, stage)?;
+        match self.patient(socket, shared) {
+            Some(patient) => Some((door, watching, patient)),
+            None => {
+                drop(watching);
+                drop(door);
+                None
+            }
+        }
+    }
+
+    // The service of a connection from this address, and what watches over it. Returns `None` if out of memory.
+    fn watched_door(&self, from: IpAddr, stage: SharedStage) -> Option<(Door<H>, Watching<H>)> {
+        let door = self.door(from, stage)?;
+        match self.watching(&door) {
+            Some(watching) => Some((door, watching)),
+            None => {
+                drop(door);
+                None
+            }
+        }
     }
 
     // The client's connection, which ends where the client is too slow. Returns `None` if out of memory.
@@ -237,9 +274,7 @@ impl<R: Net + Clock + Copy, H: Answers> Http<R, H> {
             counted: self.counted(),
         })
     }
-}
 
-impl<R: Net + Clock + Copy, H: Answers> Http<R, H> {
     // The service of a connection from this address. Returns `None` if out of memory.
     fn door(&self, from: IpAddr, stage: SharedStage) -> Option<Door<H>> {
         let shared = stage.share().ok()?;
@@ -262,34 +297,115 @@ impl<R: Net + Clock + Copy, H: Answers> Http<R, H> {
     }
 }
 
-// What makes the HTTP connections of a runtime. Errors: there are no random numbers, or out of memory.
-fn http_of<R, H>(
-    rt: R,
-    runtime: &LocalRuntime,
-    answers: H,
-    bound: Bound,
-    open: Option<Arc<AtomicUsize>>,
-    limits: ServeLimits,
-) -> io::Result<Http<R, H>>
+// What HTTP connections are made with, and a handle to their event loop. Errors: there are no random numbers, or out of memory.
+fn means_of<R>(rt: R, runtime: &LocalRuntime) -> io::Result<(http1::Builder<TokioTimer<R>>, Handle)>
 where
     R: Net + Clock + RandomSource + AllocGlobal + Copy,
-    H: Answers,
 {
-    let alloc = rt.alloc();
-    let timer = TokioTimer::new(rt, runtime.handle().time().clone()?);
-    let mut builder = http1::Builder::new(alloc, RandomState::new(&rt)?).timer(timer);
+    let builder = builder_of(rt, runtime)?;
+    match runtime.handle().clone() {
+        Ok(handle) => Ok((builder, handle)),
+        Err(fault) => {
+            drop(builder);
+            Err(io::Error::from(fault))
+        }
+    }
+}
+
+// What HTTP connections are made with. Errors: there are no random numbers, or out of memory.
+fn builder_of<R>(rt: R, runtime: &LocalRuntime) -> io::Result<http1::Builder<TokioTimer<R>>>
+where
+    R: Net + Clock + RandomSource + AllocGlobal + Copy,
+{
+    let timers = runtime.handle().time().clone()?;
+    let state = RandomState::new(&rt)?;
+    let timer = TokioTimer::new(rt, timers);
+    let mut builder = http1::Builder::new(rt.alloc(), state).timer(timer);
     builder.header_read_timeout(None);
     builder.max_buf_size(64 * 1024);
-    Ok(Http {
-        rt,
-        alloc,
-        handle: runtime.handle().clone()?,
-        limits,
-        builder,
-        answers,
-        open,
-        bound: Some(bound),
-    })
+    Ok(builder)
+}
+
+// Where a server listens, and the event loop that it runs on.
+#[derive(Drop)]
+struct Place {
+    listeners: Listeners,
+    seats: SeatShare,
+    address: SocketAddr,
+    runtime: LocalRuntime,
+}
+
+// Opens an event loop, and listens there. Errors: the socket or the event loop failed.
+fn place_of<R>(rt: &R, socket: ClientSocket) -> io::Result<Place>
+where
+    R: Clock + Net + RandomSource + AllocGlobal,
+{
+    match LocalRuntime::new(rt) {
+        Ok(mut runtime) => {
+            // The stream of clients ends with the grace.
+            runtime.set_shutdown_timeout(Some(Duration::ZERO));
+            place_on(runtime, socket)
+        }
+        Err(fault) => {
+            drop(socket);
+            Err(fault)
+        }
+    }
+}
+
+// Listens on this event loop. Errors: the socket or the event loop failed.
+fn place_on(runtime: LocalRuntime, socket: ClientSocket) -> io::Result<Place> {
+    let ClientSocket {
+        listener,
+        six,
+        seats,
+    } = socket;
+    match listeners_on(&runtime, listener, six) {
+        Ok((listeners, address)) => Ok(Place {
+            listeners,
+            seats,
+            address,
+            runtime,
+        }),
+        Err(fault) => {
+            drop(seats);
+            drop(runtime);
+            Err(fault)
+        }
+    }
+}
+
+// These sockets on this event loop, and the address of the first. Errors: a socket or the event loop failed.
+fn listeners_on(
+    runtime: &LocalRuntime,
+    listener: net::TcpListener,
+    six: Option<net::TcpListener>,
+) -> io::Result<(Listeners, SocketAddr)> {
+    let listener = TcpListener::from_std(listener, runtime.handle().reactor())?;
+    let six = match six {
+        Some(six) => Some(TcpListener::from_std(six, runtime.handle().reactor())?),
+        None => None,
+    };
+    let address = listener.local_addr()?;
+    Ok((Listeners::new(listener, six), address))
+}
+
+// A place to serve at, and what HTTP connections are made with there. Errors: as `place_of` and `means_of`.
+fn opened<R>(
+    rt: R,
+    socket: ClientSocket,
+) -> io::Result<(Place, http1::Builder<TokioTimer<R>>, Handle)>
+where
+    R: Net + Clock + RandomSource + AllocGlobal + Copy,
+{
+    let place = place_of(&rt, socket)?;
+    match means_of(rt, &place.runtime) {
+        Ok((builder, handle)) => Ok((place, builder, handle)),
+        Err(fault) => {
+            drop(place);
+            Err(fault)
+        }
+    }
 }
 
 /// Serves until `stops.stop` is ready or its sender is dropped. Open connections then have `limits.grace` to end, unless `stops.hurry`
@@ -307,35 +423,39 @@ where
     R: Wait + Clock + RandomSource + AllocGlobal + Net + Copy,
     H: Answers,
 {
-    let mut runtime = LocalRuntime::new(&rt)?;
-    // The stream of clients ends with the grace.
-    runtime.set_shutdown_timeout(Some(Duration::ZERO));
-    let ClientSocket {
-        listener,
-        six,
-        seats,
-    } = socket;
-    let listener = TcpListener::from_std(listener, runtime.handle().reactor())?;
-    let six = match six {
-        Some(six) => Some(TcpListener::from_std(six, runtime.handle().reactor())?),
-        None => None,
-    };
-    let bound = Bound {
-        address: listener.local_addr()?,
-        to: bound,
-    };
-    let http = http_of(rt, &runtime, answers, bound, open, limits)?;
-    let listeners = Listeners::new(listener, six);
-    run_accepted(rt, runtime, listeners, seats, stops, http, limits)
+    match opened(rt, socket) {
+        Ok((place, builder, handle)) => {
+            let bound = Bound {
+                address: place.address,
+                to: bound,
+            };
+            let http = Http {
+                rt,
+                alloc: rt.alloc(),
+                handle,
+                limits,
+                builder,
+                answers,
+                open,
+                bound: Some(bound),
+            };
+            run_accepted(rt, place, stops, http, limits)
+        }
+        Err(fault) => {
+            drop(open);
+            drop(stops);
+            drop(bound);
+            drop(answers);
+            Err(fault)
+        }
+    }
 }
 
 // Runs a server that accepts by `accept`. A function of its own, since of a type that is named little is known here, and much has to be
 // elaborated anew of one that is.
 fn run_accepted<R, A>(
     rt: R,
-    runtime: LocalRuntime,
-    listeners: Listeners,
-    seats: SeatShare,
+    place: Place,
     stops: Stops,
     accept: A,
     limits: ServeLimits,
@@ -344,12 +464,62 @@ where
     R: Wait + Clock + RandomSource + AllocGlobal + Net + Copy,
     A: Accept,
 {
-    let mut runtime = runtime;
-    let timers = runtime.handle().time().clone()?;
-    let (most, grace) = (limits.connections, limits.grace);
+    let Place {
+        listeners,
+        seats,
+        address: _,
+        runtime,
+    } = place;
     let alloc = rt.alloc();
-    let clients = AcceptedClients::new(
-        rt, alloc, timers, listeners, stops, grace, accept, most, seats,
-    )?;
-    runtime.run_all(&rt, clients)
+    let clients = clients_of(rt, alloc, &runtime, listeners, seats, stops, accept, limits);
+    run_clients(rt, runtime, clients)
+}
+
+// The clients that are accepted by `accept`. Errors: out of memory.
+fn clients_of<R, A>(
+    rt: R,
+    alloc: Global,
+    runtime: &LocalRuntime,
+    listeners: Listeners,
+    seats: SeatShare,
+    stops: Stops,
+    accept: A,
+    limits: ServeLimits,
+) -> Result<AcceptedClients<A, R>, AllocError>
+where
+    R: Wait + Clock + Copy,
+    A: Accept,
+{
+    let (most, grace) = (limits.connections, limits.grace);
+    match runtime.handle().time().clone() {
+        Ok(timers) => AcceptedClients::new(
+            rt, alloc, timers, listeners, stops, grace, accept, most, seats,
+        ),
+        Err(fault) => {
+            drop(accept);
+            drop(stops);
+            drop(seats);
+            drop(listeners);
+            Err(fault)
+        }
+    }
+}
+
+// Serves these clients. Errors: there are none, or the event loop failed.
+fn run_clients<R, A>(
+    rt: R,
+    runtime: LocalRuntime,
+    clients: Result<AcceptedClients<A, R>, AllocError>,
+) -> io::Result<()>
+where
+    R: Wait + Clock + RandomSource + AllocGlobal + Copy,
+    A: Accept,
+{
+    let mut runtime = runtime;
+    let ran = match clients {
+        Ok(clients) => runtime.run_all(&rt, clients),
+        Err(fault) => Err(io::Error::from(fault)),
+    };
+    drop(runtime);
+    ran
 }

@@ -57,6 +57,21 @@ fn submit<F: Front + FollowUp + PassOn>(
     let Ok(owner) = context.clone() else {
         return Err(503);
     };
+    match accepted(context, facts, is_alone) {
+        Ok(asking) => Ok(Waits::new(owner, asking)),
+        Err(status) => {
+            drop(owner);
+            Err(status)
+        }
+    }
+}
+
+// What the front accepts of the request of these facts, as `submit` has it.
+fn accepted<F: Front + FollowUp + PassOn>(
+    context: &Rc<ClientContext<F>>,
+    facts: &SharedFacts,
+    is_alone: bool,
+) -> Result<Asking, u16> {
     let Ok(mut front) = context.front.try_borrow_mut() else {
         return Err(503);
     };
@@ -71,22 +86,10 @@ fn submit<F: Front + FollowUp + PassOn>(
     } else {
         front.ask(asked)
     };
-    let Asking {
-        client,
-        forward,
-        began,
-        answer,
-    } = accepted?;
-    facts.note_accepted(forward, began);
-    Ok(Waits {
-        forward,
-        answer,
-        guard: Guard {
-            context: owner,
-            client,
-            is_armed: true,
-        },
-    })
+    if let Ok(asking) = &accepted {
+        facts.note_accepted(asking.forward, asking.began);
+    }
+    accepted
 }
 
 // Whether the answer to the request of these facts is known to be too long to be stored.
@@ -114,7 +117,10 @@ fn pass_on<F: Front + FollowUp + PassOn>(
 ) -> Result<Box<Passes<F>>, u16> {
     let alloc = context.alloc;
     let passes = passes_of(context, facts, content)?;
-    Box::new(alloc, passes).map_err(|_| 503u16)
+    match Box::new(alloc, passes) {
+        Ok(passes) => Ok(passes),
+        Err(_) => Err(503),
+    }
 }
 
 // Has the front pass on the request of these facts, with this content. Errors: the status to answer.
@@ -126,6 +132,24 @@ fn passes_of<F: Front + FollowUp + PassOn>(
     let Ok(owner) = context.clone() else {
         return Err(503);
     };
+    match passing_of(context, facts, content) {
+        Ok(passing) => Ok(Passes {
+            context: owner,
+            passing,
+        }),
+        Err(status) => {
+            drop(owner);
+            Err(status)
+        }
+    }
+}
+
+// What the front passes on, as `passes_of` has it.
+fn passing_of<F: Front + FollowUp + PassOn>(
+    context: &Rc<ClientContext<F>>,
+    facts: &SharedFacts,
+    content: Option<Coming>,
+) -> Result<Passing, u16> {
     let Ok(mut front) = context.front.try_borrow_mut() else {
         return Err(503);
     };
@@ -137,12 +161,11 @@ fn passes_of<F: Front + FollowUp + PassOn>(
     let Some(asked) = &facts.asked else {
         return Err(503);
     };
-    let passing = front.pass_on(asked, content)?;
-    facts.note_passed(passing.began);
-    Ok(Passes {
-        context: owner,
-        passing,
-    })
+    let passed = front.pass_on(asked, content);
+    if let Ok(passing) = &passed {
+        facts.note_passed(passing.began);
+    }
+    passed
 }
 
 impl<F: Front + FollowUp + PassOn> Answers for FrontAnswers<F> {
@@ -270,11 +293,42 @@ impl<F: Front + FollowUp + PassOn> Drop for Guard<F> {
 }
 
 // An accepted request that waits for its answer.
-#[derive(Drop)]
 struct Waits<F: Front + FollowUp + PassOn> {
     forward: Forward,
     answer: oneshot::Receiver<Outcome>,
     guard: Guard<F>,
+}
+
+// Written by hand, so that what lets it go is one call for the prover (docs/GATE.md).
+impl<F: Front + FollowUp + PassOn> Drop for Waits<F> {
+    fn drop(self) {
+        let Self {
+            forward: _,
+            answer: _,
+            guard: _,
+        } = self;
+    }
+}
+
+impl<F: Front + FollowUp + PassOn> Waits<F> {
+    // A request that the front of this context has accepted.
+    fn new(context: Rc<ClientContext<F>>, asking: Asking) -> Waits<F> {
+        let Asking {
+            client,
+            forward,
+            began: _,
+            answer,
+        } = asking;
+        Waits {
+            forward,
+            answer,
+            guard: Guard {
+                context,
+                client,
+                is_armed: true,
+            },
+        }
+    }
 }
 
 // A request that is passed on and waits for the head of its answer.
@@ -285,7 +339,6 @@ struct Passes<F: Front + FollowUp + PassOn> {
 }
 
 // The future of one answer.
-#[derive(Drop)]
 struct Waiting<F: Front + FollowUp + PassOn> {
     alloc: Global,
     facts: SharedFacts,
@@ -294,6 +347,19 @@ struct Waiting<F: Front + FollowUp + PassOn> {
     waits: Option<Waits<F>>,
     // Once the request is passed on.
     passes: Option<Box<Passes<F>>>,
+}
+
+// Written by hand, so that what lets it go is one call for the prover (docs/GATE.md).
+impl<F: Front + FollowUp + PassOn> Drop for Waiting<F> {
+    fn drop(self) {
+        let Self {
+            alloc: _,
+            facts: _,
+            status: _,
+            waits: _,
+            passes: _,
+        } = self;
+    }
 }
 
 impl<F: Front + FollowUp + PassOn> Waiting<F> {
@@ -337,12 +403,27 @@ impl<F: Front + FollowUp + PassOn> Waiting<F> {
         };
         let accepted = submit(&waits.guard.context, &self.facts, true);
         match accepted {
-            Ok(waits) => self.waits = Some(waits),
+            Ok(waits) => drop(self.waits.replace(waits)),
             Err(status) => {
                 self.status = status;
-                self.waits = None;
+                drop(self.waits.take());
             }
         }
+    }
+
+    // As `poll_front`, with a private fetch where the answer is only for another client.
+    fn poll_answer(&mut self, cx: &mut Context<'_>) -> Poll<Option<Outcome>>
+        ensures registered { OnPending result (Covers cx.new (λ _. ⊥)) }
+        ensures kept { Keeps cx.old cx.new }
+    {
+        let answer = ready!(self.poll_front(cx));
+        if !self.is_for_another(&answer) {
+            return Poll::Ready(answer);
+        }
+        self.ask_alone();
+        let own = self.poll_front(cx);
+        drop(answer);
+        own
     }
 
     // Whether the answer is that there is none, and that because it is too long to be stored.
@@ -359,9 +440,10 @@ impl<F: Front + FollowUp + PassOn> Waiting<F> {
             return;
         };
         match pass_on(&waits.guard.context, &self.facts, None) {
-            Ok(passes) => self.passes = Some(passes),
+            Ok(passes) => drop(self.passes.replace(passes)),
             Err(status) => self.status = status,
         }
+        drop(waits);
     }
 
     // Polls for the head of the answer to a request that was passed on. Errors: the status of a failure.
@@ -389,9 +471,38 @@ impl<F: Front + FollowUp + PassOn> Waiting<F> {
     // The response to a request that was passed on, whose answer has this head. Errors: the status of a failure.
     fn passed(&mut self, head: PassedHead) -> Result<Given, u16> {
         let Some(passes) = self.passes.take() else {
+            drop(head);
             return Err(503);
         };
-        let Passes { context, passing } = Box::into_inner(passes);
+        match self.passed_fields(&passes.context, &head) {
+            Ok((told, via)) => {
+                let Passes { context, passing } = Box::into_inner(passes);
+                let given = passed_given(
+                    self.alloc,
+                    PassedAnswer {
+                        head,
+                        pieces: passing.pieces,
+                        via,
+                        told,
+                    },
+                );
+                drop(context);
+                given
+            }
+            Err(status) => {
+                drop(passes);
+                drop(head);
+                Err(status)
+            }
+        }
+    }
+
+    // The Cache-Status and the Via of an answer with this head, which the front is told of. Errors: the status of a failure.
+    fn passed_fields(
+        &self,
+        context: &Rc<ClientContext<F>>,
+        head: &PassedHead,
+    ) -> Result<(Vec<u8>, Vec<u8>), u16> {
         let Ok(facts) = self.facts.0.try_borrow_mut() else {
             return Err(503);
         };
@@ -408,15 +519,7 @@ impl<F: Front + FollowUp + PassOn> Waiting<F> {
         let told = told_passed(self.alloc, context.label.as_slice(), is_get);
         let via = context.via.as_slice().to_vec(self.alloc);
         match (told, via) {
-            (Ok(told), Ok(via)) => passed_given(
-                self.alloc,
-                PassedAnswer {
-                    head,
-                    pieces: passing.pieces,
-                    via,
-                    told,
-                },
-            ),
+            (Ok(told), Ok(via)) => Ok((told, via)),
             _ => Err(503),
         }
     }
@@ -424,6 +527,7 @@ impl<F: Front + FollowUp + PassOn> Waiting<F> {
     // The content of the response. Errors: the status of a failure.
     fn content(&self, answer: Option<Outcome>) -> Result<Given, u16> {
         let Some(waits) = &self.waits else {
+            drop(answer);
             return Err(self.status);
         };
         let Some(answer) = answer else {
@@ -487,15 +591,12 @@ impl<F: Front + FollowUp + PassOn> Future for Waiting<F> {
 
     fn poll(&mut self, cx: &mut Context<'_>) -> Poll<Given> {
         if self.passes.is_none() {
-            let mut answer = ready!(self.poll_front(cx));
-            if self.is_for_another(&answer) {
-                self.ask_alone();
-                answer = ready!(self.poll_front(cx));
-            }
+            let answer = ready!(self.poll_answer(cx));
             if !self.is_too_long(&answer) {
                 return Poll::Ready(self.given(answer));
             }
             self.pass_on();
+            drop(answer);
         }
         match ready!(self.poll_head(cx)) {
             Ok(head) => Poll::Ready(self.given_head(head)),
@@ -537,22 +638,52 @@ fn given_of(
     answer: Outcome,
     shape: Shape,
 ) -> Result<Given, u16> {
-    let (object, age, supplier, is_stored) = match answer {
-        Outcome::Hit { object, age } => (object, Some(age), None, false),
+    match answer {
+        Outcome::Hit { object, age } => {
+            let told = told_hit(alloc, label, ttl_of(&object, age));
+            object_given(object, shape, Some(age), told)
+        }
         Outcome::Got {
             object,
             supplier,
             is_stored,
-        } => (object, stale_age(supplier), supplier, is_stored),
-        Outcome::Early { early, .. } => return early_given(alloc, label, forward, early),
-        Outcome::Fail(status) => return Err(status),
-    };
-    let told = match (age, supplier) {
-        (_, Some(Supplier::Stale(_))) => told_stale(alloc, label),
-        (_, Some(Supplier::Confirmed)) => told_confirmed(alloc, label, forward, is_stored),
-        (Some(age), _) => told_hit(alloc, label, ttl_of(&object, age)),
-        (None, _) => told_forward(alloc, label, forward, is_stored),
-    };
+        } => {
+            let told = told_got(alloc, label, forward, supplier, is_stored);
+            object_given(object, shape, stale_age(supplier), told)
+        }
+        Outcome::Early { early, .. } => {
+            drop(shape);
+            early_given(alloc, label, forward, early)
+        }
+        Outcome::Fail(status) => {
+            drop(shape);
+            Err(status)
+        }
+    }
+}
+
+// The Cache-Status member of an object that is none of a hit.
+fn told_got(
+    alloc: Global,
+    label: &[u8],
+    forward: Forward,
+    supplier: Option<Supplier>,
+    is_stored: bool,
+) -> Result<Vec<u8>, AllocError> {
+    match supplier {
+        Some(Supplier::Stale(_)) => told_stale(alloc, label),
+        Some(Supplier::Confirmed) => told_confirmed(alloc, label, forward, is_stored),
+        _ => told_forward(alloc, label, forward, is_stored),
+    }
+}
+
+// The content of the response with an object. Errors: 503 if out of memory.
+fn object_given(
+    object: SharedObject,
+    shape: Shape,
+    age: Option<u32>,
+    told: Result<Vec<u8>, AllocError>,
+) -> Result<Given, u16> {
     match told {
         Ok(told) => Ok(Given::Object {
             object,
@@ -560,7 +691,11 @@ fn given_of(
             age,
             told,
         }),
-        Err(_) => Err(503),
+        Err(_) => {
+            drop(shape);
+            drop(object);
+            Err(503)
+        }
     }
 }
 
@@ -692,12 +827,19 @@ fn label_of(alloc: Global, name: &str) -> Result<Vec<u8>, AllocError> {
 // Whether the octets are a token of a structured field.
 fn is_token(octets: &[u8]) -> bool {
     match octets.first() {
-        Some(first) => {
-            (first.is_ascii_alphabetic() || *first == b'*')
-                && octets.iter().all(|octet| is_token_octet(*octet))
-        }
+        Some(first) => (first.is_ascii_alphabetic() || *first == b'*') && are_in_token(octets),
         None => false,
     }
+}
+
+// Whether each of these octets may stand in a token.
+fn are_in_token(octets: &[u8]) -> bool {
+    for &octet in octets {
+        if !is_token_octet(octet) {
+            return false;
+        }
+    }
+    true
 }
 
 fn is_token_octet(octet: u8) -> bool {

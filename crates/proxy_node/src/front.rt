@@ -43,10 +43,10 @@ pub struct FrontRules {
 impl Drop for FrontRules {
     fn drop(self) {
         let Self {
-            allowed: _allowed,
-            allowed_six: _allowed_six,
-            mirrors: _mirrors,
-            purger: _purger,
+            allowed: _,
+            allowed_six: _,
+            mirrors: _,
+            purger: _,
         } = self;
     }
 }
@@ -145,12 +145,7 @@ fn forwarded_of(
 
 /// The fields that a fetch forwards for a request in this mode, which has CDN-Loop fields only if `is_marked`. Errors: the HTTP status to
 /// answer.
-fn fields_of(
-    alloc: Global,
-    asked: &Asked,
-    mode: Mode,
-    is_marked: bool,
-) -> Result<Vec<Field>, u16> {
+fn fields_of(alloc: Global, asked: &Asked, mode: Mode, is_marked: bool) -> Result<Vec<Field>, u16> {
     match mode {
         Mode::Private => match passed_on(alloc, asked) {
             Ok(fields) => Ok(fields),

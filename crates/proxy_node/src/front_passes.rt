@@ -65,12 +65,14 @@ impl Lines {
     fn new<R: Clock>(rt: &R, alloc: Global, asked: &Asked) -> Result<Lines, AllocError> {
         let method = String::from_str(alloc, asked.method.as_str())?;
         match open_ends(alloc) {
-            Ok(Ends {
-                head,
-                heard,
-                pieces,
-                coming,
-            }) => Ok(Lines {
+            Ok(
+                Ends {
+                    head,
+                    heard,
+                    pieces,
+                    coming,
+                },
+            ) => Ok(Lines {
                 method,
                 head,
                 pieces,

@@ -17,10 +17,7 @@ pub struct AccessLog {
 // Written by hand, so that what lets it go is one call for the prover (docs/GATE.md).
 impl Drop for AccessLog {
     fn drop(self) {
-        let Self {
-            desk: _desk,
-            form: _form,
-        } = self;
+        let Self { desk: _, form: _ } = self;
     }
 }
 

@@ -31,9 +31,9 @@ pub struct Outgoing {
 impl Drop for Outgoing {
     fn drop(self) {
         let Self {
-            socket: _socket,
-            to: _to,
-            payload: _payload,
+            socket: _,
+            to: _,
+            payload: _,
         } = self;
     }
 }
@@ -47,10 +47,7 @@ pub struct Outbox {
 // Written by hand, so that what lets it go is one call for the prover (docs/GATE.md).
 impl Drop for Outbox {
     fn drop(self) {
-        let Self {
-            to: _to,
-            bell: _bell,
-        } = self;
+        let Self { to: _, bell: _ } = self;
     }
 }
 

@@ -24,10 +24,7 @@ pub struct Notices {
 // Written by hand, so that what lets it go is one call for the prover (docs/GATE.md).
 impl Drop for Notices {
     fn drop(self) {
-        let Self {
-            desk: _desk,
-            pace: _pace,
-        } = self;
+        let Self { desk: _, pace: _ } = self;
     }
 }
 

@@ -216,7 +216,11 @@ impl<R: Wait + Clock + Drop, L: Ledger> NodePanel<R, L> {
 
     // What is counted of each neighbour.
     fn counts(&self) -> Result<Vec<NeighbourCounts>, AllocError> {
-        self.node.lock(&self.rt).proxy().figures.by_neighbour(self.alloc)
+        self.node
+            .lock(&self.rt)
+            .proxy()
+            .figures
+            .by_neighbour(self.alloc)
     }
 
     // The state of each neighbour and what is counted of it, as JSON.

@@ -19,8 +19,8 @@ pub struct PartKeys {
 impl Drop for PartKeys {
     fn drop(self) {
         let Self {
-            requests: _requests,
-            limit: _limit,
+            requests: _,
+            limit: _,
         } = self;
     }
 }

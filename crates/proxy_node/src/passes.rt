@@ -71,10 +71,7 @@ pub struct Places {
 // Written by hand, so that what lets it go is one call for the prover (docs/GATE.md).
 impl Drop for Places {
     fn drop(self) {
-        let Self {
-            most: _most,
-            taken: _taken,
-        } = self;
+        let Self { most: _, taken: _ } = self;
     }
 }
 
@@ -138,18 +135,18 @@ pub struct Passes {
 impl Drop for Passes {
     fn drop(self) {
         let Self {
-            methods: _methods,
-            connect_ports: _connect_ports,
-            has_six: _has_six,
-            ends: _ends,
-            large: _large,
-            streams: _streams,
-            tunnels: _tunnels,
-            stream_still: _stream_still,
-            tunnel_still: _tunnel_still,
-            connecting: _connecting,
-            is_direct: _is_direct,
-            parent: _parent,
+            methods: _,
+            connect_ports: _,
+            has_six: _,
+            ends: _,
+            large: _,
+            streams: _,
+            tunnels: _,
+            stream_still: _,
+            tunnel_still: _,
+            connecting: _,
+            is_direct: _,
+            parent: _,
         } = self;
     }
 }

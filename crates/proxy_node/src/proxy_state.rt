@@ -46,10 +46,7 @@ pub struct Lanes {
 // Written by hand, so that what lets it go is one call for the prover (docs/GATE.md).
 impl Drop for Lanes {
     fn drop(self) {
-        let Self {
-            names: _names,
-            jobs: _jobs,
-        } = self;
+        let Self { names: _, jobs: _ } = self;
     }
 }
 

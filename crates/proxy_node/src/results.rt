@@ -135,9 +135,9 @@ struct Brought {
 impl Drop for Brought {
     fn drop(self) {
         let Self {
-            object: _object,
-            step: _step,
-            is_changed: _is_changed,
+            object: _,
+            step: _,
+            is_changed: _,
         } = self;
     }
 }
@@ -163,8 +163,8 @@ struct Delivery {
 impl Drop for Delivery {
     fn drop(self) {
         let Self {
-            brought: _brought,
-            supplier: _supplier,
+            brought: _,
+            supplier: _,
         } = self;
     }
 }
@@ -191,11 +191,11 @@ struct Made {
 impl Drop for Made {
     fn drop(self) {
         let Self {
-            flight: _flight,
-            key: _key,
-            is_unanswered: _is_unanswered,
-            delivery: _delivery,
-            replaced: _replaced,
+            flight: _,
+            key: _,
+            is_unanswered: _,
+            delivery: _,
+            replaced: _,
         } = self;
     }
 }

@@ -55,9 +55,9 @@ pub struct Purger {
 impl Drop for Purger {
     fn drop(self) {
         let Self {
-            own: _own,
-            is_allowed: _is_allowed,
-            key: _key,
+            own: _,
+            is_allowed: _,
+            key: _,
         } = self;
     }
 }
