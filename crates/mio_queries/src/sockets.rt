@@ -259,7 +259,7 @@ impl<R: Net + Clock + AllocGlobal + Drop> Sockets<R> {
     }
 }
 
-// Binds a socket and registers it for polling.
+// What waits for datagrams, with the bell registered.
 fn open_polling<R: Net + AllocGlobal>(rt: &R) -> Result<Polling, BindFault> {
     let Ok(poll) = Poll::new(rt) else {
         return Err(BindFault::Io);
@@ -302,7 +302,7 @@ fn both_bound(
     }
 }
 
-// A socket at this end, registered for polling.
+// Binds a socket and registers it for polling.
 fn bound(rt: &impl Net, poll: &Poll, socket: Socket, end: End) -> Result<UdpSocket, BindFault> {
     let mut bound = match UdpSocket::bind(rt, address(end)) {
         Ok(bound) => bound,
