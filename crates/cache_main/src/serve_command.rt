@@ -5,11 +5,11 @@ use crate::ending::tell_finish;
 use crate::version::VERSION;
 use access_log::Form;
 use cache_serve::{
-    Equipment, MethodsFault, Port, ProxyLimits, SEATS, ServeFault, Site, methods_fault, start,
+    Addresses, Equipment, MethodsFault, Port, ProxyLimits, SEATS, ServeFault, methods_fault, start,
 };
 use filter_files::{FilesFault, Filter, read_filters};
 use log_writer::{LogPlace, LogTask, open_log};
-use proxy_node::{AccessLog, Notices};
+use proxy_state::{AccessLog, Notices};
 use serve_config::{LogFormat, LogLevel, Settings};
 use std::alloc::AllocGlobal;
 use std::fs;
@@ -95,7 +95,7 @@ where
     match start::<L, R>(rt, blank, settings, equipment, ProxyLimits::usual()) {
         Ok(site) => {
             let _ = println!(rt; "ready");
-            tell_ports(&rt, &site, &asked);
+            tell_ports(&rt, site.addresses(), &asked);
             match site.finish(rt) {
                 Ok(finish) => {
                     tell_finish(rt, &finish);
@@ -216,12 +216,8 @@ impl AskedPorts {
 }
 
 /// Prints the port that the system chose for each that was asked for as 0.
-fn tell_ports<R: Eprint, L: Ledger + Send + Sync + 'static>(
-    rt: &R,
-    site: &Site<L>,
-    asked: &AskedPorts,
-) {
-    let Some(chosen) = site.addresses() else {
+fn tell_ports<R: Eprint>(rt: &R, chosen: Option<Addresses>, asked: &AskedPorts) {
+    let Some(chosen) = chosen else {
         return;
     };
     tell_port(rt, "icp_port", asked.icp, chosen.icp.port);

@@ -7,7 +7,7 @@ mod orders;
 
 use crate::fault::{Port, ServeFault};
 use crate::limits::{ProxyLimits, SEATS};
-use crate::site::{Addresses, Equipment, Site};
+use crate::site::{Addresses, Equipment, Site, site_of};
 use crate::tasks::{
     AdministrationTask, BoundQueries, Ending, QueryTask, Task, ThreadConfig, Work, no_memory,
     run_task,
@@ -22,7 +22,10 @@ use http_rules::SixEnd;
 use log_writer::{LogTask, run_log};
 use node_core::Event;
 use orders::{InnerOrders, Keeping, Orders, ServerOrders, equipped, server_orders, thread_config};
-use proxy_node::{FrontRules, NodeHandle, Outbox, Outgoing, ProxyState, ThreadSeat};
+use proxy_front::FrontRules;
+use proxy_node::{AtDesk, NodeHandle, Outbox, Outgoing, ProxyState, ThreadSeat};
+use proxy_panel::Overseen;
+use proxy_state::{Shared, TakeEvents, add_own, note_own_six};
 use serve_config::Settings;
 use std::alloc::{AllocGlobal, Global};
 use std::fs::Files;
@@ -36,13 +39,13 @@ use std::thread::{JoinHandle, Threads};
 use std::time::Clock;
 use std::{mem, thread};
 
-/// A proxy whose threads are being started.
+/// A proxy whose threads are being started. `S` is the state that they share.
 #[derive(Drop)]
-pub(crate) struct Opening<R, L: Ledger> {
+pub(crate) struct Opening<R, S, L: Ledger> {
     rt: R,
     alloc: Global,
     config: ThreadConfig,
-    site: Site<L>,
+    site: Site<S, L>,
 }
 
 /// The addresses of the query sockets.
@@ -67,9 +70,167 @@ struct ServerLine {
     stop: oneshot::Sender<()>,
 }
 
-impl<R, L> Opening<R, L>
+/// A proxy that has no thread yet, and what its threads are started with.
+pub(crate) fn prepared<R, L>(
+    rt: R,
+    blank: Blank,
+    mut settings: Settings,
+    equipment: Equipment<R::File>,
+    limits: ProxyLimits,
+) -> Result<(Opening<R, ProxyState<L>, L>, Orders<R::File>), ServeFault>
+where
+    R: Threads + Clock + RandomSource + AllocGlobal + Files + Drop,
+    L: Ledger,
+    requires name { blank.name ≡ L.name }
+    requires parts { blank.parts ≡ L.parts }
+    requires seats { blank.parts ≡ SEATS }
+{
+    let alloc = rt.alloc();
+    let config = thread_config(&rt, &settings, limits);
+    match server_orders(alloc, &mut settings, config.client_threads) {
+        Ok((servers, hurries)) => {
+            let (given, inner) = equipped(equipment, config.limits, hurries);
+            let site = site_of(&rt, alloc, blank, settings, given);
+            opening_of(rt, config, site, Orders { inner, servers })
+        }
+        Err(_) => {
+            drop(settings);
+            drop(equipment);
+            Err(ServeFault::NoMemory)
+        }
+    }
+}
+
+impl<R: Drop, S: AtDesk<L>, L: Ledger + Send + Sync + 'static> Opening<R, S, L> {
+    /// The proxy, if its threads were started. Else they are ended.
+    pub(crate) fn into_site(self, opened: Result<(), ServeFault>) -> Result<Site<S, L>, ServeFault>
+    where
+        R: Threads + Wait + Clock + Copy,
+    {
+        let Opening { rt, site, .. } = self;
+        match opened {
+            Ok(()) => Ok(site),
+            // A server's thread tells more of why its socket was not bound.
+            Err(fault) => match site.shut(rt) {
+                Err(told) => Err(told),
+                Ok(_) => Err(fault),
+            },
+        }
+    }
+}
+
+impl<R, S: Shared, L: Ledger> Opening<R, S, L> {
+    fn query_task(
+        &mut self,
+        outgoing: Receiver<Outgoing, Global>,
+        bound: Sender<Result<BoundQueries, ServeFault>, Global>,
+    ) -> Result<QueryTask<S, L>, ServeFault> {
+        let is_ended = Arc::try_clone(&self.site.is_ended).map_err(no_memory)?;
+        let end = self.site.ender()?;
+        Ok(QueryTask {
+            seat: self.site.seat()?,
+            icp: self.config.icp,
+            htcp: self.config.htcp,
+            outgoing,
+            bound,
+            is_ended,
+            end,
+        })
+    }
+
+    /// How a server's thread and this one hear of each other.
+    fn server_line(&self) -> Result<(ServerEnd, ServerLine), ServeFault> {
+        let end = self.site.ender()?;
+        let (stop, stopped) = oneshot::channel(self.alloc).map_err(no_memory)?;
+        let (bound, heard) = unbounded(self.alloc).map_err(no_memory)?;
+        let ours = ServerLine { heard, stop };
+        Ok((
+            ServerEnd {
+                bound,
+                stopped,
+                end,
+            },
+            ours,
+        ))
+    }
+
+    /// The task of the thread that serves administration.
+    fn administration_task(
+        &mut self,
+        keeping: Keeping,
+        there: ServerEnd,
+    ) -> Result<AdministrationTask<S, L>, ServeFault> {
+        match self.admin_share() {
+            Ok((proxy, seat, hurried)) => Ok(AdministrationTask {
+                proxy,
+                seat,
+                config: self.config,
+                token: keeping.token,
+                files: keeping.files,
+                purger: keeping.purger,
+                bound: there.bound,
+                stopped: there.stopped,
+                hurried,
+                end: there.end,
+            }),
+            Err(fault) => {
+                drop(keeping);
+                drop(there);
+                Err(fault)
+            }
+        }
+    }
+
+    /// What the thread that serves administration has of the shared state, and what it would hear the end of its grace from: nothing ends
+    /// the grace of administrators early, so the sender is dropped here.
+    fn admin_share(
+        &mut self,
+    ) -> Result<(Arc<S>, ThreadSeat<S, L>, oneshot::Receiver<()>), ServeFault> {
+        let (_, hurried) = oneshot::channel(self.alloc).map_err(no_memory)?;
+        let proxy = self.site.share()?;
+        Ok((proxy, self.site.seat()?, hurried))
+    }
+}
+
+impl<R: Wait + Clock + Copy, S: AtDesk<L>, L: Ledger> Opening<R, S, L> {
+    /// Installs filters, as events of the node.
+    fn install(&mut self, filters: Vec<Filter>) -> Result<(), ServeFault> {
+        let mut node = NodeHandle::new(self.rt, self.alloc, self.site.seat()?, None);
+        let installed = install_all(&mut node, filters);
+        match self.site.spare.push(node.into_seat()) {
+            Ok(()) => installed,
+            Err(_) => Err(ServeFault::NoMemory),
+        }
+    }
+
+    /// Has a bound socket never fetched from.
+    fn add_own(&self, bound: SocketAddr) -> Result<(), ServeFault> {
+        let IpAddr::V4(address) = bound.ip() else {
+            return Ok(());
+        };
+        let end = End {
+            addr: address.octets(),
+            port: bound.port(),
+        };
+        add_own(&self.rt, &*self.site.proxy, end).map_err(no_memory)
+    }
+
+    /// Has the socket for clients at an address of IPv6, which has the same port as the one that is bound here, never fetched from.
+    fn note_own_six(&self, bound: SocketAddr) {
+        if let Some(address) = self.config.six {
+            let end = SixEnd {
+                address: address.to_bits(),
+                port: bound.port(),
+            };
+            note_own_six(&self.rt, &*self.site.proxy, end);
+        }
+    }
+}
+
+impl<R, S, L> Opening<R, S, L>
 where
     L: Ledger + Send + Sync + 'static,
+    S: AtDesk<L> + Overseen + Send + Sync + 'static,
     R: Threads
         + Wait
         + Net
@@ -87,67 +248,8 @@ where
     R::File: Send + 'static,
     R::Dir: Send + 'static,
 {
-    /// A proxy that has no thread yet, and what its threads are started with.
-    pub(crate) fn prepared(
-        rt: R,
-        blank: Blank,
-        mut settings: Settings,
-        equipment: Equipment<R::File>,
-        limits: ProxyLimits,
-    ) -> Result<(Opening<R, L>, Orders<R::File>), ServeFault>
-        requires name { blank.name ≡ L.name }
-        requires parts { blank.parts ≡ L.parts }
-        requires seats { blank.parts ≡ SEATS }
-    {
-        let alloc = rt.alloc();
-        let config = thread_config(&rt, &settings, limits);
-        match server_orders(alloc, &mut settings, config.client_threads) {
-            Ok((servers, hurries)) => {
-                let (given, inner) = equipped(equipment, config.limits, hurries);
-                let site = Site::new(&rt, alloc, blank, settings, given);
-                opening_of(rt, config, site, Orders { inner, servers })
-            }
-            Err(_) => {
-                drop(settings);
-                drop(equipment);
-                Err(ServeFault::NoMemory)
-            }
-        }
-    }
-
-    /// The proxy, if its threads were started. Else they are ended.
-    pub(crate) fn into_site(self, opened: Result<(), ServeFault>) -> Result<Site<L>, ServeFault> {
-        let Opening { rt, site, .. } = self;
-        match opened {
-            Ok(()) => Ok(site),
-            // A server's thread tells more of why its socket was not bound.
-            Err(fault) => match site.shut(rt) {
-                Err(told) => Err(told),
-                Ok(_) => Err(fault),
-            },
-        }
-    }
-
-    /// The next free seat, with the shared state.
-    fn seat(&mut self) -> Result<ThreadSeat<L>, ServeFault> {
-        let Some(seat) = self.site.spare.pop() else {
-            return Err(ServeFault::NoMemory);
-        };
-        ThreadSeat::new(&self.site.proxy, seat).map_err(no_memory)
-    }
-
-    /// One more owner of the shared state.
-    fn proxy(&self) -> Result<Arc<ProxyState<L>>, ServeFault> {
-        Arc::try_clone(&self.site.proxy).map_err(no_memory)
-    }
-
-    /// One more sender that asks the proxy to end.
-    fn end(&self) -> Result<Sender<(), Global>, ServeFault> {
-        self.site.end.clone().map_err(no_memory)
-    }
-
     /// Starts a thread.
-    fn begin(&mut self, work: Work<L>) -> Result<JoinHandle<Ending<L>>, ServeFault> {
+    fn begin(&mut self, work: Work<S, L>) -> Result<JoinHandle<Ending<L>>, ServeFault> {
         let (rt, task) = (self.rt, Task { work });
         let Ok(thread) = thread::spawn(&rt, move || run_task(rt, task)) else {
             return Err(ServeFault::NoMemory);
@@ -156,12 +258,9 @@ where
     }
 
     /// Starts a thread and keeps its handle.
-    fn keep(&mut self, work: Work<L>) -> Result<(), ServeFault> {
+    fn keep(&mut self, work: Work<S, L>) -> Result<(), ServeFault> {
         let thread = self.begin(work)?;
-        match self.site.threads.push(thread) {
-            Ok(()) => Ok(()),
-            Err(_) => Err(ServeFault::NoMemory),
-        }
+        self.site.keep(thread)
     }
 
     /// Starts a thread that writes a log, if there is one.
@@ -179,16 +278,6 @@ where
             return Err(ServeFault::NoMemory);
         };
         Ok(Some(Writing { thread, written }))
-    }
-
-    /// Installs filters, as events of the node.
-    fn install(&mut self, filters: Vec<Filter>) -> Result<(), ServeFault> {
-        let mut node = NodeHandle::new(self.rt, self.alloc, self.seat()?, None);
-        let installed = install_all(&mut node, filters);
-        match self.site.spare.push(node.into_seat()) {
-            Ok(()) => installed,
-            Err(_) => Err(ServeFault::NoMemory),
-        }
     }
 
     /// Starts the threads, the query sockets' before the clients', since these send queries.
@@ -297,29 +386,6 @@ where
         Ok((outbox, QueryEnds { icp, htcp }))
     }
 
-    /// Has a bound socket never fetched from.
-    fn add_own(&self, bound: SocketAddr) -> Result<(), ServeFault> {
-        let IpAddr::V4(address) = bound.ip() else {
-            return Ok(());
-        };
-        let end = End {
-            addr: address.octets(),
-            port: bound.port(),
-        };
-        self.site.proxy.add_own(&self.rt, end).map_err(no_memory)
-    }
-
-    /// Has the socket for clients at an address of IPv6, which has the same port as the one that is bound here, never fetched from.
-    fn note_own_six(&self, bound: SocketAddr) {
-        if let Some(address) = self.config.six {
-            let end = SixEnd {
-                address: address.to_bits(),
-                port: bound.port(),
-            };
-            self.site.proxy.note_own_six(&self.rt, end);
-        }
-    }
-
     fn open_queries(
         &mut self,
         outgoing: Receiver<Outgoing, Global>,
@@ -331,73 +397,6 @@ where
             Ok(bound) => bound,
             Err(_) => Err(ServeFault::NoMemory),
         }
-    }
-
-    fn query_task(
-        &mut self,
-        outgoing: Receiver<Outgoing, Global>,
-        bound: Sender<Result<BoundQueries, ServeFault>, Global>,
-    ) -> Result<QueryTask<L>, ServeFault> {
-        let is_ended = Arc::try_clone(&self.site.is_ended).map_err(no_memory)?;
-        let end = self.end()?;
-        Ok(QueryTask {
-            seat: self.seat()?,
-            icp: self.config.icp,
-            htcp: self.config.htcp,
-            outgoing,
-            bound,
-            is_ended,
-            end,
-        })
-    }
-
-    /// How a server's thread and this one hear of each other.
-    fn server_line(&self) -> Result<(ServerEnd, ServerLine), ServeFault> {
-        let end = self.end()?;
-        let (stop, stopped) = oneshot::channel(self.alloc).map_err(no_memory)?;
-        let (bound, heard) = unbounded(self.alloc).map_err(no_memory)?;
-        let ours = ServerLine { heard, stop };
-        Ok((
-            ServerEnd {
-                bound,
-                stopped,
-                end,
-            },
-            ours,
-        ))
-    }
-
-    /// The task of the thread that serves administration.
-    fn administration_task(
-        &mut self,
-        keeping: Keeping,
-        there: ServerEnd,
-    ) -> Result<AdministrationTask<L>, ServeFault> {
-        match self.seat_and_hurry() {
-            Ok((seat, hurried)) => Ok(AdministrationTask {
-                seat,
-                config: self.config,
-                token: keeping.token,
-                files: keeping.files,
-                purger: keeping.purger,
-                bound: there.bound,
-                stopped: there.stopped,
-                hurried,
-                end: there.end,
-            }),
-            Err(fault) => {
-                drop(keeping);
-                drop(there);
-                Err(fault)
-            }
-        }
-    }
-
-    /// The seat of the thread that serves administration, and what it would hear the end of its grace from: nothing ends the grace of
-    /// administrators early, so the sender is dropped here.
-    fn seat_and_hurry(&mut self) -> Result<(ThreadSeat<L>, oneshot::Receiver<()>), ServeFault> {
-        let (_, hurried) = oneshot::channel(self.alloc).map_err(no_memory)?;
-        Ok((self.seat()?, hurried))
     }
 
     fn open_administration(&mut self, keeping: Keeping) -> Result<SocketAddr, ServeFault> {
@@ -415,19 +414,19 @@ where
         let Ok(address) = heard.recv(&self.rt) else {
             return Err(ServeFault::Bind(Port::Administration, ErrorKind::Other));
         };
-        let port = &self.site.proxy.admin_port;
+        let port = &self.site.proxy.telling().admin_port;
         port.store(address.port(), Ordering::SeqCst);
         Ok(address)
     }
 }
 
 /// A proxy around the site that was made, and what its threads are started with.
-fn opening_of<R: AllocGlobal + Drop, L: Ledger, F: Drop>(
+fn opening_of<R: AllocGlobal + Drop, S: Drop, L: Ledger, F: Drop>(
     rt: R,
     config: ThreadConfig,
-    site: Result<Site<L>, ServeFault>,
+    site: Result<Site<S, L>, ServeFault>,
     orders: Orders<F>,
-) -> Result<(Opening<R, L>, Orders<F>), ServeFault> {
+) -> Result<(Opening<R, S, L>, Orders<F>), ServeFault> {
     match site {
         Ok(site) => {
             let alloc = rt.alloc();
@@ -447,17 +446,14 @@ fn opening_of<R: AllocGlobal + Drop, L: Ledger, F: Drop>(
 }
 
 /// Submits the swap of each filter. Errors: out of memory.
-fn install_all<R: Wait + Clock + Drop, L: Ledger>(
-    node: &mut NodeHandle<R, L>,
-    filters: Vec<Filter>,
-) -> Result<(), ServeFault> {
+fn install_all<N: TakeEvents>(node: &mut N, filters: Vec<Filter>) -> Result<(), ServeFault> {
     for filter in filters {
         let Filter { slot, program } = filter;
         let event = Event::Swap {
             slot,
             program: Some(program),
         };
-        if node.take(event).is_err() {
+        if node.take(event).is_none() {
             return Err(ServeFault::NoMemory);
         }
     }

@@ -4,7 +4,7 @@ use http_rules::{OriginRules, is_unsafe};
 use neighbours::Role;
 use node_core::Config;
 use object_store::KeyHashes;
-use proxy_node::{LargeKeys, Passes, Places};
+use proxy_state::{LargeKeys, Passes, Places};
 use serve_config::{Large, Settings};
 use std::alloc::{AllocError, Global};
 use std::mem;

@@ -4,7 +4,9 @@ use crate::limits::SENDS_A_TURN;
 use crossbeam_channel::Receiver;
 use mio_queries::{MioWire, PumpFault, Wire, pump_with};
 use node_core::Out;
-use proxy_node::{MalformedWatch, NodeHandle, Outgoing, RETRIES, RETRY_MILLIS};
+use proxy_node::{AtDesk, MalformedWatch, NodeHandle, Outgoing};
+use proxy_panel::Overseen;
+use proxy_state::{RETRIES, RETRY_MILLIS};
 use std::alloc::{AllocGlobal, Global};
 use std::net::Net;
 use std::sync::Wait;
@@ -14,16 +16,17 @@ use std::thread;
 use std::time::{Clock, Duration};
 
 /// Receives and sends datagrams until `is_ended` is set. Errors: a socket failed, or too many consecutive allocation failures.
-pub fn carry<R, L>(
+pub fn carry<R, S, L>(
     rt: &R,
     alloc: Global,
     wire: &mut MioWire<R>,
-    node: &mut NodeHandle<R, L>,
+    node: &mut NodeHandle<R, S, L>,
     outgoing: &Receiver<Outgoing, Global>,
     is_ended: &AtomicBool,
 ) -> Result<(), ServeFault>
 where
     R: Wait + Net + Clock + AllocGlobal + Drop,
+    S: AtDesk<L> + Overseen,
     L: Ledger,
 {
     let (Ok(mut out), Ok(bell)) = (Out::new(alloc), wire.bell()) else {

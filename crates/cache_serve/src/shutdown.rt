@@ -4,8 +4,9 @@ use crate::site::Site;
 use crate::tasks::Ending;
 use crate::writing::Written;
 use futures::channel::oneshot;
-use node_book::{Desk, Report, Seat};
-use proxy_node::ProxyState;
+use node_book::{Report, Seat};
+use proxy_node::AtDesk;
+use proxy_state::{Shared, close};
 use std::sync::atomic::Ordering;
 use std::sync::ledger::Ledger;
 use std::sync::{Arc, Wait};
@@ -25,7 +26,7 @@ pub struct Finish {
     pub is_told: bool,
 }
 
-impl<L: Ledger + Send + Sync + 'static> Site<L> {
+impl<S: AtDesk<L>, L: Ledger + Send + Sync + 'static> Site<S, L> {
     /// Stops and joins all threads but those that look up names, and settles the event log. Those that serve clients go first, so that
     /// fetches that are still under way have their grace. Returns the report, and which logs are written to their end.
     pub(crate) fn shut<R: Threads + Wait + Clock + Copy>(
@@ -57,7 +58,7 @@ impl<L: Ledger + Send + Sync + 'static> Site<L> {
         if let Some(stop) = stop_administration {
             let _ = stop.send(());
         }
-        proxy.close(&rt);
+        close(&rt, &*proxy);
         endings.join(&rt, threads);
         let settled = settled(proxy, endings);
         let written = writings.finish(&rt);
@@ -104,8 +105,8 @@ fn tell_stop(stops: Vec<oneshot::Sender<()>>) {
 }
 
 /// Settles the event log, unless a thread ended with a fault.
-fn settled<L: Ledger>(
-    proxy: Arc<ProxyState<L>>,
+fn settled<S: AtDesk<L>, L: Ledger>(
+    proxy: Arc<S>,
     endings: Endings<L>,
 ) -> Result<Report, ServeFault> {
     let Endings { seats, fault } = endings;
@@ -115,18 +116,12 @@ fn settled<L: Ledger>(
     let Some(proxy) = Arc::into_inner(proxy) else {
         return Err(ServeFault::Settle);
     };
-    let (is_astray, desk) = desk_of_state(proxy);
-    if is_astray {
-        drop(desk);
+    if proxy.stopping().is_astray.load(Ordering::SeqCst) {
+        drop(proxy);
         return Err(ServeFault::Settle);
     }
-    match desk.settle(seats) {
+    match proxy.into_desk().settle(seats) {
         Ok(report) => Ok(report),
         Err(_) => Err(ServeFault::Settle),
     }
-}
-
-/// Whether an audit found a receipt that does not agree with the event log, and the desk.
-fn desk_of_state<L: Ledger>(proxy: ProxyState<L>) -> (bool, Desk<L>) {
-    (proxy.is_astray.into_inner(), proxy.desk)
 }

@@ -3,7 +3,7 @@ ghost use Rattle.std.specs.Prelude.{◌≡◌};
 
 use crate::fault::ServeFault;
 use crate::limits::{ENDS, MOST_CLIENT_THREADS, ProxyLimits, SEATS, THREADS};
-use crate::opening::Opening;
+use crate::opening::prepared;
 use crate::shutdown::Finish;
 use crate::state::{Given, proxy_of};
 use crate::tasks::{Ending, no_memory};
@@ -15,7 +15,8 @@ use futures::channel::oneshot;
 use log_writer::LogTask;
 use mio_queries::Bell;
 use node_book::Seat;
-use proxy_node::{AccessLog, Notices, ProxyState};
+use proxy_node::{AtDesk, ProxyState, ThreadSeat};
+use proxy_state::{AccessLog, Notices, Shared, close};
 use serve_config::Settings;
 use std::alloc::{AllocError, AllocGlobal, Global};
 use std::fs::Files;
@@ -37,10 +38,10 @@ pub struct Addresses {
     pub administration: SocketAddr,
 }
 
-/// A running proxy.
+/// A running proxy. `S` is the state that its threads share.
 #[derive(Drop)]
-pub struct Site<L: Ledger> {
-    pub(crate) proxy: Arc<ProxyState<L>>,
+pub struct Site<S, L: Ledger> {
+    pub(crate) proxy: Arc<S>,
     pub(crate) addresses: Option<Addresses>,
     pub(crate) threads: Vec<JoinHandle<Ending<L>>>,
     // The threads that serve clients, which end before the others.
@@ -88,7 +89,7 @@ pub fn start<L, R>(
     settings: Settings,
     equipment: Equipment<R::File>,
     limits: ProxyLimits,
-) -> Result<Site<L>, ServeFault>
+) -> Result<Site<ProxyState<L>, L>, ServeFault>
 where
     L: Ledger + Send + Sync + 'static,
     R: Threads
@@ -111,53 +112,53 @@ where
     requires parts { blank.parts ≡ L.parts }
     requires seats { blank.parts ≡ SEATS }
 {
-    let (mut opening, orders) = Opening::prepared(rt, blank, settings, equipment, limits)?;
+    let (mut opening, orders) = prepared(rt, blank, settings, equipment, limits)?;
     let opened = opening.open(orders);
     opening.into_site(opened)
 }
 
-impl<L: Ledger + Send + Sync + 'static> Site<L> {
-    /// A proxy that has no thread yet, with a new node.
-    pub(crate) fn new<R: RandomSource + Clock>(
-        rt: &R,
-        alloc: Global,
-        blank: Blank,
-        settings: Settings,
-        given: Given,
-    ) -> Result<Site<L>, ServeFault>
-        requires name { blank.name ≡ L.name }
-        requires parts { blank.parts ≡ L.parts }
-        requires seats { blank.parts ≡ SEATS }
-    {
-        match ends_of(alloc) {
-            Ok((sender, ends)) => {
-                let made = proxy_of(rt, alloc, blank, settings, given, sender);
-                Site::around(alloc, made, ends)
-            }
-            Err(_) => {
-                drop(settings);
-                drop(given);
-                Err(ServeFault::NoMemory)
-            }
+/// A proxy that has no thread yet, with a new node.
+pub(crate) fn site_of<R: RandomSource + Clock, L: Ledger>(
+    rt: &R,
+    alloc: Global,
+    blank: Blank,
+    settings: Settings,
+    given: Given,
+) -> Result<Site<ProxyState<L>, L>, ServeFault>
+    requires name { blank.name ≡ L.name }
+    requires parts { blank.parts ≡ L.parts }
+    requires seats { blank.parts ≡ SEATS }
+{
+    match ends_of(alloc) {
+        Ok((sender, ends)) => {
+            let made = proxy_of(rt, alloc, blank, settings, given, sender);
+            Site::around(alloc, made, ends)
+        }
+        Err(_) => {
+            drop(settings);
+            drop(given);
+            Err(ServeFault::NoMemory)
         }
     }
+}
 
+impl<S: Drop, L: Ledger> Site<S, L> {
     // A proxy around the shared state and the seats that were made.
     fn around(
         alloc: Global,
-        made: Result<(ProxyState<L>, Vec<Seat<L>>), ServeFault>,
+        made: Result<(S, Vec<Seat<L>>), ServeFault>,
         ends: Ends,
-    ) -> Result<Site<L>, ServeFault> {
+    ) -> Result<Site<S, L>, ServeFault> {
         let (proxy, seats) = made?;
         Site::of(alloc, proxy, seats, ends).map_err(no_memory)
     }
 
     fn of(
         alloc: Global,
-        proxy: ProxyState<L>,
+        proxy: S,
         seats: Vec<Seat<L>>,
         (end, ends): Ends,
-    ) -> Result<Site<L>, AllocError> {
+    ) -> Result<Site<S, L>, AllocError> {
         Ok(Site {
             proxy: Arc::new(alloc, proxy)?,
             addresses: None,
@@ -182,21 +183,39 @@ impl<L: Ledger + Send + Sync + 'static> Site<L> {
         self.addresses
     }
 
-    /// Waits until the last answer is given, an administrator ends the proxy or a thread ends, then shuts the proxy down.
-    pub fn finish<R: Threads + Wait + Clock + Copy>(self, rt: R) -> Result<Finish, ServeFault> {
-        let _ = self.ends.recv(&rt);
-        let was_asked = self.proxy.is_stopping.load(Ordering::SeqCst);
-        if !was_asked {
-            self.end_queries();
-            self.proxy.close(&rt);
+    /// The next free seat, with the shared state.
+    pub(crate) fn seat(&mut self) -> Result<ThreadSeat<S, L>, ServeFault> {
+        let Some(seat) = self.spare.pop() else {
+            return Err(ServeFault::NoMemory);
+        };
+        match Arc::try_clone(&self.proxy) {
+            Ok(proxy) => Ok(ThreadSeat { proxy, seat }),
+            Err(_) => {
+                drop(seat);
+                Err(ServeFault::NoMemory)
+            }
         }
-        let (report, written) = self.shut(rt)?;
-        Ok(Finish {
-            report,
-            was_asked,
-            is_logged: written.is_logged,
-            is_told: written.is_told,
-        })
+    }
+
+    /// One more owner of the shared state.
+    pub(crate) fn share(&self) -> Result<Arc<S>, ServeFault> {
+        Arc::try_clone(&self.proxy).map_err(no_memory)
+    }
+
+    /// One more sender that asks the proxy to end.
+    pub(crate) fn ender(&self) -> Result<Sender<(), Global>, ServeFault> {
+        self.end.clone().map_err(no_memory)
+    }
+
+    /// Keeps the handle of a thread.
+    pub(crate) fn keep(&mut self, thread: JoinHandle<Ending<L>>) -> Result<(), ServeFault>
+    where
+        L: Send + Sync + 'static,
+    {
+        match self.threads.push(thread) {
+            Ok(()) => Ok(()),
+            Err(_) => Err(ServeFault::NoMemory),
+        }
     }
 
     // Ends the thread of the query sockets.
@@ -205,5 +224,24 @@ impl<L: Ledger + Send + Sync + 'static> Site<L> {
         if let Some(bell) = &self.bell {
             bell.ring();
         }
+    }
+}
+
+impl<S: AtDesk<L>, L: Ledger + Send + Sync + 'static> Site<S, L> {
+    /// Waits until the last answer is given, an administrator ends the proxy or a thread ends, then shuts the proxy down.
+    pub fn finish<R: Threads + Wait + Clock + Copy>(self, rt: R) -> Result<Finish, ServeFault> {
+        let _ = self.ends.recv(&rt);
+        let was_asked = self.proxy.stopping().is_stopping.load(Ordering::SeqCst);
+        if !was_asked {
+            self.end_queries();
+            close(&rt, &*self.proxy);
+        }
+        let (report, written) = self.shut(rt)?;
+        Ok(Finish {
+            report,
+            was_asked,
+            is_logged: written.is_logged,
+            is_told: written.is_told,
+        })
     }
 }

@@ -8,7 +8,7 @@ use crate::passing::passes_of;
 use crate::tasks::no_memory;
 use capture_tap::Tap;
 use crossbeam_channel::Sender;
-use forwarding::{Field, Mailbox, Peer, Profile};
+use forwarding::{Field, Peer, Profile};
 use futures::channel::oneshot;
 use http_rules::{
     OriginRules, RefreshRule, SixNetwork, UrlPlace, loop_mark, usual_denials, usual_six_denials,
@@ -18,9 +18,10 @@ use node_book::{BOOK_OCTETS, BookFault, Booked, Desk, RECEIPT_OCTETS, Seat};
 use node_core::{Config, Node};
 use object_shelf::Shelf;
 use object_store::{KeyHashes, MOST_KEY_OCTETS};
-use proxy_node::{
-    AccessLog, Attempt, NeighbourEnds, Notices, PartKeys, Passes, ProxyState, UnaskedKeys,
-    no_failures,
+use proxy_node::ProxyState;
+use proxy_state::{
+    AccessLog, Fetchers, Kept, Mail, NeighbourEnds, Notices, Outward, PartKeys, Passes, Stopping,
+    Telling, UnaskedKeys,
 };
 use serve_config::{Freshness, Settings, SharedField, UrlPart};
 use std::alloc::{AllocError, Global};
@@ -28,7 +29,7 @@ use std::mem;
 use std::random::RandomSource;
 use std::sync::atomic::{AtomicBool, AtomicU16, AtomicU64, AtomicUsize};
 use std::sync::ledger::{Blank, Ledger};
-use std::sync::{Arc, Mutex, RwLock};
+use std::sync::{Arc, Mutex};
 use std::time::{Clock, Duration, Instant};
 use traffic_figures::Figures;
 
@@ -39,43 +40,28 @@ pub(crate) struct Given {
     pub(crate) connecting: Duration,
     /// Time for a whole fetch.
     pub(crate) fetching: Duration,
-    pub(crate) log: Option<AccessLog>,
-    pub(crate) notices: Option<Notices>,
-    /// The version of the program.
-    pub(crate) version: &'static str,
+    pub(crate) told: Logs,
     /// Ends the grace of clients early, at each thread that serves them.
     pub(crate) hurries: Vec<oneshot::Sender<()>>,
 }
 
-/// What the shared state of a proxy has of this run alone.
+/// Where logs go, and the version of the program.
 #[derive(Drop)]
-struct Run {
-    loop_mark: Vec<u8>,
-    hashes: KeyHashes,
-    started: Option<Instant>,
+pub(crate) struct Logs {
+    pub(crate) log: Option<AccessLog>,
+    pub(crate) notices: Option<Notices>,
+    pub(crate) version: &'static str,
+}
+
+/// The parts of the shared state of a proxy beside its node and its end.
+#[derive(Drop)]
+struct Around {
     timeline: Timeline,
-    connections: Arc<AtomicUsize>,
-    failed: Mutex<Vec<Attempt>>,
-    changes: Arc<RwLock<()>>,
-    unasked: UnaskedKeys,
-    figures: Figures,
-}
-
-/// What the shared state of a proxy keeps of its settings.
-#[derive(Drop)]
-struct Kept {
-    name: String,
-    admin_port: u16,
-    peers: Vec<Peer>,
-    ends: NeighbourEnds,
-    rules: Rules,
-}
-
-/// What may be fetched, stored and passed on.
-#[derive(Drop)]
-struct Rules {
-    ways: Ways,
-    storing: Storing,
+    mail: Mail,
+    outward: Outward,
+    kept: Kept,
+    passes: Passes,
+    telling: Telling,
 }
 
 /// What may be fetched and passed on.
@@ -83,17 +69,6 @@ struct Rules {
 struct Ways {
     origins: OriginRules,
     passes: Passes,
-    shared_fields: Vec<Field>,
-}
-
-/// What may be stored.
-#[derive(Drop)]
-struct Storing {
-    profile: Profile,
-    shelf: Option<Mutex<Shelf>>,
-    serve_stale: u32,
-    tells_stored: Option<u32>,
-    parts: Option<Mutex<PartKeys>>,
 }
 
 /// How large the event log and the receipts are.
@@ -121,34 +96,75 @@ pub(crate) fn proxy_of<R: RandomSource + Clock, L: Ledger>(
     requires seats { blank.parts ≡ SEATS }
 {
     let sizes = sizes_of(&settings);
-    match parts_in(rt, alloc, &mut settings, given.connecting) {
-        Ok((run, kept)) => {
-            let opened = open_desk(alloc, blank, config_in(settings), run.hashes, sizes);
-            state_around(alloc, opened, kept, run, given, end)
+    match parts_in(rt, alloc, &mut settings, given) {
+        Ok((hashes, around, hurries)) => {
+            let opened = open_desk(alloc, blank, config_in(settings), hashes, sizes);
+            state_around(opened, around, Stopping::new(hurries, end))
         }
         Err(fault) => {
             drop(settings);
+            drop(end);
+            Err(fault)
+        }
+    }
+}
+
+// How keys are hashed, the parts of the shared state, and what ends the grace of clients early.
+type Parts = (KeyHashes, Around, Vec<oneshot::Sender<()>>);
+
+/// The parts of the shared state around its node, which are taken out of the settings. Errors: the system has no random numbers, or out
+/// of memory.
+fn parts_in<R: RandomSource + Clock>(
+    rt: &R,
+    alloc: Global,
+    settings: &mut Settings,
+    given: Given,
+) -> Result<Parts, ServeFault> {
+    match marks_of(rt, alloc, settings) {
+        Ok((loop_mark, hashes)) => {
+            let Given {
+                connecting,
+                fetching,
+                told,
+                hurries,
+            } = given;
+            let started = Instant::now(rt).ok();
+            let ways = ways_in(alloc, settings, hashes, connecting);
+            let outward = outward_in(alloc, settings, ways, loop_mark, fetching);
+            let around = around_in(alloc, settings, hashes, outward, told, started);
+            parts_with(hashes, around, hurries)
+        }
+        Err(fault) => {
             drop(given);
             Err(fault)
         }
     }
 }
 
-/// The parts of the shared state around its desk, of which one is taken out of the settings.
-fn parts_in<R: RandomSource + Clock>(
-    rt: &R,
-    alloc: Global,
-    settings: &mut Settings,
-    connecting: Duration,
-) -> Result<(Run, Kept), ServeFault> {
-    let run = run_of(rt, alloc, settings)?;
-    match kept_in(alloc, settings, run.hashes, connecting) {
-        Ok(kept) => Ok((run, kept)),
+/// These parts, if there are all.
+fn parts_with(
+    hashes: KeyHashes,
+    around: Result<Around, AllocError>,
+    hurries: Vec<oneshot::Sender<()>>,
+) -> Result<Parts, ServeFault> {
+    match around {
+        Ok(around) => Ok((hashes, around, hurries)),
         Err(_) => {
-            drop(run);
+            drop(hurries);
             Err(ServeFault::NoMemory)
         }
     }
+}
+
+/// The mark of this run, and how keys are hashed in it. Errors: the system has no random numbers, or out of memory.
+fn marks_of<R: RandomSource>(
+    rt: &R,
+    alloc: Global,
+    settings: &Settings,
+) -> Result<(Vec<u8>, KeyHashes), ServeFault> {
+    let hashes = KeyHashes::seeded(random_number(rt)?);
+    let loop_mark = random_mark(rt, alloc, settings.name.as_bytes())?;
+    Ok((loop_mark, hashes))
 }
 
 /// The configuration of the node.
@@ -159,103 +175,129 @@ fn config_in(settings: Settings) -> Config {
 
 /// The shared state around the desk that was opened, and the seats that were opened with it.
 fn state_around<L: Ledger>(
-    alloc: Global,
     opened: Result<(Desk<L>, Vec<Seat<L>>), ServeFault>,
-    kept: Kept,
-    run: Run,
-    given: Given,
-    end: Sender<(), Global>,
+    around: Around,
+    stopping: Stopping,
 ) -> Result<(ProxyState<L>, Vec<Seat<L>>), ServeFault> {
     match opened {
-        Ok((desk, seats)) => Ok((state_of(alloc, desk, kept, run, given, end), seats)),
+        Ok((desk, seats)) => Ok((state_of(desk, around, stopping), seats)),
         Err(fault) => {
-            drop(kept);
-            drop(run);
-            drop(given);
+            drop(around);
+            drop(stopping);
             Err(fault)
         }
     }
 }
 
-/// What the shared state has of this run alone. Errors: the system has no random numbers, or out of memory.
-fn run_of<R: RandomSource + Clock>(
-    rt: &R,
-    alloc: Global,
-    settings: &Settings,
-) -> Result<Run, ServeFault> {
-    let loop_mark = random_mark(rt, alloc, settings.name.as_bytes())?;
-    let hashes = KeyHashes::seeded(random_number(rt)?);
-    let started = Instant::now(rt).ok();
-    let neighbours = settings.node.neighbours.len();
-    begun(alloc, loop_mark, hashes, started, neighbours).map_err(no_memory)
+/// The shared state around this desk.
+fn state_of<L: Ledger>(desk: Desk<L>, around: Around, stopping: Stopping) -> ProxyState<L> {
+    let Around {
+        timeline,
+        mail,
+        outward,
+        kept,
+        passes,
+        telling,
+    } = around;
+    ProxyState {
+        desk,
+        timeline,
+        mail,
+        fetchers: Fetchers::none(),
+        outward,
+        kept,
+        passes,
+        tap: Tap::new(),
+        telling,
+        stopping,
+    }
 }
 
-/// A run that began at this moment, with so many neighbours.
-fn begun(
+/// The parts around what is asked of other servers and what is passed on. `told` has where logs go; the proxy has `started`.
+fn around_in(
     alloc: Global,
-    loop_mark: Vec<u8>,
+    settings: &mut Settings,
     hashes: KeyHashes,
+    outward: Result<(Outward, Passes), AllocError>,
+    told: Logs,
     started: Option<Instant>,
-    neighbours: usize,
-) -> Result<Run, AllocError> {
-    Ok(Run {
-        loop_mark,
-        hashes,
-        started,
-        timeline: Timeline::new(alloc)?,
-        connections: Arc::new(alloc, AtomicUsize::new(0))?,
-        failed: no_failures(alloc)?,
-        changes: Arc::new(alloc, RwLock::new(()))?,
-        unasked: UnaskedKeys::new(alloc, hashes)?,
-        figures: Figures::new(alloc, neighbours)?,
+) -> Result<Around, AllocError> {
+    let (timeline, mail) = (Timeline::new(alloc), Mail::new(alloc));
+    let kept = kept_in(alloc, settings, hashes);
+    let telling = telling_in(alloc, settings, told, started);
+    let (outward, passes) = outward?;
+    Ok(Around {
+        outward,
+        passes,
+        timeline: timeline?,
+        mail: mail?,
+        kept: kept?,
+        telling: telling?,
     })
 }
 
-/// What the shared state keeps of the settings, which is taken out of them.
-fn kept_in(
+/// What is asked of other servers, and what is passed on. The name of the cache and the fields of shared fetches are taken out of the
+/// settings.
+fn outward_in(
     alloc: Global,
     settings: &mut Settings,
-    hashes: KeyHashes,
-    connecting: Duration,
-) -> Result<Kept, AllocError> {
-    Ok(Kept {
-        peers: peers_of(alloc, &settings.node)?,
-        ends: NeighbourEnds::new(alloc, settings.node.neighbours.as_slice())?,
-        rules: rules_in(alloc, settings, hashes, connecting)?,
-        admin_port: settings.admin_port,
+    ways: Result<Ways, AllocError>,
+    loop_mark: Vec<u8>,
+    fetching: Duration,
+) -> Result<(Outward, Passes), AllocError> {
+    let (peers, shared_fields) = (
+        peers_of(alloc, &settings.node),
+        shared_fields_of(alloc, settings),
+    );
+    let Ways { origins, passes } = ways?;
+    let outward = Outward {
         name: mem::replace(&mut settings.name, String::new(alloc)),
-    })
+        loop_mark,
+        origins: Mutex::new(origins),
+        peers: peers?,
+        fetching,
+        shared_fields: shared_fields?,
+    };
+    Ok((outward, passes))
 }
 
-/// What may be fetched, stored and passed on, which is taken out of the settings.
-fn rules_in(
-    alloc: Global,
-    settings: &mut Settings,
-    hashes: KeyHashes,
-    connecting: Duration,
-) -> Result<Rules, AllocError> {
-    let storing = storing_in(alloc, settings, hashes)?;
-    match ways_in(alloc, settings, hashes, connecting) {
-        Ok(ways) => Ok(Rules { ways, storing }),
-        Err(fault) => {
-            drop(storing);
-            Err(fault)
-        }
-    }
-}
-
-/// What may be stored, which is taken out of the settings.
-fn storing_in(
-    alloc: Global,
-    settings: &mut Settings,
-    hashes: KeyHashes,
-) -> Result<Storing, AllocError> {
-    Ok(Storing {
+/// What is kept of answers beside the store of the node, and by which rules; these are taken out of the settings.
+fn kept_in(alloc: Global, settings: &mut Settings, hashes: KeyHashes) -> Result<Kept, AllocError> {
+    Ok(Kept {
         profile: profile_of(alloc, settings)?,
         parts: parts_of(alloc, settings, hashes)?,
         shelf: shelf_of(alloc, settings, hashes)?,
+        unasked: Mutex::new(UnaskedKeys::new(alloc, hashes)?),
         serve_stale: settings.serve_stale,
+        changed: Mutex::new(Vec::new(alloc)),
+        has_changed: AtomicBool::new(false),
         tells_stored: tells_stored(settings),
+    })
+}
+
+/// What is counted and told.
+fn telling_in(
+    alloc: Global,
+    settings: &Settings,
+    told: Logs,
+    started: Option<Instant>,
+) -> Result<Telling, AllocError> {
+    let Logs {
+        log,
+        notices,
+        version,
+    } = told;
+    let neighbours = settings.node.neighbours.as_slice();
+    Ok(Telling {
+        figures: Figures::new(alloc, neighbours.len())?,
+        ends: NeighbourEnds::new(alloc, neighbours)?,
+        connections: Arc::new(alloc, AtomicUsize::new(0))?,
+        answered: AtomicU64::new(0),
+        log,
+        notices,
+        admin_port: AtomicU16::new(settings.admin_port),
+        version,
+        started,
     })
 }
 
@@ -266,14 +308,9 @@ fn ways_in(
     hashes: KeyHashes,
     connecting: Duration,
 ) -> Result<Ways, AllocError> {
-    let shared_fields = shared_fields_of(alloc, settings)?;
     let origins = origins_of(alloc, settings)?;
     match passes_of(alloc, settings, hashes, &origins, connecting) {
-        Ok(passes) => Ok(Ways {
-            origins,
-            passes,
-            shared_fields,
-        }),
+        Ok(passes) => Ok(Ways { origins, passes }),
         Err(fault) => {
             drop(origins);
             Err(fault)
@@ -365,56 +402,6 @@ fn rules_of(
         })?;
     }
     Ok(rules)
-}
-
-/// The shared state around this desk. `end` asks the proxy to end.
-fn state_of<L: Ledger>(
-    alloc: Global,
-    desk: Desk<L>,
-    kept: Kept,
-    run: Run,
-    given: Given,
-    end: Sender<(), Global>,
-) -> ProxyState<L> {
-    let Rules { ways, storing } = kept.rules;
-    ProxyState {
-        desk,
-        mailbox: Mutex::new(Mailbox::new(alloc)),
-        lanes: Mutex::new(None),
-        failed: run.failed,
-        changes: run.changes,
-        has_changed: AtomicBool::new(false),
-        has_outdated: AtomicBool::new(false),
-        timeline: run.timeline,
-        name: kept.name,
-        loop_mark: run.loop_mark,
-        origins: Mutex::new(ways.origins),
-        peers: kept.peers,
-        fetching: given.fetching,
-        profile: storing.profile,
-        shelf: storing.shelf,
-        unasked: Mutex::new(run.unasked),
-        serve_stale: storing.serve_stale,
-        tells_stored: storing.tells_stored,
-        changed: Mutex::new(Vec::new(alloc)),
-        parts: storing.parts,
-        passes: ways.passes,
-        shared_fields: ways.shared_fields,
-        admin_port: AtomicU16::new(kept.admin_port),
-        tap: Tap::new(),
-        figures: run.figures,
-        ends: kept.ends,
-        connections: run.connections,
-        answered: AtomicU64::new(0),
-        log: given.log,
-        notices: given.notices,
-        version: given.version,
-        started: run.started,
-        is_stopping: AtomicBool::new(false),
-        hurries: Mutex::new(Some(given.hurries)),
-        is_astray: AtomicBool::new(false),
-        end,
-    }
 }
 
 /// The sizes that the settings say, or the usual ones.

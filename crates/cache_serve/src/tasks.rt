@@ -15,10 +15,11 @@ use http_traffic::{FollowUp, Front, Job, Panel, PassOn};
 use mio_queries::{Bell, BindFault, MioWire, Timeline};
 use node_book::Seat;
 use plain_node::MAX_PENDING_FETCHES;
-use proxy_node::{
-    FrontRules, NodeFront, NodeHandle, NodePanel, Origins, Outbox, Outgoing, ProxyState, Purger,
-    Results, ServeFront, ServePanel, ThreadSeat,
-};
+use proxy_front::{FrontRules, NodeFront, ServeFront};
+use proxy_node::{AtDesk, NodeHandle, Outbox, Outgoing, ThreadSeat};
+use proxy_panel::{NodePanel, Overseen, ServePanel};
+use proxy_results::Results;
+use proxy_state::{Origins, Purger, Shared};
 use serve_config::FilterFile;
 use std::alloc::{AllocError, AllocGlobal, Global};
 use std::fs::Files;
@@ -71,25 +72,25 @@ pub fn no_memory(_: AllocError) -> ServeFault {
     ServeFault::NoMemory
 }
 
-/// The work of one thread. Its field is private to the crate, so only `start` makes tasks.
+/// The work of one thread. `S` is the state that all threads share. Its field is private to the crate, so only `start` makes tasks.
 #[derive(Drop)]
-pub struct Task<L: Ledger> {
-    pub(crate) work: Work<L>,
+pub struct Task<S, L: Ledger> {
+    pub(crate) work: Work<S, L>,
 }
 
 /// The kinds of threads.
 #[derive(Drop)]
-pub enum Work<L: Ledger> {
-    Queries(QueryTask<L>),
-    Clients(ClientTask<L>),
-    Administration(AdministrationTask<L>),
-    Fetches(FetchTask<L>),
+pub enum Work<S, L: Ledger> {
+    Queries(QueryTask<S, L>),
+    Clients(ClientTask<S, L>),
+    Administration(AdministrationTask<S, L>),
+    Fetches(FetchTask<S, L>),
 }
 
 /// The work of the query thread, which owns both UDP sockets and sends every datagram.
 #[derive(Drop)]
-pub struct QueryTask<L: Ledger> {
-    pub seat: ThreadSeat<L>,
+pub struct QueryTask<S, L: Ledger> {
+    pub seat: ThreadSeat<S, L>,
     pub icp: End,
     pub htcp: End,
     pub outgoing: Receiver<Outgoing, Global>,
@@ -100,10 +101,10 @@ pub struct QueryTask<L: Ledger> {
 
 /// The work of a thread that serves clients, which owns their connections.
 #[derive(Drop)]
-pub struct ClientTask<L: Ledger> {
-    pub seat: ThreadSeat<L>,
+pub struct ClientTask<S, L: Ledger> {
+    pub seat: ThreadSeat<S, L>,
     pub outbox: Outbox,
-    pub front: FrontTask<L>,
+    pub front: FrontTask<S>,
     pub serving: ServingTask,
     pub config: ThreadConfig,
     pub end: Sender<(), Global>,
@@ -111,8 +112,8 @@ pub struct ClientTask<L: Ledger> {
 
 /// What a thread that serves clients gives the node their requests with.
 #[derive(Drop)]
-pub struct FrontTask<L: Ledger> {
-    pub proxy: Arc<ProxyState<L>>,
+pub struct FrontTask<S> {
+    pub proxy: Arc<S>,
     pub rules: Arc<FrontRules>,
     /// The thread's number among those that serve clients, from 0 on.
     pub number: u64,
@@ -129,8 +130,9 @@ pub struct ServingTask {
 
 /// The work of the administration thread, which owns the administrators' connections.
 #[derive(Drop)]
-pub struct AdministrationTask<L: Ledger> {
-    pub seat: ThreadSeat<L>,
+pub struct AdministrationTask<S, L: Ledger> {
+    pub seat: ThreadSeat<S, L>,
+    pub proxy: Arc<S>,
     pub config: ThreadConfig,
     pub token: Option<String>,
     pub files: Vec<FilterFile>,
@@ -143,10 +145,13 @@ pub struct AdministrationTask<L: Ledger> {
 
 /// The work of a fetch thread, which owns the connections of its fetches and runs many concurrently.
 #[derive(Drop)]
-pub struct FetchTask<L: Ledger> {
-    pub seat: ThreadSeat<L>,
+pub struct FetchTask<S, L: Ledger> {
+    pub seat: ThreadSeat<S, L>,
     pub jobs: mpsc::UnboundedReceiver<Job>,
-    pub proxy: Arc<ProxyState<L>>,
+    /// For the results of the thread's fetches.
+    pub proxy: Arc<S>,
+    /// For the judge of the servers that these lead to.
+    pub judged: Arc<S>,
     /// The lock by which changes of what is stored wait for the results of fetches.
     pub changes: Arc<RwLock<()>>,
     pub budget: Arc<Budget>,
@@ -160,9 +165,10 @@ pub struct FetchTask<L: Ledger> {
 }
 
 /// The life of one thread of a proxy.
-pub fn run_task<R, L>(rt: R, task: Task<L>) -> Ending<L>
+pub fn run_task<R, S, L>(rt: R, task: Task<S, L>) -> Ending<L>
 where
     R: Wait + Net + Clock + RandomSource + AllocGlobal + Files + Copy,
+    S: AtDesk<L> + Overseen,
     L: Ledger,
 {
     match task.work {
@@ -182,15 +188,17 @@ fn at_once(streams: u32) -> usize
 }
 
 /// Runs a fetch thread, until all senders of its jobs are gone and its last fetch has ended.
-fn fetch<R, L>(rt: R, fetches: FetchTask<L>) -> Ending<L>
+fn fetch<R, S, L>(rt: R, fetches: FetchTask<S, L>) -> Ending<L>
 where
     R: Wait + Net + Clock + RandomSource + AllocGlobal + Copy,
+    S: AtDesk<L>,
     L: Ledger,
 {
     let FetchTask {
         seat,
         jobs,
         proxy,
+        judged,
         changes,
         budget,
         octets,
@@ -211,6 +219,7 @@ where
     let mut results = Results {
         rt,
         alloc,
+        proxy,
         node: NodeHandle::new(rt, alloc, seat, None),
         changes,
         has_given_up: false,
@@ -219,7 +228,7 @@ where
     };
     let rules = FetchRules {
         budget,
-        admit: Origins { rt, proxy },
+        admit: Origins { rt, proxy: judged },
     };
     let ran = run_fetches(rt, jobs, &mut results, rules, limits);
     let _ = results.end.send(&rt, ());
@@ -235,9 +244,10 @@ where
 }
 
 /// Runs the query thread.
-fn answer_queries<R, L>(rt: R, queries: QueryTask<L>) -> Ending<L>
+fn answer_queries<R, S, L>(rt: R, queries: QueryTask<S, L>) -> Ending<L>
 where
     R: Wait + Net + Clock + AllocGlobal + Copy,
+    S: AtDesk<L> + Overseen,
     L: Ledger,
 {
     let QueryTask {
@@ -251,7 +261,7 @@ where
     } = queries;
     let alloc = rt.alloc();
     let mut node = NodeHandle::new(rt, alloc, seat, None);
-    let bound_queries = match node.proxy().timeline.share() {
+    let bound_queries = match node.proxy().timeline().share() {
         Ok(timeline) => bind(rt, timeline, icp, htcp),
         Err(_) => Err(ServeFault::NoMemory),
     };
@@ -304,9 +314,10 @@ where
 }
 
 /// Runs a thread that serves clients.
-fn answer_clients<R, L>(rt: R, clients: ClientTask<L>) -> Ending<L>
+fn answer_clients<R, S, L>(rt: R, clients: ClientTask<S, L>) -> Ending<L>
 where
     R: Wait + Net + Clock + RandomSource + AllocGlobal + Copy,
+    S: AtDesk<L>,
     L: Ledger,
 {
     let ClientTask {
@@ -319,7 +330,7 @@ where
     } = clients;
     let alloc = rt.alloc();
     let node = NodeHandle::new(rt, alloc, seat, Some(outbox));
-    let shares = match client_shares(alloc, node, &front.proxy, &end) {
+    let shares = match client_shares(alloc, node, &*front.proxy, &end) {
         Ok(shares) => shares,
         Err(_) => {
             drop(front);
@@ -344,15 +355,17 @@ where
 }
 
 /// What gives the node the requests of a thread's clients.
-fn front_of<R, L: Ledger>(
+fn front_of<R, S, N>(
     rt: R,
     config: ThreadConfig,
-    front: FrontTask<L>,
-    node: Arc<Mutex<NodeHandle<R, L>>>,
+    front: FrontTask<S>,
+    node: Arc<Mutex<N>>,
     stop: Sender<(), Global>,
-) -> NodeFront<R, L>
+) -> NodeFront<R, S, N>
 where
-    R: Wait + Clock + AllocGlobal + Copy,
+    R: AllocGlobal + Copy,
+    S: Drop,
+    N: Drop,
 {
     let FrontTask {
         proxy,
@@ -376,29 +389,26 @@ where
 
 /// What a thread that serves clients shares with its server and with others.
 #[derive(Drop)]
-struct ClientShares<R: Drop, L: Ledger> {
-    node: Arc<Mutex<NodeHandle<R, L>>>,
-    kept: Arc<Mutex<NodeHandle<R, L>>>,
+struct ClientShares<N> {
+    node: Arc<Mutex<N>>,
+    kept: Arc<Mutex<N>>,
     stop: Sender<(), Global>,
     connections: Arc<AtomicUsize>,
 }
 
 /// What a thread that serves clients shares. Errors: out of memory; the handle to the node is dropped.
-fn client_shares<R, L: Ledger>(
+fn client_shares<S: Shared, N: Drop>(
     alloc: Global,
-    node: NodeHandle<R, L>,
-    proxy: &ProxyState<L>,
+    node: N,
+    proxy: &S,
     end: &Sender<(), Global>,
-) -> Result<ClientShares<R, L>, AllocError>
-where
-    R: Wait + Clock + Drop,
-{
+) -> Result<ClientShares<N>, AllocError> {
     let (node, kept) = shared_of(alloc, node)?;
     Ok(ClientShares {
         node,
         kept,
         stop: end.clone()?,
-        connections: Arc::try_clone(&proxy.connections)?,
+        connections: Arc::try_clone(&proxy.telling().connections)?,
     })
 }
 
@@ -434,13 +444,15 @@ where
 }
 
 /// Runs the thread that serves administration.
-fn administer<R, L>(rt: R, administration: AdministrationTask<L>) -> Ending<L>
+fn administer<R, S, L>(rt: R, administration: AdministrationTask<S, L>) -> Ending<L>
 where
     R: Wait + Net + Clock + RandomSource + AllocGlobal + Files + Copy,
+    S: AtDesk<L> + Overseen,
     L: Ledger,
 {
     let AdministrationTask {
         seat,
+        proxy,
         config,
         token,
         files,
@@ -455,6 +467,7 @@ where
     let (shared, kept) = match shared_of(alloc, node) {
         Ok(shares) => shares,
         Err(_) => {
+            drop(proxy);
             drop(purger);
             return lost(&rt, &end);
         }
@@ -462,6 +475,7 @@ where
     let panel = NodePanel {
         rt,
         alloc,
+        proxy,
         node: shared,
         token,
         files,
@@ -506,22 +520,19 @@ where
 }
 
 /// A handle to the node with two owners: the server, and the thread that takes the seat back when the server has ended.
-fn shared_of<R, L: Ledger>(
+fn shared_of<N: Drop>(
     alloc: Global,
-    node: NodeHandle<R, L>,
-) -> Result<(Arc<Mutex<NodeHandle<R, L>>>, Arc<Mutex<NodeHandle<R, L>>>), AllocError>
-where
-    R: Wait + Clock + Drop,
-{
+    node: N,
+) -> Result<(Arc<Mutex<N>>, Arc<Mutex<N>>), AllocError> {
     let shared = Arc::new(alloc, Mutex::new(node))?;
     let kept = Arc::try_clone(&shared)?;
     Ok((shared, kept))
 }
 
 /// How a server thread ended, with its seat.
-fn end_of<R, L: Ledger>(
+fn end_of<R, S: AtDesk<L>, L: Ledger>(
     rt: &R,
-    kept: Arc<Mutex<NodeHandle<R, L>>>,
+    kept: Arc<Mutex<NodeHandle<R, S, L>>>,
     ran: io::Result<()>,
     port: Port,
     end: &Sender<(), Global>,

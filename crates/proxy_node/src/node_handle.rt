@@ -2,9 +2,7 @@
 ghost use Rattle.std.specs.Prelude.{◌≡◌};
 ghost use Rattle.node_book.specs.Audited.{IsAudited};
 
-use crate::limits::EVENTS_AN_AUDIT;
-use crate::neighbour_counts::{note_query, note_reply};
-use crate::proxy_state::{Attempt, ProxyState};
+use crate::state::AtDesk;
 use capture_tap::Recorder;
 use crossbeam_channel::Sender;
 use filter_slots::{Datagram, End, Judged, Moment, Socket};
@@ -13,12 +11,15 @@ use mio_queries::Bell;
 use node_book::{Clerk, Programs, Seat, SubmitFault};
 use node_core::{Action, Answer, Event, NoMemory, Out, Outcome};
 use object_store::CacheKey;
-use std::alloc::{AllocError, Global};
+use proxy_state::{Attempt, Given, Shared, TakeEvents, note_query, note_reply, perform};
+use std::alloc::Global;
 use std::mem;
-use std::sync::atomic::Ordering;
 use std::sync::ledger::Ledger;
 use std::sync::{Arc, Wait};
 use std::time::Clock;
+
+/// A thread compares its receipts with the event log once in so many of its events.
+const EVENTS_AN_AUDIT: u32 = 16;
 
 /// A datagram for the query thread to send.
 pub struct Outgoing {
@@ -51,41 +52,22 @@ impl Drop for Outbox {
     }
 }
 
-/// What an event has given a client.
-#[derive(Clone, Copy, Debug, PartialEq, Eq)]
-pub enum Given {
-    /// No answer yet.
-    Nothing,
-    /// An object.
-    Object,
-    /// A status in place of an object: nothing is fetched for it.
-    Refusal,
-}
-
 /// A seat on its way to the thread that will own it, with the shared state.
 #[derive(Drop)]
-pub struct ThreadSeat<L: Ledger> {
-    proxy: Arc<ProxyState<L>>,
-    seat: Seat<L>,
-}
-
-impl<L: Ledger> ThreadSeat<L> {
-    /// Pairs a seat with the shared state. Errors: the state cannot get one more owner.
-    pub fn new(proxy: &Arc<ProxyState<L>>, seat: Seat<L>) -> Result<ThreadSeat<L>, AllocError> {
-        Ok(ThreadSeat {
-            proxy: Arc::try_clone(proxy)?,
-            seat,
-        })
-    }
+pub struct ThreadSeat<S, L: Ledger> {
+    /// The state that all threads share.
+    pub proxy: Arc<S>,
+    /// The thread's seat.
+    pub seat: Seat<L>,
 }
 
 /// A thread's handle to the node: submits events through the thread's seat, and carries out the actions they cause. The node's
-/// lock is held only while an event is submitted, not while its actions are carried out.
+/// lock is held only while an event is submitted, not while its actions are carried out. `S` is the state that all threads share.
 #[derive(Drop)]
-pub struct NodeHandle<R, L: Ledger> {
+pub struct NodeHandle<R, S, L: Ledger> {
     rt: R,
     alloc: Global,
-    proxy: Arc<ProxyState<L>>,
+    proxy: Arc<S>,
     seat: Seat<L>,
     // A reused action buffer; `None` while its actions are carried out.
     out: Option<Out>,
@@ -100,14 +82,14 @@ pub struct NodeHandle<R, L: Ledger> {
     recorder: Recorder,
 }
 
-impl<R: Wait + Clock + Drop, L: Ledger> NodeHandle<R, L> {
+impl<R: Wait + Clock + Drop, S: AtDesk<L>, L: Ledger> NodeHandle<R, S, L> {
     /// A handle for the calling thread.
     pub fn new(
         rt: R,
         alloc: Global,
-        seat: ThreadSeat<L>,
+        seat: ThreadSeat<S, L>,
         outbox: Option<Outbox>,
-    ) -> NodeHandle<R, L> {
+    ) -> NodeHandle<R, S, L> {
         let ThreadSeat { proxy, seat } = seat;
         NodeHandle {
             rt,
@@ -124,7 +106,7 @@ impl<R: Wait + Clock + Drop, L: Ledger> NodeHandle<R, L> {
     }
 
     /// State shared by all threads.
-    pub fn proxy(&self) -> &ProxyState<L> {
+    pub fn proxy(&self) -> &S {
         &self.proxy
     }
 
@@ -134,64 +116,31 @@ impl<R: Wait + Clock + Drop, L: Ledger> NodeHandle<R, L> {
         seat
     }
 
-    /// Submits an event and carries out its actions. Returns the number of actions. After an error the event was not taken.
-    pub fn take(&mut self, event: Event) -> Result<usize, SubmitFault> {
-        let count = self.hand_in(event)?;
-        self.report_failures();
-        Ok(count)
-    }
-
-    /// What the event that was taken last gave a client.
-    pub fn given(&self) -> Given {
-        let Some(out) = &self.out else {
-            return Given::Nothing;
-        };
-        for action in out.actions() {
-            match action {
-                Action::Serve {
-                    answer: Answer::Fail(_),
-                    ..
-                } => return Given::Refusal,
-                Action::Serve { .. } => return Given::Object,
-                _ => {}
-            }
-        }
-        Given::Nothing
-    }
-
-    /// As `take`, for the result of a fetch, and whom its object came from.
-    pub fn take_fetched(
-        &mut self,
-        event: Event,
-        supplier: Option<Supplier>,
-    ) -> Result<usize, SubmitFault> {
-        self.supplier = supplier;
-        let count = self.hand_in(event);
-        self.supplier = None;
-        if count.is_ok() {
-            self.report_failures();
-        }
-        count
-    }
-
     /// Reports to the node the fetches that no thread could start. If a report is refused, the attempt stays recorded for a later
     /// call by any thread; the query thread calls this in every round of its loop.
     pub fn report_failures(&mut self) {
         for _ in 0..u64::MAX {
-            let Some(failed) = self.proxy.next_failure(&self.rt) else {
+            let Some(failed) = self.proxy.mail().next_failure(&self.rt) else {
                 return;
             };
             let event = Event::Fetched {
                 fetch: failed.fetch,
                 attempt: failed.attempt,
                 result: Outcome::Failed,
-                now: crate::clock::now(&self.rt, &self.proxy.timeline),
+                now: self.proxy.now(&self.rt),
             };
             if self.hand_in(event).is_err() {
-                self.proxy.record_failure(&self.rt, failed);
+                self.proxy.mail().record_failure(&self.rt, failed);
                 return;
             }
         }
+    }
+
+    // Reports the fetches that no thread could start, after an event that was taken. Returns the number of its actions.
+    fn reported_after(&mut self, handed: Result<usize, SubmitFault>) -> Option<usize> {
+        let count = handed.ok()?;
+        self.report_failures();
+        Some(count)
     }
 
     fn hand_in(&mut self, event: Event) -> Result<usize, SubmitFault> {
@@ -230,7 +179,7 @@ impl<R: Wait + Clock + Drop, L: Ledger> NodeHandle<R, L> {
         out.clear();
         let _ = self
             .proxy
-            .desk
+            .desk()
             .submit(&self.rt, self.alloc, &mut self.seat, event, out)?;
         self.audit();
         for action in out.actions() {
@@ -248,9 +197,9 @@ impl<R: Wait + Clock + Drop, L: Ledger> NodeHandle<R, L> {
         if self.submitted % EVENTS_AN_AUDIT != 0 {
             return;
         }
-        let found = self.proxy.desk.audit(&self.rt, &mut self.seat);
-        if found.is_some() && !self.proxy.is_astray.swap(true, Ordering::SeqCst) {
-            let _ = self.proxy.end.send(&self.rt, ());
+        let found = self.proxy.desk().audit(&self.rt, &mut self.seat);
+        if found.is_some() {
+            self.proxy.stopping().go_astray(&self.rt);
         }
     }
 
@@ -269,7 +218,7 @@ impl<R: Wait + Clock + Drop, L: Ledger> NodeHandle<R, L> {
 
     // Carries out an action other than `Send`. A fetch that cannot be started is recorded.
     fn perform_or_record(&self, action: &Action) {
-        let passed = self.proxy.pass(&self.rt, self.alloc, action, self.supplier);
+        let passed = perform(&self.rt, self.alloc, &*self.proxy, action, self.supplier);
         if passed.is_err()
             && let Action::Fetch { fetch, attempt, .. } = action
         {
@@ -277,7 +226,7 @@ impl<R: Wait + Clock + Drop, L: Ledger> NodeHandle<R, L> {
                 fetch: *fetch,
                 attempt: *attempt,
             };
-            self.proxy.record_failure(&self.rt, failed);
+            self.proxy.mail().record_failure(&self.rt, failed);
         }
     }
 
@@ -301,12 +250,44 @@ impl<R: Wait + Clock + Drop, L: Ledger> NodeHandle<R, L> {
         drop(sent);
         if is_queued {
             outbox.bell.ring();
-            note_query(&self.proxy.figures, &self.proxy.ends, socket, to, payload);
+            let telling = self.proxy.telling();
+            note_query(&telling.figures, &telling.ends, socket, to, payload);
         }
     }
 }
 
-impl<R: Wait + Clock + Drop, L: Ledger> Clerk for NodeHandle<R, L> {
+impl<R: Wait + Clock + Drop, S: AtDesk<L>, L: Ledger> TakeEvents for NodeHandle<R, S, L> {
+    fn take(&mut self, event: Event) -> Option<usize> {
+        let handed = self.hand_in(event);
+        self.reported_after(handed)
+    }
+
+    fn given(&self) -> Given {
+        let Some(out) = &self.out else {
+            return Given::Nothing;
+        };
+        for action in out.actions() {
+            match action {
+                Action::Serve {
+                    answer: Answer::Fail(_),
+                    ..
+                } => return Given::Refusal,
+                Action::Serve { .. } => return Given::Object,
+                _ => {}
+            }
+        }
+        Given::Nothing
+    }
+
+    fn take_fetched(&mut self, event: Event, supplier: Option<Supplier>) -> Option<usize> {
+        self.supplier = supplier;
+        let handed = self.hand_in(event);
+        self.supplier = None;
+        self.reported_after(handed)
+    }
+}
+
+impl<R: Wait + Clock + Drop, S: AtDesk<L>, L: Ledger> Clerk for NodeHandle<R, S, L> {
     ghost use Rattle.node_book.specs.Told.{seat_told};
 
     ghost told = { λ h. seat_told h.seat };
@@ -323,9 +304,9 @@ impl<R: Wait + Clock + Drop, L: Ledger> Clerk for NodeHandle<R, L> {
     ) -> Result<u64, SubmitFault> {
         let submitted = self
             .proxy
-            .desk
+            .desk()
             .submit(&self.rt, alloc, &mut self.seat, event, out);
-        self.recorder.tick(&self.rt, &self.proxy.tap);
+        self.recorder.tick(&self.rt, self.proxy.tap());
         if submitted.is_ok() {
             self.audit();
         }
@@ -341,18 +322,19 @@ impl<R: Wait + Clock + Drop, L: Ledger> Clerk for NodeHandle<R, L> {
     ) -> Result<u64, SubmitFault> {
         let submitted = self
             .proxy
-            .desk
+            .desk()
             .submit_judged(&self.rt, alloc, &mut self.seat, judged, now, out);
         if submitted.is_ok() {
-            self.recorder.note(&self.rt, &self.proxy.tap, judged);
-            note_reply(&self.proxy.figures, &self.proxy.ends, judged);
+            self.recorder.note(&self.rt, self.proxy.tap(), judged);
+            let telling = self.proxy.telling();
+            note_reply(&telling.figures, &telling.ends, judged);
             self.audit();
         }
         submitted
     }
 
     fn judge(&mut self, datagram: Arc<Datagram>) -> Result<Judged, NoMemory> {
-        self.programs.judge(&self.rt, &self.proxy.desk, datagram)
+        self.programs.judge(&self.rt, self.proxy.desk(), datagram)
     }
 
     fn pass(&mut self, _alloc: Global, action: &Action) -> Result<(), NoMemory> {
@@ -361,6 +343,6 @@ impl<R: Wait + Clock + Drop, L: Ledger> Clerk for NodeHandle<R, L> {
     }
 
     fn key_of(&mut self, _alloc: Global, fetch: u32) -> Result<Option<CacheKey>, NoMemory> {
-        self.proxy.desk.key_of(&self.rt, fetch)
+        self.proxy.key_of(&self.rt, fetch)
     }
 }

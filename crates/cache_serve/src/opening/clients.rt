@@ -8,7 +8,10 @@ use client_streams::Stops;
 use crossbeam_channel::Receiver;
 use futures::channel::oneshot;
 use http_clients::{ClientSocket, client_sockets, listen_at_six};
-use proxy_node::{FrontRules, Outbox, ProxyState, ThreadSeat};
+use proxy_front::FrontRules;
+use proxy_node::{AtDesk, Outbox, ThreadSeat};
+use proxy_panel::Overseen;
+use proxy_state::Shared;
 use std::alloc::{AllocError, AllocGlobal, Global};
 use std::fs::Files;
 use std::io::{Eprint, ErrorKind, Print};
@@ -21,9 +24,9 @@ use std::time::Clock;
 
 /// What a thread that serves clients has of the shared state.
 #[derive(Drop)]
-struct ClientShare<L: Ledger> {
-    proxy: Arc<ProxyState<L>>,
-    seat: ThreadSeat<L>,
+struct ClientShare<S, L: Ledger> {
+    proxy: Arc<S>,
+    seat: ThreadSeat<S, L>,
     name: String,
     rules: Arc<FrontRules>,
     outbox: Outbox,
@@ -67,33 +70,14 @@ struct ClientPlace {
     hurried: oneshot::Receiver<()>,
 }
 
-impl<R, L> Opening<R, L>
-where
-    L: Ledger + Send + Sync + 'static,
-    R: Threads
-        + Wait
-        + Net
-        + Clock
-        + RandomSource
-        + AllocGlobal
-        + Files
-        + Print
-        + Eprint
-        + Copy
-        + Send
-        + 'static,
-    R::Stream: Send + 'static,
-    R::Listener: Send + 'static,
-    R::File: Send + 'static,
-    R::Dir: Send + 'static,
-{
+impl<R, S: Shared, L: Ledger> Opening<R, S, L> {
     /// What a thread that serves clients has of the shared state.
-    fn client_share(&mut self, kit: &ClientKit) -> Result<ClientShare<L>, ServeFault> {
+    fn client_share(&mut self, kit: &ClientKit) -> Result<ClientShare<S, L>, ServeFault> {
         let ClientKit { rules, outbox } = kit.share().map_err(no_memory)?;
-        let name = self.site.proxy.name.as_str();
+        let name = self.site.proxy.outward().name.as_str();
         let name = String::from_str(self.alloc, name).map_err(no_memory)?;
-        let proxy = self.proxy()?;
-        let seat = self.seat()?;
+        let proxy = self.site.share()?;
+        let seat = self.site.seat()?;
         Ok(ClientShare {
             proxy,
             seat,
@@ -103,17 +87,24 @@ where
         })
     }
 
-    /// Binds the sockets for clients, and starts the threads that serve them there. Returns where that of IPv4 is bound, once all of them do.
-    pub(super) fn open_clients(
+    /// What one of the threads that serve clients has of the shared state, and how it and this one hear of each other.
+    fn client_parts(
         &mut self,
         kit: &ClientKit,
-        hurried: Vec<oneshot::Receiver<()>>,
-    ) -> Result<SocketAddr, ServeFault> {
-        let places = self.client_places(hurried)?;
-        let heard = self.begin_clients(kit, places)?;
-        self.opened_clients(heard)
+    ) -> Result<(ClientShare<S, L>, ServerEnd, ServerLine), ServeFault> {
+        let (there, here) = self.server_line()?;
+        match self.client_share(kit) {
+            Ok(share) => Ok((share, there, here)),
+            Err(fault) => {
+                drop(there);
+                drop(here);
+                Err(fault)
+            }
+        }
     }
+}
 
+impl<R: Wait + Net + AllocGlobal, S: Shared, L: Ledger> Opening<R, S, L> {
     /// What each thread that serves clients is started with: a handle to the one socket for them, and to that at an address of IPv6. Errors
     /// also if too few files may be open for any client.
     fn client_places(
@@ -135,6 +126,54 @@ where
             ))?;
         }
         places_of(self.alloc, sockets, hurried).map_err(no_memory)
+    }
+
+    /// Waits until all threads that serve clients do. Returns where.
+    fn opened_clients(
+        &self,
+        heard: Vec<Receiver<SocketAddr, Global>>,
+    ) -> Result<SocketAddr, ServeFault> {
+        let mut address = self.config.clients;
+        for heard in heard {
+            let Ok(bound) = heard.recv(&self.rt) else {
+                return Err(ServeFault::Bind(Port::Clients, ErrorKind::Other));
+            };
+            address = bound;
+        }
+        Ok(address)
+    }
+}
+
+impl<R, S, L> Opening<R, S, L>
+where
+    L: Ledger + Send + Sync + 'static,
+    S: AtDesk<L> + Overseen + Send + Sync + 'static,
+    R: Threads
+        + Wait
+        + Net
+        + Clock
+        + RandomSource
+        + AllocGlobal
+        + Files
+        + Print
+        + Eprint
+        + Copy
+        + Send
+        + 'static,
+    R::Stream: Send + 'static,
+    R::Listener: Send + 'static,
+    R::File: Send + 'static,
+    R::Dir: Send + 'static,
+{
+    /// Binds the sockets for clients, and starts the threads that serve them there. Returns where that of IPv4 is bound, once all of them do.
+    pub(super) fn open_clients(
+        &mut self,
+        kit: &ClientKit,
+        hurried: Vec<oneshot::Receiver<()>>,
+    ) -> Result<SocketAddr, ServeFault> {
+        let places = self.client_places(hurried)?;
+        let heard = self.begin_clients(kit, places)?;
+        self.opened_clients(heard)
     }
 
     /// Starts the threads that serve clients. Returns what hears from each where it serves them.
@@ -171,37 +210,6 @@ where
         let _ = self.site.stop_clients.push(stop);
         Ok(heard)
     }
-
-    /// What one of the threads that serve clients has of the shared state, and how it and this one hear of each other.
-    fn client_parts(
-        &mut self,
-        kit: &ClientKit,
-    ) -> Result<(ClientShare<L>, ServerEnd, ServerLine), ServeFault> {
-        let (there, here) = self.server_line()?;
-        match self.client_share(kit) {
-            Ok(share) => Ok((share, there, here)),
-            Err(fault) => {
-                drop(there);
-                drop(here);
-                Err(fault)
-            }
-        }
-    }
-
-    /// Waits until all threads that serve clients do. Returns where.
-    fn opened_clients(
-        &self,
-        heard: Vec<Receiver<SocketAddr, Global>>,
-    ) -> Result<SocketAddr, ServeFault> {
-        let mut address = self.config.clients;
-        for heard in heard {
-            let Ok(bound) = heard.recv(&self.rt) else {
-                return Err(ServeFault::Bind(Port::Clients, ErrorKind::Other));
-            };
-            address = bound;
-        }
-        Ok(address)
-    }
 }
 
 /// What the threads that serve clients are started with. Errors: out of memory.
@@ -222,12 +230,12 @@ fn places_of(
 }
 
 /// The task of a thread that serves clients.
-fn client_task<L: Ledger>(
+fn client_task<S: Drop, L: Ledger>(
     config: ThreadConfig,
-    share: ClientShare<L>,
+    share: ClientShare<S, L>,
     place: ClientPlace,
     there: ServerEnd,
-) -> ClientTask<L> {
+) -> ClientTask<S, L> {
     ClientTask {
         seat: share.seat,
         outbox: share.outbox,

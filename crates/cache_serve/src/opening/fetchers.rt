@@ -8,7 +8,9 @@ use futures::channel::mpsc;
 use http_fetches::Budget;
 use http_traffic::Job;
 use name_lookup::{NameDesk, NameLimits, look_up, open_names};
-use proxy_node::Lanes;
+use proxy_node::AtDesk;
+use proxy_panel::Overseen;
+use proxy_state::{Lanes, Shared};
 use std::alloc::{AllocError, AllocGlobal, Global};
 use std::fs::Files;
 use std::io::{Eprint, Print};
@@ -20,9 +22,53 @@ use std::thread;
 use std::thread::Threads;
 use std::time::Clock;
 
-impl<R, L> Opening<R, L>
+impl<R, S: Shared, L: Ledger> Opening<R, S, L> {
+    /// The octets that bodies under way may have, for all fetch threads.
+    fn budget(&self) -> Result<Arc<Budget>, AllocError> {
+        let budget = Budget::new(self.alloc, self.config.fetch_octets);
+        Ok(Arc::new(self.alloc, budget)?)
+    }
+
+    /// The task of a fetch thread that takes these jobs.
+    fn fetch_task(
+        &mut self,
+        jobs: mpsc::UnboundedReceiver<Job>,
+        budget: Arc<Budget>,
+        opened: Sender<(), Global>,
+    ) -> Result<FetchTask<S, L>, ServeFault> {
+        let changes = Arc::try_clone(&self.site.proxy.mail().changes).map_err(no_memory)?;
+        Ok(FetchTask {
+            proxy: self.site.share()?,
+            judged: self.site.share()?,
+            end: self.site.ender()?,
+            seat: self.site.seat()?,
+            jobs,
+            changes,
+            budget,
+            octets: self.config.body_limit,
+            limits: self.config.limits,
+            streams: self.config.streams,
+            opened,
+        })
+    }
+}
+
+impl<R: Wait, S: Shared, L: Ledger> Opening<R, S, L> {
+    /// Waits until all fetch threads take jobs. Errors: one of them has ended.
+    fn wait_for_lanes(&self, heard: &Receiver<(), Global>) -> Result<(), ServeFault> {
+        for _ in 0..FETCHERS {
+            if heard.recv(&self.rt).is_err() {
+                return Err(ServeFault::NoMemory);
+            }
+        }
+        Ok(())
+    }
+}
+
+impl<R, S, L> Opening<R, S, L>
 where
     L: Ledger + Send + Sync + 'static,
+    S: AtDesk<L> + Overseen + Send + Sync + 'static,
     R: Threads
         + Wait
         + Net
@@ -40,16 +86,13 @@ where
     R::File: Send + 'static,
     R::Dir: Send + 'static,
 {
-    /// The octets that bodies under way may have, for all fetch threads.
-    fn budget(&self) -> Result<Arc<Budget>, AllocError> {
-        let budget = Budget::new(self.alloc, self.config.fetch_octets);
-        Ok(Arc::new(self.alloc, budget)?)
-    }
-
     pub(super) fn open_fetchers(&mut self) -> Result<(), ServeFault> {
         let jobs = self.open_lanes()?;
         let names = self.open_look_ups()?;
-        *self.site.proxy.lanes.lock(&self.rt) = Some(Lanes { names, jobs });
+        self.site
+            .proxy
+            .fetchers()
+            .open(&self.rt, Lanes { names, jobs });
         Ok(())
     }
 
@@ -76,16 +119,6 @@ where
         Ok(lanes)
     }
 
-    /// Waits until all fetch threads take jobs. Errors: one of them has ended.
-    fn wait_for_lanes(&self, heard: &Receiver<(), Global>) -> Result<(), ServeFault> {
-        for _ in 0..FETCHERS {
-            if heard.recv(&self.rt).is_err() {
-                return Err(ServeFault::NoMemory);
-            }
-        }
-        Ok(())
-    }
-
     /// Starts a fetch thread. Returns what takes its jobs.
     fn open_lane(
         &mut self,
@@ -94,39 +127,16 @@ where
     ) -> Result<mpsc::UnboundedSender<Job>, ServeFault> {
         let budget = Arc::try_clone(budget).map_err(no_memory)?;
         let (to, jobs) = mpsc::unbounded(self.alloc).map_err(no_memory)?;
-        self.open_fetcher(jobs, budget, opened)?;
+        let fetches = self.fetch_task(jobs, budget, opened)?;
+        self.keep(Work::Fetches(fetches))?;
         Ok(to)
-    }
-
-    fn open_fetcher(
-        &mut self,
-        jobs: mpsc::UnboundedReceiver<Job>,
-        budget: Arc<Budget>,
-        opened: Sender<(), Global>,
-    ) -> Result<(), ServeFault> {
-        let proxy = self.proxy()?;
-        let changes = Arc::try_clone(&proxy.changes).map_err(no_memory)?;
-        let end = self.end()?;
-        let fetches = FetchTask {
-            seat: self.seat()?,
-            jobs,
-            proxy,
-            changes,
-            budget,
-            octets: self.config.body_limit,
-            limits: self.config.limits,
-            streams: self.config.streams,
-            opened,
-            end,
-        };
-        self.keep(Work::Fetches(fetches))
     }
 
     /// Starts the threads that look up names. They are not joined, since the system's resolver may hold each for as long as it
     /// likes: a thread that is idle ends when the desk is dropped, and one that is held ends with the process. None of
     /// them has a seat or a part of the shared state.
     fn open_look_ups(&mut self) -> Result<NameDesk, ServeFault> {
-        let has_six = self.site.proxy.passes.has_six;
+        let has_six = self.site.proxy.passes().has_six;
         let names = open_names(self.alloc, NameLimits::usual(), has_six);
         let (desk, clerk) = names.map_err(no_memory)?;
         for _ in 0..LOOK_UPS {

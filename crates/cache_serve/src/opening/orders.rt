@@ -5,14 +5,15 @@ use crate::limits::{
 };
 use crate::passing::allows_own;
 use crate::site::Equipment;
-use crate::state::{Given, six_networks};
+use crate::state::{Given, Logs, six_networks};
 use crate::tasks::ThreadConfig;
 use filter_files::Filter;
 use futures::channel::oneshot;
 use http_rules::{Mirror, SixNetwork};
 use log_writer::LogTask;
 use node_core::{Config, Network};
-use proxy_node::{FrontRules, Purger};
+use proxy_front::FrontRules;
+use proxy_state::Purger;
 use serve_config::{FilterFile, MirrorPath, Settings};
 use std::alloc::{AllocError, AllocGlobal, Global};
 use std::fs::Files;
@@ -120,9 +121,11 @@ pub(super) fn equipped<F: Drop>(
     let given = Given {
         connecting: limits.connecting,
         fetching: limits.fetching,
-        log,
-        notices,
-        version: equipment.version,
+        told: Logs {
+            log,
+            notices,
+            version: equipment.version,
+        },
         hurries,
     };
     let inner = InnerOrders {

@@ -1,30 +1,25 @@
 //! Client requests on their way to the node.
-use crate::clock::{micros_since, now};
 use crate::handing::{Call, Returned, TakeCalls, hand_over};
-use crate::node_handle::{Given, NodeHandle};
-use crate::proxy_state::{ProxyState, Stale};
-use crate::storage::Purger;
+use crate::shapes::shape_of;
 use crossbeam_channel::Sender;
-use filter_slots::Moment;
 use forwarding::{Field, KnownKeys, Profile, Waiting, server_in_digits};
 use futures::channel::oneshot;
 use http_rules::{
-    Mirror, PassFault, SixNetwork, StaleUse, Stored, StoredAnswer, TargetFault, answer_to, choose,
-    classify, content_range, end_to_end, has_come_back, is_for_a_part, is_in_not_modified,
-    is_plain_request, may_validate, mirrored, stale_use, unsatisfied_range,
+    Mirror, SixNetwork, TargetFault, has_come_back, is_plain_request, may_validate, mirrored,
 };
-use http_traffic::{
-    Asked, Asking, FollowUp, Forward, Front, How, Outcome, PassOn, Shape, Supplier, Told,
-};
+use http_traffic::{Asked, Asking, FollowUp, Forward, Front, How, Outcome, PassOn, Shape, Told};
 use node_core::{Event, Mode, Network};
-use object_store::{CacheKey, Entry, Object};
+use object_store::{CacheKey, Object};
+use proxy_state::{
+    Given, Purger, Shared, TakeEvents, has_marks, loop_fields, micros_since, passed_on, status_of,
+    withdraw,
+};
 use std::alloc::{AllocError, Global};
+use std::io;
 use std::net::{IpAddr, SocketAddr};
 use std::sync::atomic::Ordering;
-use std::sync::ledger::Ledger;
 use std::sync::{Arc, Mutex, Wait};
 use std::time::{Clock, Instant};
-use std::{io, mem};
 use traffic_figures::{AnswerNote, Course};
 
 /// Whose requests are taken, and what they stand for.
@@ -57,15 +52,16 @@ pub trait ServeFront: Drop {
     fn serve<F: Front + FollowUp + PassOn>(self, front: F) -> io::Result<()>;
 }
 
-/// Submits client requests to the node and counts the answers. Owned by a thread that serves clients.
+/// Submits client requests to the node and counts the answers. Owned by a thread that serves clients. `S` is the state that all threads
+/// share, `N` the thread's handle to the node.
 #[derive(Drop)]
-pub struct NodeFront<R, L: Ledger> {
+pub struct NodeFront<R, S, N> {
     pub rt: R,
     pub alloc: Global,
     /// State shared by all threads.
-    pub proxy: Arc<ProxyState<L>>,
+    pub proxy: Arc<S>,
     /// The thread's handle to the node. Only this thread locks it; a second owner takes the seat back after the server ends.
-    pub node: Arc<Mutex<NodeHandle<R, L>>>,
+    pub node: Arc<Mutex<N>>,
     pub rules: Arc<FrontRules>,
     /// The keys of targets that were asked for before.
     pub keys: KnownKeys,
@@ -170,101 +166,6 @@ fn looped_of(key: &CacheKey, is_looped: bool) -> Result<Option<CacheKey>, u16> {
     }
 }
 
-/// The status for a request whose fields are not passed on.
-pub(crate) fn status_of(fault: PassFault) -> u16 {
-    match fault {
-        PassFault::TooManyNames => 400,
-        PassFault::NoMemory => 503,
-    }
-}
-
-/// Whether a request has CDN-Loop fields.
-fn has_marks(asked: &Asked) -> bool {
-    asked.head.contains_key("cdn-loop")
-}
-
-/// The CDN-Loop fields of a request (RFC 8586), which a shared fetch for it forwards as well.
-fn loop_fields(alloc: Global, asked: &Asked) -> Result<Vec<Field>, AllocError> {
-    let mut fields = Vec::new(alloc);
-    match add_values(alloc, &mut fields, asked, "cdn-loop") {
-        Ok(()) => Ok(fields),
-        Err(fault) => {
-            drop(fields);
-            Err(fault)
-        }
-    }
-}
-
-/// Adds the fields of this name that a request has.
-pub(crate) fn add_values(
-    alloc: Global,
-    fields: &mut Vec<Field>,
-    asked: &Asked,
-    name: &'static str,
-) -> Result<(), AllocError> {
-    for value in asked.head.get_all(name).iter() {
-        add_field(alloc, fields, name.as_bytes(), value.as_bytes())?;
-    }
-    Ok(())
-}
-
-/// Adds a field of this name and value. Errors: out of memory.
-pub(crate) fn add_field(
-    alloc: Global,
-    fields: &mut Vec<Field>,
-    name: &[u8],
-    value: &[u8],
-) -> Result<(), AllocError> {
-    let name = name.to_vec(alloc)?;
-    match value.to_vec(alloc) {
-        Ok(value) => Ok(fields.push((name, value))?),
-        Err(fault) => {
-            drop(name);
-            Err(fault)
-        }
-    }
-}
-
-/// The fields of a request that a private fetch forwards: the end-to-end fields without Host, Expect and those that describe the
-/// content, which is not forwarded.
-fn passed_on(alloc: Global, asked: &Asked) -> Result<Vec<Field>, PassFault> {
-    let mut fields = Vec::new(alloc);
-    for (name, value) in end_to_end(alloc, &asked.head)? {
-        let left_out = matches!(
-            name.as_slice(),
-            b"host" | b"content-length" | b"content-type" | b"content-encoding" | b"expect"
-        );
-        if !left_out {
-            fields.push((name, value)).map_err(AllocError::from)?;
-        }
-    }
-    Ok(fields)
-}
-
-/// The answer with an object that is stale.
-fn outcome_of(stale: Stale) -> Outcome {
-    let Stale { object, age } = stale;
-    Outcome::Got {
-        object,
-        supplier: Some(Supplier::Stale(age)),
-        is_stored: false,
-    }
-}
-
-/// What receives an answer with an object that is stale. `None` if out of memory.
-fn given_stale(alloc: Global, stale: Stale) -> Option<oneshot::Receiver<Outcome>> {
-    match oneshot::channel(alloc) {
-        Ok((reply, answer)) => {
-            drop(reply.send(outcome_of(stale)));
-            Some(answer)
-        }
-        Err(_) => {
-            drop(stale);
-            None
-        }
-    }
-}
-
 /// A client that waits for its answer, before its fetch has started.
 fn waiting_of(reply: oneshot::Sender<Outcome>, forwarded: Forwarded) -> Waiting {
     let Forwarded {
@@ -292,11 +193,11 @@ fn forward_of(mode: Mode, actions: usize) -> Forward {
     }
 }
 
-impl<R: Wait + Clock + Drop, L: Ledger> NodeFront<R, L> {
+impl<R: Wait + Clock + Drop, S: Shared, N: TakeEvents> NodeFront<R, S, N> {
     /// Has this front served. That it takes the calls of one is looked at here, where little else is in sight, since each function that
     /// hands it over looks at all of it.
-    pub fn served_by<S: ServeFront>(self, server: S) -> io::Result<()> {
-        let has_passages = self.proxy.passes.has_any();
+    pub fn served_by<T: ServeFront>(self, server: T) -> io::Result<()> {
+        let has_passages = self.proxy.passes().has_any();
         hand_over(self, has_passages, server)
     }
 
@@ -323,24 +224,24 @@ impl<R: Wait + Clock + Drop, L: Ledger> NodeFront<R, L> {
 
     /// Adds a waiting client.
     fn add(&self, client: u64, waiting: Waiting) -> Result<(), AllocError> {
-        let mut mailbox = self.proxy.mailbox.lock(&self.rt);
+        let mut mailbox = self.proxy.mail().mailbox.lock(&self.rt);
         mailbox.add(self.alloc, client, waiting)
     }
 
     /// Removes a client and cancels its private fetch.
     fn forget(&self, client: u64) {
-        self.proxy.mailbox.lock(&self.rt).remove(client);
+        self.proxy.mail().mailbox.lock(&self.rt).remove(client);
     }
 
     /// Submits an event. Returns the number of its actions, or `None` if it was refused.
     pub(crate) fn take(&self, event: Event) -> Option<usize> {
-        self.node.lock(&self.rt).take(event).ok()
+        self.node.lock(&self.rt).take(event)
     }
 
     /// Submits the event of a request. Returns `None` if it was refused.
     fn take_request(&self, event: Event) -> Option<Taken> {
         let mut node = self.node.lock(&self.rt);
-        let actions = node.take(event).ok()?;
+        let actions = node.take(event)?;
         Some(Taken {
             actions,
             given: node.given(),
@@ -355,7 +256,7 @@ impl<R: Wait + Clock + Drop, L: Ledger> NodeFront<R, L> {
 
     /// Has what reloads have found changed fetched anew for all.
     fn renew_changed(&mut self) {
-        for key in self.proxy.take_changed(&self.rt, self.alloc) {
+        for key in self.proxy.kept().take_changed(&self.rt, self.alloc) {
             self.renew(key);
         }
     }
@@ -363,7 +264,7 @@ impl<R: Wait + Clock + Drop, L: Ledger> NodeFront<R, L> {
     /// Has what is stored under a key fetched anew for all: it is taken out, as the administration does, and what is on its way of it is not
     /// stored; a request of the cache's own, whose answer nobody waits for, asks for it. Without a key to sign with it stays.
     fn renew(&mut self, key: CacheKey) {
-        let now = now(&self.rt, &self.proxy.timeline);
+        let now = self.proxy.now(&self.rt);
         match self.rules.purger.event(self.alloc, &key, now) {
             Ok(event) => self.replace(key, event),
             Err(fault) => {
@@ -375,7 +276,7 @@ impl<R: Wait + Clock + Drop, L: Ledger> NodeFront<R, L> {
 
     /// Takes what is stored under a key out by this event, and has it fetched anew for all.
     fn replace(&mut self, key: CacheKey, event: Event) {
-        self.proxy.withdraw(&self.rt, &key);
+        withdraw(&self.rt, &*self.proxy, &key);
         if self.take(event).is_some() {
             self.fetch_for_all(key);
         } else {
@@ -384,152 +285,27 @@ impl<R: Wait + Clock + Drop, L: Ledger> NodeFront<R, L> {
     }
 
     /// Fetches what is under a key for all, by a request of the cache's own, whose answer nobody waits for.
-    fn fetch_for_all(&mut self, key: CacheKey) {
+    pub(crate) fn fetch_for_all(&mut self, key: CacheKey) {
         let client = self.next_client();
-        let _ = self.take(Event::Request {
+        let now = self.proxy.now(&self.rt);
+        let event = Event::Request {
             client,
             key,
             mode: Mode::Shared,
-            now: now(&self.rt, &self.proxy.timeline),
-        });
+            now,
+        };
+        let _ = self.take(event);
         let _ = self.take(Event::Gone { client });
-    }
-
-    /// A request for all clients that the node has given this, with what is on the shelf where that may be given now.
-    fn with_stale(&mut self, asked: &Asked, given: Given, asking: Asking) -> Asking {
-        match given {
-            Given::Nothing => {
-                self.give_stale(asked, asking.client);
-                if asking.forward == Forward::Miss {
-                    self.expect_early(asked, asking.client);
-                }
-                asking
-            }
-            Given::Refusal => self.instead(asked, asking),
-            Given::Object => asking,
-        }
-    }
-
-    /// A request that the node has refused since there is no room for a fetch, with what is on the shelf in place of that answer, if it may
-    /// be given.
-    fn instead(&mut self, asked: &Asked, asking: Asking) -> Asking {
-        let mut asking = asking;
-        if let Some(answer) = self.answer_instead(asked) {
-            drop(mem::replace(&mut asking.answer, answer));
-        }
-        asking
-    }
-
-    /// What receives the answer with what is on the shelf for a request that the node has refused. `None` also if out of memory.
-    fn answer_instead(&mut self, asked: &Asked) -> Option<oneshot::Receiver<Outcome>> {
-        match self.stale_instead(asked) {
-            Some(stale) => given_stale(self.alloc, stale),
-            None => None,
-        }
-    }
-
-    /// What is on the shelf for a request that the node has refused: what may be given while its origin is asked, as well as what may be
-    /// in place of an error, since that is what the lack of room is (RFC 5861, section 4).
-    fn stale_instead(&mut self, asked: &Asked) -> Option<Stale> {
-        if self.proxy.shelf.is_none() {
-            return None;
-        }
-        let occasion = stale_use(&asked.head)?;
-        match self.key(asked) {
-            Ok(key) => {
-                let found = self.stale_or_instead(&key, occasion);
-                drop(key);
-                found
-            }
-            Err(_) => None,
-        }
-    }
-
-    /// What is on the shelf under a key, if it may be given now, or in place of an error.
-    fn stale_or_instead(&self, key: &CacheKey, occasion: StaleUse) -> Option<Stale> {
-        match self.proxy.stale(&self.rt, key.as_slice(), occasion) {
-            Some(found) => Some(found),
-            None => {
-                let occasion = StaleUse::InPlaceOfError;
-                self.proxy.stale(&self.rt, key.as_slice(), occasion)
-            }
-        }
-    }
-
-    /// The answer to a request that is refused with this status since it wants nothing fetched: what is on the shelf, if the client accepts
-    /// that (RFC 9111, sections 5.2.1.2 and 5.2.1.7). Errors: the status, 508 or 403 as `check` says, or 503 if out of memory.
-    fn without_fetch(&mut self, asked: &Asked, key: &CacheKey, status: u16) -> Result<Asking, u16> {
-        let Some(stale) = self.accepted_stale(asked, key) else {
-            return Err(status);
-        };
-        match self.check(asked, key, has_marks(asked)) {
-            Ok(()) => self.asking_of(stale),
-            Err(status) => {
-                drop(stale);
-                Err(status)
-            }
-        }
-    }
-
-    /// A new client's answer with an object that is stale. Errors: 503, if out of memory.
-    fn asking_of(&mut self, stale: Stale) -> Result<Asking, u16> {
-        match given_stale(self.alloc, stale) {
-            Some(answer) => Ok(Asking {
-                client: self.next_client(),
-                forward: Forward::Miss,
-                began: Instant::now(&self.rt).ok(),
-                answer,
-            }),
-            None => Err(503),
-        }
-    }
-
-    /// What is on the shelf under a key, if this request would be answered by it were it fresh, and accepts that it is not.
-    fn accepted_stale(&self, asked: &Asked, key: &CacheKey) -> Option<Stale> {
-        let fresh = Some(Stored {
-            age: 0,
-            life: u32::MAX,
-        });
-        if choose(asked.method.as_str(), &asked.head, fresh) != Ok(Mode::Cached) {
-            return None;
-        }
-        let occasion = stale_use(&asked.head)?;
-        match occasion {
-            StaleUse::Accepted(_) => self.proxy.stale(&self.rt, key.as_slice(), occasion),
-            _ => None,
-        }
-    }
-
-    /// Gives a client that waits for a fetch for all clients what is on the shelf, if it may have that while its origin is asked about it
-    /// (RFC 5861, section 3), or if it accepts that (RFC 9111, section 5.2.1.2). The fetch goes on without it, and it takes no place of
-    /// those who wait any more.
-    fn give_stale(&mut self, asked: &Asked, client: u64) {
-        if self.proxy.shelf.is_none() {
-            return;
-        }
-        let Some(occasion) = stale_use(&asked.head) else {
-            return;
-        };
-        let Ok(key) = self.key(asked) else {
-            return;
-        };
-        let found = self.proxy.stale(&self.rt, key.as_slice(), occasion);
-        drop(key);
-        if let Some(stale) = found {
-            let answer = outcome_of(stale);
-            self.proxy.mailbox.lock(&self.rt).answer(client, answer);
-            let _ = self.take(Event::Gone { client });
-        }
     }
 
     /// Errors: 508 if a request has come through this cache before, 403 if its host is an address in digits that may not be fetched
     /// from. A request has CDN-Loop fields only if `is_marked`.
     pub(crate) fn check(&self, asked: &Asked, key: &CacheKey, is_marked: bool) -> Result<(), u16> {
-        if is_marked && has_come_back(&asked.head, self.proxy.loop_mark.as_slice()) {
+        if is_marked && has_come_back(&asked.head, self.proxy.outward().loop_mark.as_slice()) {
             return Err(508);
         }
         match server_in_digits(key.as_slice()) {
-            Some(server) if self.proxy.refuses(&self.rt, server) => Err(403),
+            Some(server) if self.proxy.outward().refuses(&self.rt, server) => Err(403),
             _ => Ok(()),
         }
     }
@@ -540,89 +316,10 @@ impl<R: Wait + Clock + Drop, L: Ledger> NodeFront<R, L> {
         key_for(self.alloc, mirrors, &mut self.keys, asked.target.as_str())
     }
 
-    /// How a request is answered by the published rules, if these are in force. Errors: the HTTP status to answer.
-    fn published_mode(&self, asked: &Asked) -> Result<Option<Mode>, u16> {
-        match self.proxy.profile {
-            Profile::Published => Ok(Some(classify(asked.method.as_str(), &asked.head)?)),
-            Profile::Rfc9111(_) => Ok(None),
-        }
-    }
-
-    /// How a request for this key is answered. Errors: the HTTP status to answer.
-    pub(crate) fn mode(&self, asked: &Asked, key: &CacheKey) -> Result<Mode, u16> {
-        match self.published_mode(asked)? {
-            Some(mode) => Ok(mode),
-            None => self.fresh_mode(asked, key),
-        }
-    }
-
-    /// How a request for this key is answered by RFC 9111. Errors: the HTTP status to answer.
-    fn fresh_mode(&self, asked: &Asked, key: &CacheKey) -> Result<Mode, u16> {
-        let stored = self.stored_for(asked, key);
-        choose(asked.method.as_str(), &asked.head, stored)
-    }
-
-    /// How a request for this key that has come now is answered by RFC 9111, as `fresh_mode` says. The third one within a minute for a part
-    /// of what is not stored and may be has the whole fetched for all beside it. Errors: the HTTP status to answer.
-    fn counted_mode(&mut self, asked: &Asked, key: &CacheKey) -> Result<Mode, u16> {
-        let stored = self.stored_for(asked, key);
-        let mode = choose(asked.method.as_str(), &asked.head, stored)?;
-        if mode == Mode::Private && stored.is_none() {
-            self.count_part(asked, key);
-        }
-        Ok(mode)
-    }
-
-    /// Counts a request for this key if it is for a part, and has the whole fetched for all if it is the third.
-    fn count_part(&mut self, asked: &Asked, key: &CacheKey) {
-        if !self.is_for_the_whole(asked, key) {
-            return;
-        }
-        if let Ok(key) = key.share() {
-            self.fetch_for_all(key);
-        }
-    }
-
-    /// Whether a GET for which nothing is stored and which asks for a part has the whole fetched: it is counted.
-    fn is_for_the_whole(&self, asked: &Asked, key: &CacheKey) -> bool {
-        let Some(parts) = &self.proxy.parts else {
-            return false;
-        };
-        if !is_for_a_part(&asked.head) {
-            return false;
-        }
-        let Ok(key) = key.share() else {
-            return false;
-        };
-        let now = now(&self.rt, &self.proxy.timeline);
-        parts.lock(&self.rt).note(key, now.millis())
-    }
-
-    /// What is stored under a key, where that makes a difference to the request. An object that cannot get one more owner counts as
-    /// not stored.
-    fn stored_for(&self, asked: &Asked, key: &CacheKey) -> Option<Stored> {
-        let head = &asked.head;
-        let is_plain = asked.method.as_str() == "GET"
-            && !head.contains_key("cache-control")
-            && !head.contains_key("range");
-        if is_plain {
-            return None;
-        }
-        let now = now(&self.rt, &self.proxy.timeline);
-        match self.proxy.desk.stored(&self.rt, key.as_slice(), now) {
-            Ok(Some(entry)) => {
-                let stored = stored_in(&entry, now);
-                drop(entry);
-                Some(stored)
-            }
-            Ok(None) | Err(_) => None,
-        }
-    }
-
     /// How a request for this key in this mode is taken beside what is being fetched: alone where that was changed meanwhile.
     fn mode_beside(&self, mode: Mode, key: &CacheKey) -> Mode {
         match mode {
-            Mode::Shared if self.proxy.is_outdated(&self.rt, key) => Mode::Private,
+            Mode::Shared if self.proxy.mail().is_outdated(&self.rt, key) => Mode::Private,
             _ => mode,
         }
     }
@@ -704,7 +401,7 @@ impl<R: Wait + Clock + Drop, L: Ledger> NodeFront<R, L> {
             client,
             key,
             mode,
-            now: now(&self.rt, &self.proxy.timeline),
+            now: self.proxy.now(&self.rt),
         };
         let taken = self.take_request(event);
         if taken.is_none() {
@@ -714,7 +411,7 @@ impl<R: Wait + Clock + Drop, L: Ledger> NodeFront<R, L> {
     }
 }
 
-impl<R: Wait + Clock + Drop, L: Ledger> TakeCalls for NodeFront<R, L> {
+impl<R: Wait + Clock + Drop, S: Shared, N: TakeEvents> TakeCalls for NodeFront<R, S, N> {
     fn take_call(&mut self, call: Call<'_>) -> Returned {
         match call {
             Call::Allows(address) => Returned::Whether(self.allows(address)),
@@ -737,7 +434,7 @@ impl<R: Wait + Clock + Drop, L: Ledger> TakeCalls for NodeFront<R, L> {
     }
 }
 
-impl<R: Wait + Clock + Drop, L: Ledger> NodeFront<R, L> {
+impl<R: Wait + Clock + Drop, S: Shared, N: TakeEvents> NodeFront<R, S, N> {
     fn allows(&mut self, address: IpAddr) -> bool {
         match address {
             IpAddr::V4(address) => is_in(self.rules.allowed.as_slice(), address.octets()),
@@ -776,7 +473,7 @@ impl<R: Wait + Clock + Drop, L: Ledger> NodeFront<R, L> {
     }
 
     fn shape(&mut self, asked: &Asked, object: &Object) -> Shape {
-        match self.proxy.profile {
+        match self.proxy.kept().profile {
             Profile::Published => Shape::Whole,
             Profile::Rfc9111(_) => match shape_of(self.alloc, asked, object) {
                 Ok(shape) => shape,
@@ -786,7 +483,7 @@ impl<R: Wait + Clock + Drop, L: Ledger> NodeFront<R, L> {
     }
 
     fn admits(&mut self, server: SocketAddr) -> bool {
-        self.proxy.passes.admits(&self.rt, server)
+        self.proxy.passes().admits(&self.rt, server)
     }
 
     fn gone(&mut self, client: u64) -> Returned {
@@ -797,7 +494,7 @@ impl<R: Wait + Clock + Drop, L: Ledger> NodeFront<R, L> {
 
     fn answered(&mut self) -> Returned {
         self.renew_changed();
-        let before = self.proxy.answered.fetch_add(1, Ordering::SeqCst);
+        let before = self.proxy.telling().answered.fetch_add(1, Ordering::SeqCst);
         if self.stop_after != 0 && before == self.stop_after.saturating_sub(1) {
             let _ = self.stop.send(&self.rt, ());
         }
@@ -810,23 +507,15 @@ impl<R: Wait + Clock + Drop, L: Ledger> NodeFront<R, L> {
             self.clear_unanswered(told);
         }
         let micros = micros_since(&self.rt, told.began);
-        self.proxy.figures.note_answer(note_of(told, how, micros));
-        if let Some(log) = &self.proxy.log {
+        self.proxy
+            .telling()
+            .figures
+            .note_answer(note_of(told, how, micros));
+        if let Some(log) = &self.proxy.telling().log {
             let millis = micros.unwrap_or(0) / 1_000;
             log.write(&self.rt, self.alloc, told, how, millis);
         }
         Returned::Nothing
-    }
-}
-
-/// The age and the life that the object of an entry has left now.
-fn stored_in(entry: &Entry, now: Moment) -> Stored {
-    let object = entry.object.get();
-    let stay = now.millis().saturating_sub(entry.at.millis()) / 1000;
-    let stay = u32::try_from(stay).unwrap_or(u32::MAX);
-    Stored {
-        age: object.age().saturating_add(stay),
-        life: object.life().saturating_sub(stay),
     }
 }
 
@@ -848,70 +537,6 @@ fn is_in_six(networks: &[SixNetwork], number: u128) -> bool {
         }
     }
     false
-}
-
-/// What of an object its request is answered with by RFC 9110: all of one that is not stored (RFC 9111, section 4.3.2), and all where
-/// the request is plain. Errors: out of memory.
-fn shape_of(alloc: Global, asked: &Asked, object: &Object) -> Result<Shape, AllocError> {
-    if object.status() != 200 || object.life() == 0 || is_plain_request(&asked.head) {
-        return Ok(Shape::Whole);
-    }
-    if is_part(object.head()) {
-        return Ok(Shape::Whole);
-    }
-    let (fields, length) = (object.head(), object.body().len());
-    let answer = answer_to(asked.method.as_str(), &asked.head, fields, length);
-    Ok(match answer {
-        StoredAnswer::Whole => Shape::Whole,
-        StoredAnswer::NotModified => Shape::NotModified(validators_of(alloc, fields)?),
-        StoredAnswer::Part { first, last } => Shape::Part {
-            first,
-            last,
-            range: content_range(alloc, first, last, length)?,
-        },
-        StoredAnswer::Unsatisfiable => Shape::Unsatisfiable(unsatisfied_range(alloc, length)?),
-    })
-}
-
-/// Whether an object with status 200 says that it is a part or parts of another one (RFC 9110, sections 14.4 and 14.6), as it should not.
-fn is_part(fields: &[Field]) -> bool {
-    for (name, value) in fields {
-        let is_saying = match name.as_slice() {
-            b"content-range" => true,
-            b"content-type" => value.as_slice().starts_with(b"multipart/byteranges"),
-            _ => false,
-        };
-        if is_saying {
-            return true;
-        }
-    }
-    false
-}
-
-/// The fields of an object that a 304 has (RFC 9110, section 15.4.5). Errors: out of memory.
-fn validators_of(alloc: Global, fields: &[(Vec<u8>, Vec<u8>)]) -> Result<Vec<Field>, AllocError> {
-    let mut kept = Vec::new(alloc);
-    match add_validators(alloc, &mut kept, fields) {
-        Ok(()) => Ok(kept),
-        Err(fault) => {
-            drop(kept);
-            Err(fault)
-        }
-    }
-}
-
-/// Adds the fields that a 304 has.
-fn add_validators(
-    alloc: Global,
-    kept: &mut Vec<Field>,
-    fields: &[Field],
-) -> Result<(), AllocError> {
-    for (name, value) in fields {
-        if is_in_not_modified(name.as_slice()) {
-            add_field(alloc, kept, name.as_slice(), value.as_slice())?;
-        }
-    }
-    Ok(())
 }
 
 /// How a request was answered. It was by the proxy itself where nothing was fetched for it: what is not stored and was to come from

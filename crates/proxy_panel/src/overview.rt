@@ -1,17 +1,14 @@
 //! All that the texts of figures show, gathered from the node and the threads.
-use crate::clock::date_seconds;
-use crate::log::AccessLog;
-use crate::passes::Passes;
-use crate::proxy_state::ProxyState;
+use crate::overseen::Overseen;
 use node_book::NeighbourView;
 use node_core::Counters;
+use proxy_state::{AccessLog, Passes, Shared, date_seconds};
 use std::alloc::{AllocError, AllocGlobal, Global};
 use std::fs;
 use std::fs::Files;
 use std::io::Read;
 use std::sync::Wait;
 use std::sync::atomic::Ordering;
-use std::sync::ledger::Ledger;
 use std::time::{Clock, Instant};
 use traffic_figures::{
     LogLines, NeighbourFigures, NeighbourState, Page, Snapshot, SocketFigures, Sockets,
@@ -21,10 +18,10 @@ use traffic_figures::{
 const PAGE_OCTETS: u64 = 4096;
 
 /// What there is to show now. Errors: out of memory.
-pub fn page_of<R: Wait + Clock + Files + AllocGlobal, L: Ledger>(
+pub fn page_of<R: Wait + Clock + Files + AllocGlobal, S: Overseen>(
     rt: &R,
     alloc: Global,
-    proxy: &ProxyState<L>,
+    proxy: &S,
 ) -> Result<Page, AllocError> {
     let process = Process {
         resident: resident_octets(rt),
@@ -41,13 +38,13 @@ struct Process {
 }
 
 // What there is to show now, with what the system says of this process. Errors: out of memory.
-fn page_with<R: Wait + Clock, L: Ledger>(
+fn page_with<R: Wait + Clock, S: Overseen>(
     rt: &R,
     alloc: Global,
-    proxy: &ProxyState<L>,
+    proxy: &S,
     process: Process,
 ) -> Result<Page, AllocError> {
-    let figures = proxy.figures.snapshot(alloc)?;
+    let figures = proxy.telling().figures.snapshot(alloc)?;
     match neighbours_of(rt, alloc, proxy) {
         Ok(neighbours) => Ok(gathered(rt, proxy, process, figures, neighbours)),
         Err(fault) => {
@@ -58,20 +55,21 @@ fn page_with<R: Wait + Clock, L: Ledger>(
 }
 
 // What there is to show now beside what memory was needed for.
-fn gathered<R: Wait + Clock, L: Ledger>(
+fn gathered<R: Wait + Clock, S: Overseen>(
     rt: &R,
-    proxy: &ProxyState<L>,
+    proxy: &S,
     process: Process,
     figures: Snapshot,
     neighbours: Vec<NeighbourFigures>,
 ) -> Page {
-    let uptime = uptime_of(rt, proxy.started);
-    let stats = proxy.desk.stats(rt);
-    let sizes = proxy.desk.sizes(rt);
-    let (waiting, fetching) = waiting_in(rt, proxy);
+    let (telling, passes) = (proxy.telling(), proxy.passes());
+    let uptime = uptime_of(rt, telling.started);
+    let stats = proxy.stats(rt);
+    let sizes = proxy.sizes(rt);
+    let (waiting, fetching) = proxy.mail().counts(rt);
     Page {
         figures,
-        version: proxy.version,
+        version: telling.version,
         uptime,
         started: date_seconds(rt).checked_sub(uptime),
         resident: process.resident,
@@ -81,18 +79,18 @@ fn gathered<R: Wait + Clock, L: Ledger>(
             htcp: socket_figures(stats.htcp),
         }),
         neighbours,
-        connections: Some(proxy.connections.load(Ordering::SeqCst) as u64),
+        connections: Some(telling.connections.load(Ordering::SeqCst) as u64),
         fetching: Some(fetching),
         waiting: Some(waiting),
-        streams: streams_of(&proxy.passes),
-        tunnels: tunnels_of(&proxy.passes),
+        streams: streams_of(passes),
+        tunnels: tunnels_of(passes),
         objects: Some(sizes.objects as u64),
         stored: Some(sizes.octets),
         evictions: Some(sizes.evictions),
-        swaps: Some(proxy.desk.swaps()),
+        swaps: Some(proxy.swaps()),
         book: Some(sizes.base),
         events: Some(sizes.events),
-        log: log_lines(proxy.log.as_ref()),
+        log: log_lines(telling.log.as_ref()),
     }
 }
 
@@ -123,12 +121,6 @@ fn uptime_of<R: Clock>(rt: &R, started: Option<Instant>) -> u64 {
         Some(since) => since.as_secs(),
         None => 0,
     }
-}
-
-// The numbers of waiting clients and of fetches in flight.
-fn waiting_in<R: Wait, L: Ledger>(rt: &R, proxy: &ProxyState<L>) -> (u64, u64) {
-    let mailbox = proxy.mailbox.lock(rt);
-    (mailbox.waiting() as u64, mailbox.fetching() as u64)
 }
 
 // The octets of memory that are resident, by the second number of Linux's /proc/self/statm. `None` if it can't be read.
@@ -205,12 +197,12 @@ fn log_lines(log: Option<&AccessLog>) -> Option<LogLines> {
 }
 
 // What is known of each neighbour, in the order of the configuration. Errors: out of memory.
-fn neighbours_of<R: Wait, L: Ledger>(
+fn neighbours_of<R: Wait, S: Overseen>(
     rt: &R,
     alloc: Global,
-    proxy: &ProxyState<L>,
+    proxy: &S,
 ) -> Result<Vec<NeighbourFigures>, AllocError> {
-    let views = proxy.desk.neighbours(rt, alloc)?;
+    let views = proxy.neighbours(rt, alloc)?;
     let mut neighbours = Vec::with_capacity(alloc, views.len())?;
     for view in &views {
         neighbours.push(neighbour_of(view))?;

@@ -56,7 +56,7 @@ fn number_of(socket: Socket, end: End) -> u64 {
 }
 
 /// Counts a datagram that is sent, if it is a query to a neighbour: in ICP by its opcode, in HTCP a TST.
-pub(crate) fn note_query(
+pub fn note_query(
     figures: &Figures,
     ends: &NeighbourEnds,
     socket: Socket,
@@ -72,7 +72,7 @@ pub(crate) fn note_query(
 }
 
 /// Counts a datagram that came in, if it is a neighbour's reply and its verdict lets it through. What is cut off is not looked at.
-pub(crate) fn note_reply(figures: &Figures, ends: &NeighbourEnds, judged: &Judged) {
+pub fn note_reply(figures: &Figures, ends: &NeighbourEnds, judged: &Judged) {
     let verdict = judged.verdict().value;
     if verdict == 0 {
         return;

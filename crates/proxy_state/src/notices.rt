@@ -1,12 +1,9 @@
 //! Notices on standard error: fetches that failed, and datagrams that are no messages. A thread of its own writes them.
-use crate::proxy_state::ProxyState;
 use http_traffic::{FetchFault, Supplier};
 use log_writer::{LogDesk, Pace};
-use node_core::Stats;
 use std::alloc::{AllocError, Global};
-use std::sync::ledger::Ledger;
 use std::sync::{Mutex, Wait};
-use std::time::{Clock, Duration, Instant};
+use std::time::{Clock, Instant};
 
 /// The most notices of a second.
 const NOTICES_A_SECOND: u32 = 20;
@@ -78,8 +75,8 @@ impl Notices {
         }
     }
 
-    // Tells how many datagrams at a socket were no messages, if any.
-    fn tell_malformed<R: Wait + Clock>(&self, rt: &R, alloc: Global, socket: &str, count: u64) {
+    /// Tells how many datagrams at a socket were no messages, if any.
+    pub fn tell_malformed<R: Wait + Clock>(&self, rt: &R, alloc: Global, socket: &str, count: u64) {
         if count == 0 {
             return;
         }
@@ -141,59 +138,5 @@ fn push_end(alloc: Global, line: &mut String, left_out: u64) -> Result<(), Alloc
     match format!(in alloc; " ({left_out} notices before this one were left out)\n") {
         Ok(end) => line.push_str(end.as_str()),
         Err(_) => Err(AllocError),
-    }
-}
-
-/// Tells of datagrams that are no messages. Owned by the query thread.
-#[derive(Drop)]
-pub struct MalformedWatch {
-    // When the node's counters were looked at last, and what they were.
-    looked: Option<Instant>,
-    icp: u64,
-    htcp: u64,
-}
-
-impl MalformedWatch {
-    /// A watch that has not looked yet.
-    pub fn new() -> MalformedWatch {
-        MalformedWatch {
-            looked: None,
-            icp: 0,
-            htcp: 0,
-        }
-    }
-
-    // Whether the last look was a second ago.
-    fn is_due(&self, now: Instant) -> bool {
-        match self.looked {
-            Some(looked) => Duration::from_secs(1) <= now.saturating_duration_since(looked),
-            None => true,
-        }
-    }
-
-    /// Looks at the node's counters, at most once a second, and tells by how much they rose. Where there are no notices it does
-    /// nothing.
-    pub fn look<R: Wait + Clock, L: Ledger>(
-        &mut self,
-        rt: &R,
-        alloc: Global,
-        proxy: &ProxyState<L>,
-    ) {
-        let Some(notices) = &proxy.notices else {
-            return;
-        };
-        let Ok(now) = Instant::now(rt) else {
-            return;
-        };
-        if !self.is_due(now) {
-            return;
-        }
-        let Stats { icp, htcp } = proxy.desk.stats(rt);
-        let (icp, htcp) = (icp.malformed, htcp.malformed);
-        notices.tell_malformed(rt, alloc, "icp", icp.saturating_sub(self.icp));
-        notices.tell_malformed(rt, alloc, "htcp", htcp.saturating_sub(self.htcp));
-        self.looked = Some(now);
-        self.icp = icp;
-        self.htcp = htcp;
     }
 }

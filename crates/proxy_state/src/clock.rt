@@ -1,16 +1,5 @@
 //! The times that the threads use.
-use filter_slots::Moment;
-use mio_queries::Timeline;
 use std::time::{Clock, Instant, SystemTime};
-
-/// The moment of an event that happens now. Returns 0 if a clock cannot be read or is out of range; an event at 0 leaves the node's
-/// clock as it is.
-pub fn now<R: Clock>(rt: &R, timeline: &Timeline) -> Moment {
-    match timeline.now(rt) {
-        Ok(now) => now,
-        Err(_) => Moment::new(0).unwrap(),
-    }
-}
 
 /// Milliseconds since 1970-01-01 UTC by the system's clock, for a line of the access log. Returns 0 if it cannot be read.
 pub fn wall_millis<R: Clock>(rt: &R) -> u64 {

@@ -1,7 +1,5 @@
 //! Client requests that are passed on without the node, and tunnels.
-use crate::clock::now;
-use crate::front::{NodeFront, add_values, status_of};
-use crate::passes::Onwards;
+use crate::front::NodeFront;
 use forwarding::{Destination, Field, Profile};
 use futures::channel::{mpsc, oneshot};
 use http_header::HeaderMap;
@@ -12,10 +10,10 @@ use http_traffic::{
 };
 use node_core::Mode;
 use object_store::CacheKey;
+use proxy_state::{Onwards, Shared, TakeEvents, add_values, status_of, withdraw};
 use std::alloc::{AllocError, Global};
 use std::net::{Ipv4Addr, SocketAddr, SocketAddrV4};
 use std::sync::Wait;
-use std::sync::ledger::Ledger;
 use std::time::{Clock, Instant};
 
 /// How many pieces of an answer that is passed on wait for its client.
@@ -117,10 +115,10 @@ fn open_ends(alloc: Global) -> Result<Ends, AllocError> {
     }
 }
 
-impl<R: Wait + Clock + Drop, L: Ledger> NodeFront<R, L> {
+impl<R: Wait + Clock + Drop, S: Shared, N: TakeEvents> NodeFront<R, S, N> {
     /// How a request with this method is taken. By RFC 9111 a HEAD is answered from the store if it can be.
     pub(crate) fn road_of(&self, method: &str) -> Road {
-        let passes = &self.proxy.passes;
+        let passes = self.proxy.passes();
         if method == "GET" || (method == "HEAD" && self.answers_heads()) {
             Road::Node
         } else if method == "CONNECT" && passes.has_tunnels() {
@@ -134,7 +132,7 @@ impl<R: Wait + Clock + Drop, L: Ledger> NodeFront<R, L> {
 
     // Whether a HEAD is answered from the store.
     fn answers_heads(&self) -> bool {
-        match self.proxy.profile {
+        match self.proxy.kept().profile {
             Profile::Published => false,
             Profile::Rfc9111(_) => true,
         }
@@ -146,7 +144,7 @@ impl<R: Wait + Clock + Drop, L: Ledger> NodeFront<R, L> {
         if asked.method.as_str() == "HEAD" {
             return self.is_unstored_head(asked);
         }
-        if self.proxy.passes.large.is_none() {
+        if self.proxy.passes().large.is_none() {
             return Ok(false);
         }
         let key = self.key(asked)?;
@@ -157,7 +155,7 @@ impl<R: Wait + Clock + Drop, L: Ledger> NodeFront<R, L> {
 
     // Whether a GET is passed on whose answer is known to be too long to be stored, and which nothing stored answers.
     fn is_large_and_unstored(&self, asked: &Asked, key: &CacheKey) -> Result<bool, u16> {
-        if !self.proxy.passes.is_large(&self.rt, key) {
+        if !self.proxy.passes().is_large(&self.rt, key) {
             return Ok(false);
         }
         match self.mode(asked, key)? {
@@ -169,14 +167,14 @@ impl<R: Wait + Clock + Drop, L: Ledger> NodeFront<R, L> {
 
     // Whether something fresh is stored under a key. Where one client's own answer was too long, that may be.
     fn is_stored(&self, key: &CacheKey) -> bool {
-        let now = now(&self.rt, &self.proxy.timeline);
-        let found = self.proxy.desk.stored(&self.rt, key.as_slice(), now);
+        let now = self.proxy.now(&self.rt);
+        let found = self.proxy.stored(&self.rt, key.as_slice(), now);
         matches!(found, Ok(Some(_)))
     }
 
     // Whether a HEAD is to be passed on which nothing stored answers.
     fn is_unstored_head(&mut self, asked: &Asked) -> Result<bool, u16> {
-        if !self.proxy.passes.has_method("HEAD") {
+        if !self.proxy.passes().has_method("HEAD") {
             return Ok(false);
         }
         let key = self.key(asked)?;
@@ -243,7 +241,7 @@ impl<R: Wait + Clock + Drop, L: Ledger> NodeFront<R, L> {
     // Where a request for this key goes that is passed on, and its ticket. `None` if there is nobody to pass it on to, if there are too
     // many, or if out of memory.
     fn road_on(&self, key: &CacheKey) -> Option<(Onwards, Ticket)> {
-        let passes = &self.proxy.passes;
+        let passes = self.proxy.passes();
         let onwards = passes.onwards(self.alloc, key)?;
         match passes.streams.take() {
             Some(ticket) => Some((onwards, ticket)),
@@ -257,7 +255,7 @@ impl<R: Wait + Clock + Drop, L: Ledger> NodeFront<R, L> {
     // The fields of a request that is passed on, with the marks of this cache. Errors: the status to answer.
     fn onward_fields(&self, asked: &Asked) -> Result<Vec<Field>, u16> {
         let mut fields = end_to_end_fields(self.alloc, asked)?;
-        match self.proxy.add_marks(self.alloc, &mut fields) {
+        match self.proxy.outward().add_marks(self.alloc, &mut fields) {
             Ok(()) => Ok(fields),
             Err(_) => {
                 drop(fields);
@@ -296,7 +294,7 @@ impl<R: Wait + Clock + Drop, L: Ledger> NodeFront<R, L> {
             fields,
             content,
             is_origin,
-            still: self.proxy.passes.stream_still,
+            still: self.proxy.passes().stream_still,
             head,
             pieces,
             ticket,
@@ -317,7 +315,9 @@ impl<R: Wait + Clock + Drop, L: Ledger> NodeFront<R, L> {
         // The count of this thread's clients, by which they take turns at the fetch threads.
         let count = self.last.checked_div(self.step).unwrap_or(0);
         let (rt, alloc) = (&self.rt, self.alloc);
-        self.proxy.pass_on(rt, alloc, count, name, port, passage)
+        self.proxy
+            .fetchers()
+            .pass_on(rt, alloc, count, name, port, passage)
     }
 
     /// Takes out of the store what a request has changed whose answer has this head. Where memory is short, it stays there until it is
@@ -359,8 +359,8 @@ impl<R: Wait + Clock + Drop, L: Ledger> NodeFront<R, L> {
 
     // Takes what is stored under a key out of the store and off the shelf, as the administration does.
     fn clear(&self, key: &CacheKey) {
-        self.proxy.withdraw(&self.rt, key);
-        let now = now(&self.rt, &self.proxy.timeline);
+        withdraw(&self.rt, &*self.proxy, key);
+        let now = self.proxy.now(&self.rt);
         match self.rules.purger.event(self.alloc, key, now) {
             Ok(event) => {
                 let _ = self.take(event);
@@ -374,7 +374,7 @@ impl<R: Wait + Clock + Drop, L: Ledger> NodeFront<R, L> {
     pub(crate) fn lead(&self, asked: &Asked) -> Result<TunnelEnd, u16> {
         let authority = self.authority(asked).ok_or(400u16)?;
         self.check_end(asked, authority)?;
-        match self.proxy.passes.tunnels.take() {
+        match self.proxy.passes().tunnels.take() {
             Some(ticket) => self.end_of(asked, authority, ticket),
             None => Err(503),
         }
@@ -384,7 +384,7 @@ impl<R: Wait + Clock + Drop, L: Ledger> NodeFront<R, L> {
     fn authority<'a>(&self, asked: &'a Asked) -> Option<Authority<'a>> {
         let target = asked.target.as_str();
         match authority_of(target) {
-            None if self.proxy.passes.has_six => six_authority_of(target),
+            None if self.proxy.passes().has_six => six_authority_of(target),
             authority => authority,
         }
     }
@@ -392,11 +392,11 @@ impl<R: Wait + Clock + Drop, L: Ledger> NodeFront<R, L> {
     // Errors: 403 if a tunnel may not lead to this port or to this address in digits, 508 if the request has come back.
     fn check_end(&self, asked: &Asked, authority: Authority<'_>) -> Result<(), u16> {
         let Authority { host, port } = authority;
-        let passes = &self.proxy.passes;
+        let passes = self.proxy.passes();
         if !passes.has_port(port) {
             return Err(403);
         }
-        if has_come_back(&asked.head, self.proxy.loop_mark.as_slice()) {
+        if has_come_back(&asked.head, self.proxy.outward().loop_mark.as_slice()) {
             return Err(508);
         }
         match address_in_digits(host) {
@@ -412,7 +412,7 @@ impl<R: Wait + Clock + Drop, L: Ledger> NodeFront<R, L> {
         authority: Authority<'_>,
         ticket: Ticket,
     ) -> Result<TunnelEnd, u16> {
-        let passes = &self.proxy.passes;
+        let passes = self.proxy.passes();
         match self.next_hop(asked, authority) {
             Some((server, greeting)) => Ok(TunnelEnd {
                 server,
@@ -436,9 +436,12 @@ impl<R: Wait + Clock + Drop, L: Ledger> NodeFront<R, L> {
         asked: &Asked,
         authority: Authority<'_>,
     ) -> Option<(Server, Option<Vec<u8>>)> {
-        if self.proxy.passes.is_direct {
+        if self.proxy.passes().is_direct {
             let Authority { host, port } = authority;
-            let server = self.proxy.server_of(&self.rt, self.alloc, host, port)?;
+            let server = self
+                .proxy
+                .fetchers()
+                .server_of(&self.rt, self.alloc, host, port)?;
             return Some((server, None));
         }
         let server = self.parent()?;
@@ -453,7 +456,7 @@ impl<R: Wait + Clock + Drop, L: Ledger> NodeFront<R, L> {
 
     // The HTTP server of the first parent, if there is one.
     fn parent(&self) -> Option<Server> {
-        let parent = self.proxy.passes.parent?;
+        let parent = self.proxy.passes().parent?;
         let address = Ipv4Addr::from_octets(parent.end.addr);
         let end = SocketAddrV4::new(address, parent.http_port);
         Some(Server::At(SocketAddr::V4(end)))
@@ -488,7 +491,7 @@ impl<R: Wait + Clock + Drop, L: Ledger> NodeFront<R, L> {
     ) -> Result<(), AllocError> {
         add_values(self.alloc, fields, asked, "cdn-loop")?;
         add_values(self.alloc, fields, asked, "via")?;
-        self.proxy.add_marks(self.alloc, fields)
+        self.proxy.outward().add_marks(self.alloc, fields)
     }
 }
 

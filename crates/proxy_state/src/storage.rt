@@ -67,10 +67,10 @@ impl Purger {
     /// RD, so that nothing is sent in answer. Errors: why there is none, or out of memory.
     pub fn event(&self, alloc: Global, key: &CacheKey, now: Moment) -> Result<Event, StoreFault> {
         let Some(signer) = &self.key else {
-            return Err(kept(alloc, Obstacle::NoKey));
+            return Err(stays(alloc, Obstacle::NoKey));
         };
         if !self.is_allowed {
-            return Err(kept(alloc, Obstacle::NotAllowed));
+            return Err(stays(alloc, Obstacle::NotAllowed));
         }
         match clearing(alloc, key, self.own, signer, now.seconds()) {
             Ok(payload) => self.arrival(alloc, payload, now),
@@ -122,7 +122,7 @@ fn clearing(
 }
 
 /// Why an object stays, for an administrator.
-pub fn kept(alloc: Global, obstacle: Obstacle) -> StoreFault {
+pub fn stays(alloc: Global, obstacle: Obstacle) -> StoreFault {
     let line = match obstacle {
         Obstacle::NoKey => NO_KEY,
         Obstacle::NotAllowed => NOT_ALLOWED,

@@ -1,9 +1,6 @@
 //! Administration of the node: filters, counters and captures.
-use crate::clock::now;
-use crate::limits::{RETRIES, RETRY_MILLIS};
-use crate::node_handle::NodeHandle;
+use crate::overseen::Overseen;
 use crate::overview::page_of;
-use crate::storage::{Obstacle, Purger, kept, key_in, limit_of};
 use bpf_asm::to_text;
 use bpf_check::Checked;
 use capture_tap::{CaptureLimits, QUERY_LINE, TapFault};
@@ -13,27 +10,32 @@ use filter_text::{ProgramFault, read_program};
 use futures::channel::mpsc;
 use http_rules::{is_administrator, is_authorized};
 use http_traffic::{Asked, CaptureFault, Figures, Panel, PutFault, StoreFault, StoreOrder};
-use node_book::{Desk, NeighbourView};
+use node_book::NeighbourView;
 use node_core::Event;
 use node_figures::{neighbour_figures_text, neighbours_text, stats_text, store_text, stored_text};
 use object_store::{CacheKey, Entry};
+use proxy_state::{
+    Obstacle, Purger, RETRIES, RETRY_MILLIS, Shared, TakeEvents, key_in, limit_of, stays, withdraw,
+};
 use serve_config::FilterFile;
 use std::alloc::{AllocError, AllocGlobal, Global};
 use std::fs::Files;
 use std::sync::atomic::Ordering;
-use std::sync::ledger::Ledger;
 use std::sync::{Arc, Mutex, Wait};
 use std::time::{Clock, Duration};
 use std::{io, thread};
 use traffic_figures::{NeighbourCounts, Page, clients_text, metrics_text};
 
-/// Installs and removes filters, reads counters, and begins captures. Owned by the administration thread, the only one that swaps filters.
+/// Installs and removes filters, reads counters, and begins captures. Owned by the administration thread, the only one that swaps filters. `S` is the
+/// state that all threads share, `N` the thread's handle to the node.
 #[derive(Drop)]
-pub struct NodePanel<R, L: Ledger> {
+pub struct NodePanel<R, S, N> {
     pub rt: R,
     pub alloc: Global,
+    /// State shared by all threads.
+    pub proxy: Arc<S>,
     /// The thread's handle to the node. Only this thread locks it; a second owner takes the seat back after the server ends.
-    pub node: Arc<Mutex<NodeHandle<R, L>>>,
+    pub node: Arc<Mutex<N>>,
     /// What a request has to show to change anything. `None` lets every administrator.
     pub token: Option<String>,
     /// The files of the configuration's filters.
@@ -48,17 +50,16 @@ pub trait ServePanel: Drop {
     fn serve<P: Panel>(self, panel: P) -> io::Result<()>;
 }
 
-impl<R: Wait + Clock + Files + AllocGlobal + Drop, L: Ledger> NodePanel<R, L> {
+impl<R: Wait + Clock + Files + AllocGlobal + Drop, S: Overseen, N: TakeEvents> NodePanel<R, S, N> {
     /// Has this panel served. That it is a panel is looked at here, where little else is in sight, since each function that hands it
     /// over looks at all of it.
-    pub fn served_by<S: ServePanel>(self, server: S) -> io::Result<()> {
+    pub fn served_by<T: ServePanel>(self, server: T) -> io::Result<()> {
         server.serve(self)
     }
 
     // All that the texts of figures show.
     fn page(&self) -> Result<Page, AllocError> {
-        let node = self.node.lock(&self.rt);
-        page_of(&self.rt, self.alloc, node.proxy())
+        page_of(&self.rt, self.alloc, &*self.proxy)
     }
 
     // The counters of answers and fetches, as JSON.
@@ -79,18 +80,17 @@ impl<R: Wait + Clock + Files + AllocGlobal + Drop, L: Ledger> NodePanel<R, L> {
 }
 
 // What opens no file has no bounds for that: the prover lays them out anew for each function.
-impl<R: Wait + Clock + Drop, L: Ledger> NodePanel<R, L> {
+impl<R: Wait + Clock + Drop, S: Overseen, N: TakeEvents> NodePanel<R, S, N> {
     // The port that administration is served on.
     fn port(&self) -> u16 {
-        let node = self.node.lock(&self.rt);
-        node.proxy().admin_port.load(Ordering::SeqCst)
+        self.proxy.telling().admin_port.load(Ordering::SeqCst)
     }
 
     fn swap(&mut self, slot: Slot, program: Option<Arc<Checked>>) -> Result<(), AllocError> {
         let event = Event::Swap { slot, program };
         match self.node.lock(&self.rt).take(event) {
-            Ok(_) => Ok(()),
-            Err(_) => Err(AllocError),
+            Some(_) => Ok(()),
+            None => Err(AllocError),
         }
     }
 
@@ -123,22 +123,20 @@ impl<R: Wait + Clock + Drop, L: Ledger> NodePanel<R, L> {
 
     // The moment of what is asked now.
     fn moment(&self) -> Moment {
-        now(&self.rt, &self.node.lock(&self.rt).proxy().timeline)
+        self.proxy.now(&self.rt)
     }
 
     // The objects that were used last, as JSON, and how much is stored.
     fn list(&self, query: &str) -> Result<Vec<u8>, StoreFault> {
         let moment = self.moment();
         let most = limit_of(self.alloc, query)?;
-        let node = self.node.lock(&self.rt);
-        list_of(&self.rt, self.alloc, &node.proxy().desk, most, moment)
+        list_of(&self.rt, self.alloc, &*self.proxy, most, moment)
     }
 
     // What is stored under a key. Errors: nothing fresh, or out of memory.
     fn entry(&self, key: &CacheKey) -> Result<Entry, StoreFault> {
         let moment = self.moment();
-        let node = self.node.lock(&self.rt);
-        match node.proxy().desk.stored(&self.rt, key.as_slice(), moment) {
+        match self.proxy.stored(&self.rt, key.as_slice(), moment) {
             Ok(Some(entry)) => Ok(entry),
             Ok(None) => Err(StoreFault::NotStored),
             Err(_) => Err(StoreFault::NoMemory),
@@ -171,7 +169,7 @@ impl<R: Wait + Clock + Drop, L: Ledger> NodePanel<R, L> {
 
     // Takes the object of a key out of the store, and off the shelf even if it is no longer stored. Shows nothing.
     fn remove_under(&self, key: &CacheKey) -> Result<Vec<u8>, StoreFault> {
-        self.node.lock(&self.rt).proxy().withdraw(&self.rt, key);
+        withdraw(&self.rt, &*self.proxy, key);
         drop(self.entry(key)?);
         self.purge(key)?;
         match self.entry(key) {
@@ -179,7 +177,7 @@ impl<R: Wait + Clock + Drop, L: Ledger> NodePanel<R, L> {
             Err(fault) => Err(fault),
             Ok(entry) => {
                 drop(entry);
-                Err(kept(self.alloc, Obstacle::StillStored))
+                Err(stays(self.alloc, Obstacle::StillStored))
             }
         }
     }
@@ -189,14 +187,14 @@ impl<R: Wait + Clock + Drop, L: Ledger> NodePanel<R, L> {
         let moment = self.moment();
         let event = self.purger.event(self.alloc, key, moment)?;
         match self.node.lock(&self.rt).take(event) {
-            Ok(_) => Ok(()),
-            Err(_) => Err(StoreFault::NoMemory),
+            Some(_) => Ok(()),
+            None => Err(StoreFault::NoMemory),
         }
     }
 
     // The counters of both sockets, as JSON.
     fn socket_figures(&self) -> Result<Vec<u8>, AllocError> {
-        let stats = self.node.lock(&self.rt).proxy().desk.stats(&self.rt);
+        let stats = self.proxy.stats(&self.rt);
         line_of(stats_text(self.alloc, stats))
     }
 
@@ -210,17 +208,12 @@ impl<R: Wait + Clock + Drop, L: Ledger> NodePanel<R, L> {
 
     // The state of each neighbour.
     fn views(&self) -> Result<Vec<NeighbourView>, AllocError> {
-        let node = self.node.lock(&self.rt);
-        node.proxy().desk.neighbours(&self.rt, self.alloc)
+        self.proxy.neighbours(&self.rt, self.alloc)
     }
 
     // What is counted of each neighbour.
     fn counts(&self) -> Result<Vec<NeighbourCounts>, AllocError> {
-        self.node
-            .lock(&self.rt)
-            .proxy()
-            .figures
-            .by_neighbour(self.alloc)
+        self.proxy.telling().figures.by_neighbour(self.alloc)
     }
 
     // The state of each neighbour and what is counted of it, as JSON.
@@ -241,7 +234,7 @@ impl<R: Wait + Clock + Drop, L: Ledger> NodePanel<R, L> {
 
     // The program that is installed in a slot, as text.
     fn shown(&self, slot: Slot) -> Result<Vec<u8>, AllocError> {
-        let programs = self.node.lock(&self.rt).proxy().desk.programs(&self.rt)?;
+        let programs = self.proxy.programs(&self.rt)?;
         let text = shown_in(self.alloc, &programs, slot);
         drop(programs);
         text
@@ -252,8 +245,7 @@ impl<R: Wait + Clock + Drop, L: Ledger> NodePanel<R, L> {
         &self,
         limits: CaptureLimits,
     ) -> Result<mpsc::Receiver<Vec<u8>>, CaptureFault> {
-        let node = self.node.lock(&self.rt);
-        match node.proxy().tap.begin(&self.rt, self.alloc, limits) {
+        match self.proxy.tap().begin(&self.rt, self.alloc, limits) {
             Ok(pieces) => Ok(pieces),
             Err(TapFault::Busy) => Err(CaptureFault::Busy),
             Err(TapFault::NoMemory) => Err(CaptureFault::NoMemory),
@@ -262,17 +254,17 @@ impl<R: Wait + Clock + Drop, L: Ledger> NodePanel<R, L> {
 }
 
 /// The objects that were used last, as JSON, and how much is stored.
-fn list_of<R: Wait, L: Ledger>(
+fn list_of<R: Wait, S: Overseen>(
     rt: &R,
     alloc: Global,
-    desk: &Desk<L>,
+    proxy: &S,
     most: usize,
     moment: Moment,
 ) -> Result<Vec<u8>, StoreFault> {
-    let Ok(newest) = desk.newest(rt, alloc, most) else {
+    let Ok(newest) = proxy.newest(rt, alloc, most) else {
         return Err(StoreFault::NoMemory);
     };
-    let text = store_text(alloc, desk.sizes(rt), newest.as_slice(), moment);
+    let text = store_text(alloc, proxy.sizes(rt), newest.as_slice(), moment);
     drop(newest);
     octets_of(text)
 }
@@ -362,7 +354,8 @@ fn put_fault(alloc: Global, fault: &ProgramFault) -> PutFault {
     }
 }
 
-impl<R: Wait + Clock + Files + AllocGlobal + Drop, L: Ledger> Panel for NodePanel<R, L> {
+impl<R: Wait + Clock + Files + AllocGlobal + Drop, S: Overseen, N: TakeEvents> Panel
+    for NodePanel<R, S, N> {
     fn admits(&mut self, asked: &Asked) -> bool {
         let port = self.port();
         is_administrator(&asked.head, asked.target.as_bytes(), port)
@@ -378,7 +371,7 @@ impl<R: Wait + Clock + Files + AllocGlobal + Drop, L: Ledger> Panel for NodePane
     fn has(&mut self, slot: Slot) -> bool {
         match slot {
             Slot::Socket(_) => true,
-            Slot::Neighbour(n) => n < self.node.lock(&self.rt).proxy().peers.len(),
+            Slot::Neighbour(n) => n < self.proxy.outward().peers.len(),
         }
     }
 
@@ -424,8 +417,7 @@ impl<R: Wait + Clock + Files + AllocGlobal + Drop, L: Ledger> Panel for NodePane
     }
 
     fn reopen_log(&mut self) -> bool {
-        let node = self.node.lock(&self.rt);
-        match &node.proxy().log {
+        match &self.proxy.telling().log {
             Some(log) => {
                 log.desk.reopen(&self.rt);
                 true
@@ -435,7 +427,7 @@ impl<R: Wait + Clock + Files + AllocGlobal + Drop, L: Ledger> Panel for NodePane
     }
 
     fn stop(&mut self) {
-        self.node.lock(&self.rt).proxy().stop(&self.rt);
+        self.proxy.stopping().stop(&self.rt);
     }
 
     fn capture(&mut self, query: Option<&str>) -> Result<mpsc::Receiver<Vec<u8>>, CaptureFault> {

@@ -1,21 +1,18 @@
 //! Results of fetches on their way to the node.
-use crate::clock::{date_seconds, micros_since, now};
-use crate::limits::{RETRIES, RETRY_MILLIS};
-use crate::node_handle::NodeHandle;
-use crate::proxy_state::Stale;
 use crossbeam_channel::Sender;
 use fetch_chain::Submit;
+use filter_slots::Moment;
 use forwarding::{
     Exchange, Flight, Landed, Life, Profile, confirmed, has_other_rules, hides_rules, object_of,
     refusal, stale_object, unkept_object,
 };
-use http_rules::{StaleUse, complete_length, has_stale_use, has_validator, is_error, supersedes};
+use http_rules::{StaleUse, complete_length, is_error, supersedes};
 use http_traffic::{FetchEnd, FetchFault, Fetched, Page, Supplier};
 use httpdate::HttpDate;
 use node_core::{Event, Mode, Outcome};
 use object_store::{CacheKey, SharedObject};
+use proxy_state::{RETRIES, RETRY_MILLIS, Shared, Stale, TakeEvents, date_seconds, micros_since};
 use std::alloc::Global;
-use std::sync::ledger::Ledger;
 use std::sync::{Arc, RwLock, Wait};
 use std::time::{Clock, Duration};
 use std::{mem, thread};
@@ -211,12 +208,13 @@ impl Made {
     }
 }
 
-/// Submits the results of one fetch thread.
+/// Submits the results of one fetch thread. `S` is the state that all threads share, `N` the thread's handle to the node.
 #[derive(Drop)]
-pub struct Results<R, L: Ledger> {
+pub struct Results<R, S, N> {
     pub rt: R,
     pub alloc: Global,
-    pub node: NodeHandle<R, L>,
+    pub proxy: Arc<S>,
+    pub node: N,
     /// The lock by which changes of what is stored wait for results that are being handed in: the proxy's own.
     pub changes: Arc<RwLock<()>>,
     /// Whether a result could not be submitted even after all retries.
@@ -228,30 +226,29 @@ pub struct Results<R, L: Ledger> {
 }
 
 // Hands in the outcome of an attempt. Returns whether the node has taken it.
-fn take<R: Wait + Clock + Drop, L: Ledger>(
-    rt: &R,
-    node: &mut NodeHandle<R, L>,
+fn take<N: TakeEvents>(
+    node: &mut N,
     fetch: u32,
     attempt: u16,
     supplier: Option<Supplier>,
     outcome: Outcome,
+    now: Moment,
 ) -> bool {
     let event = Event::Fetched {
         fetch,
         attempt,
         result: outcome,
-        now: now(rt, &node.proxy().timeline),
+        now,
     };
-    node.take_fetched(event, supplier).is_ok()
+    node.take_fetched(event, supplier).is_some()
 }
 
-impl<R: Wait + Clock + Drop, L: Ledger> Results<R, L> {
+impl<R: Wait + Clock + Drop, S: Shared, N: TakeEvents> Results<R, S, N> {
     // The key of a fetch, where responses are kept by RFC 9111; otherwise nothing depends on it.
     fn key_of(&self, fetch: u32) -> Option<CacheKey> {
-        let proxy = self.node.proxy();
-        match proxy.profile {
+        match self.proxy.kept().profile {
             Profile::Published => None,
-            Profile::Rfc9111(_) => proxy.desk.key_of(&self.rt, fetch).unwrap_or(None),
+            Profile::Rfc9111(_) => self.proxy.key_of(&self.rt, fetch).unwrap_or(None),
         }
     }
 
@@ -269,7 +266,7 @@ impl<R: Wait + Clock + Drop, L: Ledger> Results<R, L> {
 
     // Whether a 304 to a fetch that asked about nothing answers conditions of a client's own.
     fn is_theirs(&self, flight: Flight) -> bool {
-        self.node.proxy().shelf.is_none() || flight.mode != Mode::Shared
+        self.proxy.kept().shelf.is_none() || flight.mode != Mode::Shared
     }
 
     // The response that a page stands for, as `meaning_of` says. `None` also for a 304 that fits another object than was asked about.
@@ -296,24 +293,10 @@ impl<R: Wait + Clock + Drop, L: Ledger> Results<R, L> {
         }
     }
 
-    // Puts an object on the shelf that is stored, and that can be asked about or may be of use once it is stale. Returns whether it is there:
-    // `false` also where memory is short, or if it is too large for the shelf.
+    // Puts an object on the shelf that is stored. Returns whether it is there, as `Kept::shelve` says.
     fn shelve(&self, key: &CacheKey, object: &SharedObject) -> bool {
-        let proxy = self.node.proxy();
-        let Some(shelf) = &proxy.shelf else {
-            return false;
-        };
-        let head = object.get().head();
-        if !has_validator(head) && !has_stale_use(head, proxy.serve_stale) {
-            return false;
-        }
-        let (Ok(own), Ok(object)) = (key.share(), object.share()) else {
-            return false;
-        };
-        let now = now(&self.rt, &proxy.timeline);
-        let put = shelf.lock(&self.rt).put(own, object, now);
-        proxy.unasked.lock(&self.rt).forget(key.as_slice());
-        put.is_ok()
+        let now = self.proxy.now(&self.rt);
+        self.proxy.kept().shelve(&self.rt, key, object, now)
     }
 
     // Has the shelf follow what a fetch brought: what is stored is put there if the origin has given it itself, since its 304 would
@@ -322,10 +305,10 @@ impl<R: Wait + Clock + Drop, L: Ledger> Results<R, L> {
     fn follow(&self, key: &CacheKey, flight: Flight, object: &SharedObject) {
         if object.get().life() > 0 {
             if !flight.is_origin() || !self.shelve(key, object) {
-                self.node.proxy().unshelve(&self.rt, key);
+                self.proxy.kept().unshelve(&self.rt, key);
             }
         } else if flight.mode == Mode::Shared && supersedes(object.get().status()) {
-            self.node.proxy().unshelve(&self.rt, key);
+            self.proxy.kept().unshelve(&self.rt, key);
         }
     }
 
@@ -347,13 +330,13 @@ impl<R: Wait + Clock + Drop, L: Ledger> Results<R, L> {
     // The age of a response, and for how long it may be stored.
     fn life_of(&self, key: Option<&CacheKey>, flight: Flight, page: &Page) -> Life {
         let exchange = self.exchange(key, flight);
-        self.node.proxy().profile.life_of(exchange, page)
+        self.proxy.kept().profile.life_of(exchange, page)
     }
 
     // Notes the length of what a part has come of, if the whole may be stored.
     fn note_part(&self, fetch: u32, flight: Flight, end: &FetchEnd) {
-        let proxy = self.node.proxy();
-        let (Some(parts), FetchEnd::Whole(page)) = (&proxy.parts, end) else {
+        let kept = self.proxy.kept();
+        let (Some(parts), FetchEnd::Whole(page)) = (&kept.parts, end) else {
             return;
         };
         if page.status != PARTIAL_CONTENT {
@@ -366,7 +349,7 @@ impl<R: Wait + Clock + Drop, L: Ledger> Results<R, L> {
             return;
         };
         let exchange = self.exchange(Some(&key), flight);
-        if proxy.profile.may_keep_whole(exchange, &page.head) {
+        if kept.profile.may_keep_whole(exchange, &page.head) {
             parts.lock(&self.rt).note_length(key, length);
         } else {
             drop(key);
@@ -385,8 +368,8 @@ impl<R: Wait + Clock + Drop, L: Ledger> Results<R, L> {
         let exchange = self.exchange(Some(key), landed.flight);
         match page.status {
             200 => self
-                .node
-                .proxy()
+                .proxy
+                .kept()
                 .profile
                 .may_keep_whole(exchange, &page.head),
             NOT_MODIFIED => has_other_rules(&page.head, asked.get()),
@@ -408,7 +391,7 @@ impl<R: Wait + Clock + Drop, L: Ledger> Results<R, L> {
         if is_unkept {
             life.left = 0;
         }
-        let name = self.node.proxy().name.as_bytes();
+        let name = self.proxy.outward().name.as_bytes();
         object_of(self.alloc, name, life, page, date).ok()
     }
 
@@ -493,10 +476,9 @@ impl<R: Wait + Clock + Drop, L: Ledger> Results<R, L> {
         if landed.is_outdated || !is_down(landed.flight, end) {
             return None;
         }
-        let Stale { object, age } = self
-            .node
-            .proxy()
-            .stale(&self.rt, key?.as_slice(), StaleUse::InPlaceOfError)?;
+        let (kept, now) = (self.proxy.kept(), self.proxy.now(&self.rt));
+        let occasion = StaleUse::InPlaceOfError;
+        let Stale { object, age } = kept.stale(&self.rt, now, key?.as_slice(), occasion)?;
         let in_place = stale_object(self.alloc, object.get(), age);
         drop(object);
         match in_place {
@@ -511,7 +493,7 @@ impl<R: Wait + Clock + Drop, L: Ledger> Results<R, L> {
     // Makes all that is handed in of a fetch, while it is still in flight and no change waits for that. Beside what is counted and told of
     // it, nothing is done yet.
     fn make(&self, fetch: u32, end: FetchEnd) -> Made {
-        let landed = self.node.proxy().mailbox.lock(&self.rt).landed(fetch);
+        let landed = self.proxy.mail().mailbox.lock(&self.rt).landed(fetch);
         let flight = landed.flight;
         self.note_all(fetch, flight, &end);
         let key = self.key_of(fetch);
@@ -578,16 +560,15 @@ impl<R: Wait + Clock + Drop, L: Ledger> Results<R, L> {
             octets,
             micros: micros_since(&self.rt, flight.began),
         };
-        self.node.proxy().figures.note_fetch(note);
+        self.proxy.telling().figures.note_fetch(note);
     }
 
     // Tells why a fetch failed, if that is asked for. One that the node does not have any more is not wanted by anybody.
     fn tell(&self, fetch: u32, supplier: Supplier, fault: FetchFault) {
-        let proxy = self.node.proxy();
-        let Some(notices) = &proxy.notices else {
+        let Some(notices) = &self.proxy.telling().notices else {
             return;
         };
-        if let Ok(Some(key)) = proxy.desk.key_of(&self.rt, fetch) {
+        if let Ok(Some(key)) = self.proxy.key_of(&self.rt, fetch) {
             let url = key.as_slice();
             notices.tell_fetch(&self.rt, self.alloc, fetch, url, supplier, fault);
         }
@@ -605,25 +586,19 @@ impl<R: Wait + Clock + Drop, L: Ledger> Results<R, L> {
 
     // Notes that the body of a fetch's response was too large, where such responses are passed on.
     fn note_large(&self, fetch: u32, fault: FetchFault) {
-        let proxy = self.node.proxy();
-        if fault != FetchFault::TooLarge || proxy.passes.large.is_none() {
+        let passes = self.proxy.passes();
+        if fault != FetchFault::TooLarge || passes.large.is_none() {
             return;
         }
-        if let Ok(Some(key)) = proxy.desk.key_of(&self.rt, fetch) {
-            proxy.passes.note_large(&self.rt, key);
+        if let Ok(Some(key)) = self.proxy.key_of(&self.rt, fetch) {
+            passes.note_large(&self.rt, key);
         }
     }
 
     // Hands in that an attempt has failed.
     fn fail(&mut self, fetch: u32, attempt: u16) -> bool {
-        take(
-            &self.rt,
-            &mut self.node,
-            fetch,
-            attempt,
-            None,
-            Outcome::Failed,
-        )
+        let now = self.proxy.now(&self.rt);
+        take(&mut self.node, fetch, attempt, None, Outcome::Failed, now)
     }
 
     // Hands in how an attempt has ended. Whatever takes long with a long body is done before any change has to wait for this; what was
@@ -683,12 +658,12 @@ impl<R: Wait + Clock + Drop, L: Ledger> Results<R, L> {
 
     // Whether what was made must not be handed in as it is, since there was a change.
     fn is_lost(&self, fetch: u32, made: &Made) -> bool {
-        made.wants_no_change() && self.node.proxy().mailbox.lock(&self.rt).is_lost(fetch)
+        made.wants_no_change() && self.proxy.mail().mailbox.lock(&self.rt).is_lost(fetch)
     }
 
     // Takes an attempt out of the mailbox, has the shelf know what it brought, and hands that in.
     fn deliver(&mut self, fetch: u32, attempt: u16, made: &mut Made) -> bool {
-        self.node.proxy().mailbox.lock(&self.rt).end(fetch);
+        self.proxy.mail().end(&self.rt, fetch);
         if let Some(key) = &made.key {
             self.settle(key, made);
         }
@@ -697,25 +672,26 @@ impl<R: Wait + Clock + Drop, L: Ledger> Results<R, L> {
             None => Outcome::Failed,
         };
         let supplier = made.delivery.supplier;
-        take(&self.rt, &mut self.node, fetch, attempt, supplier, outcome)
+        let now = self.proxy.now(&self.rt);
+        take(&mut self.node, fetch, attempt, supplier, outcome, now)
     }
 
     // Does beside handing in what a fetch of this key asks for.
     fn settle(&self, key: &CacheKey, made: &Made) {
-        let proxy = self.node.proxy();
+        let kept = self.proxy.kept();
         let brought = &made.delivery.brought;
         if made.is_unanswered
             && let Ok(key) = key.share()
         {
-            proxy.ask_no_more(&self.rt, key);
+            kept.ask_no_more(&self.rt, key);
         }
         if brought.is_changed
             && let Ok(key) = key.share()
         {
-            proxy.note_changed(&self.rt, key);
+            kept.note_changed(&self.rt, key);
         }
         match (brought.step, &brought.object) {
-            (ShelfStep::Remove, _) => proxy.unshelve(&self.rt, key),
+            (ShelfStep::Remove, _) => kept.unshelve(&self.rt, key),
             (ShelfStep::Follow, Some(object)) => self.follow(key, made.flight, object),
             (ShelfStep::Follow, None) | (ShelfStep::Stay, _) => {}
         }
@@ -729,7 +705,7 @@ impl<R: Wait + Clock + Drop, L: Ledger> Results<R, L> {
     }
 }
 
-impl<R: Wait + Clock + Drop, L: Ledger> Submit<Fetched> for Results<R, L> {
+impl<R: Wait + Clock + Drop, S: Shared, N: TakeEvents> Submit<Fetched> for Results<R, S, N> {
     fn opened(&mut self) {
         if let Some(to) = self.opened.take() {
             let _ = to.send(&self.rt, ());

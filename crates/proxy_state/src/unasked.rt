@@ -28,7 +28,7 @@ impl UnaskedKeys {
     }
 
     /// Notes a key. Of 1,024 others the one that was noted first is forgotten. Where memory is short, nothing is noted.
-    pub(crate) fn note(&mut self, key: CacheKey) {
+    pub fn note(&mut self, key: CacheKey) {
         drop(self.keys.put(key, ()));
         if self.keys.len() > MOST_KEYS {
             drop(self.keys.pop_lru());
@@ -36,12 +36,12 @@ impl UnaskedKeys {
     }
 
     /// Forgets a key, under which there is something else now.
-    pub(crate) fn forget(&mut self, key: &[u8]) {
+    pub fn forget(&mut self, key: &[u8]) {
         drop(self.keys.pop(KeyOctets { octets: key }));
     }
 
     /// Whether this key was noted.
-    pub(crate) fn has(&self, key: &[u8]) -> bool {
+    pub fn has(&self, key: &[u8]) -> bool {
         self.keys.peek(KeyOctets { octets: key }).is_some()
     }
 }

@@ -1,0 +1,16 @@
+//! Client requests on their way to the node, and what passes beside it: requests that are passed on, and tunnels.
+//!
+//! What is proved of the node holds by the contracts of the crates below. Tested by: tests/serve, tests/serve_freshness and
+//! tests/serve_passages, which run the built program over loopback.
+#![tactic(auto)]
+
+mod early;
+mod front;
+mod front_modes;
+mod front_passes;
+mod front_stale;
+mod handing;
+mod shapes;
+
+pub use front::{FrontRules, NodeFront, ServeFront};
+pub use handing::{Call, Handed, Returned, TakeCalls};

@@ -1,0 +1,12 @@
+//! Administration of a proxy: filters, figures, what is stored, and captures.
+//!
+//! What is proved of the node holds by the contracts of the crates below. Tested by: tests/serve and tests/serve_operator, which run the
+//! built program over loopback.
+#![tactic(auto)]
+
+mod overseen;
+mod overview;
+mod panel;
+
+pub use overseen::Overseen;
+pub use panel::{NodePanel, ServePanel};
