@@ -14,6 +14,7 @@ mod fetching;
 mod kept;
 mod moves;
 mod passing;
+mod reply;
 
 pub use budget::{Budget, Share};
 pub use fetching::{FetchLimits, FetchRules, MOST_PASSAGES, run_fetches};

@@ -5,9 +5,10 @@ ghost use Rattle.futures.specs.Poll.{OnPending};
 ghost use Rattle.futures.specs.Task.{Covers, Keeps};
 
 use crate::budget::Share;
-use crate::exchange::{Beside, Talk, head_fault};
+use crate::exchange::{Beside, Talk};
 use crate::fetching::{Dialer, Done, Visit, Visited, boxed, put};
 use crate::moves::{Moves, Noted, Patience};
+use crate::reply::head_fault;
 use bytes::Bytes;
 use futures::channel::{mpsc, oneshot};
 use futures::stream::Stream;
