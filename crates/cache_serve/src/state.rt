@@ -53,7 +53,7 @@ pub(crate) struct Logs {
     pub(crate) version: &'static str,
 }
 
-/// The parts of the shared state of a proxy beside its node and its end.
+/// The parts of the shared state of a proxy that its settings have a say in, beside its node.
 #[derive(Drop)]
 struct Around {
     timeline: Timeline,
@@ -213,7 +213,7 @@ fn state_of<L: Ledger>(desk: Desk<L>, around: Around, stopping: Stopping) -> Pro
     }
 }
 
-/// The parts around what is asked of other servers and what is passed on. `told` has where logs go; the proxy has `started`.
+/// The parts around what is asked of other servers and what is passed on. `told` has where logs go; `started` is when the proxy began.
 fn around_in(
     alloc: Global,
     settings: &mut Settings,

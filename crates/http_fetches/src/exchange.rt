@@ -55,7 +55,7 @@ impl<P: Drop> Drop for Paid<P> {
 }
 
 impl<P: Drop> Paid<P> {
-    /// A page with its share of the budget. `lasts` says whether its connection may carry another request once that is given back.
+    /// A page with its share of the budget. `lasts` says whether its connection may carry another request, now that the body has been read.
     pub fn of(page: Page, purse: P, lasts: bool) -> Paid<P> {
         Paid {
             page,

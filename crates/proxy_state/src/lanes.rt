@@ -24,7 +24,7 @@ impl Drop for Lanes {
 
 /// The ways to the threads that fetch.
 pub struct Fetchers {
-    // `None` before these threads start and after the end. Locked while an order is sent.
+    // `None` before these threads start and after `close`. Locked while an order is sent.
     lanes: Mutex<Option<Lanes>>,
 }
 
