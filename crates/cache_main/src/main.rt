@@ -2,25 +2,22 @@
 //! file, `replay` runs one over a capture, `explain` over one datagram, `serve` runs the proxy from a configuration file, or checks
 //! that file. What is asked about the program itself (`--help`, `help`, `--version`, `serve --check`) is told by `command_line`.
 //!
-//! This crate parses the arguments, calls the crates below it, and turns their results into lines and exit statuses. It has no
-//! functional contract of its own; `run_serve` only requires a ledger for as many threads as may submit events to the node.
+//! This crate parses the arguments and calls the crates below it: `feed_script`, `filter_replay` for the commands about captures, `commands`
+//! for what `check` and `serve` read and tell, and `cache_serve`. It has no functional contract of its own; `run_serve` only requires a
+//! ledger for as many threads as may submit events to the node.
 //! Tested by: its run by `rt ci` (args, stdin, stdout), cases/, tests/.
 #![tactic(auto)]
 
-mod check_command;
-mod configuration_command;
-mod ending;
 mod serve_command;
 mod standard_files;
 mod version;
 
-use cache_serve::SEATS;
-use check_command::run_check;
 use command_line::{Question, asked};
-use configuration_command::check_configuration;
+use commands::{NO_OUTPUT, check_configuration, run_check, settings_of};
 use feed_script::feed;
 use filter_replay::{run_explain, run_replay};
-use serve_command::{run_serve, settings_of};
+use proxy_site::SEATS;
+use serve_command::run_serve;
 use standard_files::take_closed;
 use std::env::Env;
 use std::marker::Brand;
@@ -28,9 +25,6 @@ use std::process::ExitCode;
 use std::sync::ledger::Blank;
 use std::{env, io};
 use version::VERSION;
-
-/// The message when standard output cannot be written.
-pub const NO_OUTPUT: &str = "standard output can't be written";
 
 /// The usage line of the commands about captures.
 const CAPTURE_USAGE: &str =

@@ -2,4 +2,4 @@
 
 /// The day of the newest entry of CHANGELOG.md, and the revision of the sources that this program was built from, as `tools/revision`
 /// sums them up.
-pub const VERSION: &str = "2026-11-26+172c49b01a8e";
+pub const VERSION: &str = "2026-11-26+dfa107804bee";

@@ -9,20 +9,13 @@
 //! Tested by: tests/serve, tests/serve_slow and tests/serve_hostile, which run the built program over loopback.
 #![tactic(auto)]
 
+mod config;
 mod descriptors;
-mod fault;
 mod limits;
 mod opening;
-mod passing;
 mod queries;
-mod shutdown;
-mod site;
-mod state;
+mod starting;
 mod tasks;
-mod writing;
 
-pub use fault::{Port, ServeFault};
-pub use limits::{ProxyLimits, SEATS};
-pub use passing::{MethodsFault, methods_fault};
-pub use shutdown::Finish;
-pub use site::{Addresses, Equipment, Site, start};
+pub use limits::ProxyLimits;
+pub use starting::start;

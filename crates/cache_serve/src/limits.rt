@@ -3,9 +3,6 @@ use client_streams::{ClientLimits, StreamTimeouts};
 use http_clients::ServeLimits;
 use std::time::Duration;
 
-/// Threads that fetch.
-pub const FETCHERS: usize = 4;
-
 /// Threads that look up names.
 pub const LOOK_UPS: usize = 4;
 
@@ -15,22 +12,8 @@ pub const FETCH_OCTETS: u32 = 268_435_456;
 /// How many octets of each body take nothing of the octets under way.
 pub const FREE_OCTETS: usize = 65_536;
 
-/// The most threads that serve clients.
-pub const MOST_CLIENT_THREADS: usize = 16;
-
 /// The most threads that serve clients, if the configuration does not say how many.
 pub const USUAL_CLIENT_THREADS: usize = 4;
-
-/// Threads that may have a seat at the node: those that fetch, as many as may serve clients, and one each for queries and
-/// administration. A seat that no thread has stays spare.
-pub const SEATS: u64 = FETCHERS as u64 + MOST_CLIENT_THREADS as u64 + 2;
-
-/// The most threads that are joined: all but those that look up names.
-pub const THREADS: usize = SEATS as usize;
-
-/// The capacity of the channel that asks the proxy to end. Each thread sends at most two such messages, one audit sends one, and the
-/// administration one, so that sending never waits and never allocates.
-pub const ENDS: usize = 2 * THREADS + 2;
 
 /// The most datagrams of other threads that the query thread sends before it receives again.
 pub const SENDS_A_TURN: u32 = 64;
@@ -52,9 +35,6 @@ const CLIENT_CONTENT: usize = 65_536;
 
 /// The most octets of the content of an administrator's request.
 const ADMINISTRATION_CONTENT: usize = 262_144;
-
-/// How many seconds the end waits for what the access log is written to, and then for what the notices are written to.
-pub const LOG_GRACE: u64 = 5;
 
 /// Limits on the sockets and fetches of a proxy.
 #[derive(Clone, Copy)]

@@ -1,51 +1,46 @@
-//! Starting the threads of a proxy.
-ghost use Rattle.std.specs.Prelude.{◌≡◌};
+//! A proxy whose threads are being started.
 
 mod clients;
 mod fetchers;
-mod orders;
 
-use crate::fault::{Port, ServeFault};
-use crate::limits::{ProxyLimits, SEATS};
-use crate::site::{Addresses, Equipment, Site, site_of};
-use crate::tasks::{
-    AdministrationTask, BoundQueries, Ending, QueryTask, Task, ThreadConfig, Work, no_memory,
-    run_task,
-};
-use crate::writing::Writing;
+use crate::config::ThreadConfig;
+use crate::starting::begin;
+use crate::tasks::{AdministrationTask, BoundQueries, QueryTask, Work};
 use clients::ClientKit;
-use crossbeam_channel::{Receiver, Sender, bounded, unbounded};
+use crossbeam_channel::{Receiver, Sender, unbounded};
 use filter_files::Filter;
 use filter_slots::End;
 use futures::channel::oneshot;
 use http_rules::SixEnd;
-use log_writer::{LogTask, run_log};
+use name_lookup::NameDesk;
 use node_core::Event;
-use orders::{InnerOrders, Keeping, Orders, ServerOrders, equipped, server_orders, thread_config};
 use proxy_front::FrontRules;
-use proxy_node::{AtDesk, NodeHandle, Outbox, Outgoing, ProxyState, ThreadSeat};
+use proxy_node::{AtDesk, NodeHandle, Outbox, Outgoing, ThreadSeat};
 use proxy_panel::Overseen;
+use proxy_setup::{Keeping, Orders, ServerOrders};
+use proxy_site::{Addresses, Ending, Port, ServeFault, Site, no_memory};
 use proxy_state::{Shared, TakeEvents, add_own, note_own_six};
-use serve_config::Settings;
 use std::alloc::{AllocGlobal, Global};
 use std::fs::Files;
 use std::io::{Eprint, ErrorKind, Print};
 use std::net::{IpAddr, Net, SocketAddr};
 use std::random::RandomSource;
 use std::sync::atomic::Ordering;
-use std::sync::ledger::{Blank, Ledger};
+use std::sync::ledger::Ledger;
 use std::sync::{Arc, Wait};
 use std::thread::{JoinHandle, Threads};
 use std::time::Clock;
-use std::{mem, thread};
+
+/// The handle of a thread that was started.
+pub(crate) type Begun<L> = Result<JoinHandle<Ending<L>>, ServeFault>;
 
 /// A proxy whose threads are being started. `S` is the state that they share.
 #[derive(Drop)]
 pub(crate) struct Opening<R, S, L: Ledger> {
     rt: R,
-    alloc: Global,
+    pub(crate) alloc: Global,
     config: ThreadConfig,
-    site: Site<S, L>,
+    pub(crate) site: Site<S, L>,
 }
 
 /// The addresses of the query sockets.
@@ -68,37 +63,6 @@ struct ServerEnd {
 struct ServerLine {
     heard: Receiver<SocketAddr, Global>,
     stop: oneshot::Sender<()>,
-}
-
-/// A proxy that has no thread yet, and what its threads are started with.
-pub(crate) fn prepared<R, L>(
-    rt: R,
-    blank: Blank,
-    mut settings: Settings,
-    equipment: Equipment<R::File>,
-    limits: ProxyLimits,
-) -> Result<(Opening<R, ProxyState<L>, L>, Orders<R::File>), ServeFault>
-where
-    R: Threads + Clock + RandomSource + AllocGlobal + Files + Drop,
-    L: Ledger,
-    requires name { blank.name ≡ L.name }
-    requires parts { blank.parts ≡ L.parts }
-    requires seats { blank.parts ≡ SEATS }
-{
-    let alloc = rt.alloc();
-    let config = thread_config(&rt, &settings, limits);
-    match server_orders(alloc, &mut settings, config.client_threads) {
-        Ok((servers, hurries)) => {
-            let (given, inner) = equipped(equipment, config.limits, hurries);
-            let site = site_of(&rt, alloc, blank, settings, given);
-            opening_of(rt, config, site, Orders { inner, servers })
-        }
-        Err(_) => {
-            drop(settings);
-            drop(equipment);
-            Err(ServeFault::NoMemory)
-        }
-    }
 }
 
 impl<R: Drop, S: AtDesk<L>, L: Ledger + Send + Sync + 'static> Opening<R, S, L> {
@@ -248,78 +212,27 @@ where
     R::File: Send + 'static,
     R::Dir: Send + 'static,
 {
-    /// Starts a thread.
-    fn begin(&mut self, work: Work<S, L>) -> Result<JoinHandle<Ending<L>>, ServeFault> {
-        let (rt, task) = (self.rt, Task { work });
-        let Ok(thread) = thread::spawn(&rt, move || run_task(rt, task)) else {
-            return Err(ServeFault::NoMemory);
+    /// Installs the filters, then starts the threads that fetch, and last those that have sockets of this proxy.
+    pub(crate) fn open(
+        &mut self,
+        filters: Vec<Filter>,
+        names: NameDesk,
+        servers: ServerOrders,
+    ) -> Result<(), ServeFault> {
+        let opened = match self.install(filters) {
+            Ok(()) => self.open_fetchers(names),
+            Err(fault) => {
+                drop(names);
+                Err(fault)
+            }
         };
-        Ok(thread)
-    }
-
-    /// Starts a thread and keeps its handle.
-    fn keep(&mut self, work: Work<S, L>) -> Result<(), ServeFault> {
-        let thread = self.begin(work)?;
-        self.site.keep(thread)
-    }
-
-    /// Starts a thread that writes a log, if there is one.
-    fn open_log(&self, log: Option<LogTask<R::File>>) -> Result<Option<Writing>, ServeFault> {
-        let Some(task) = log else {
-            return Ok(None);
-        };
-        let rt = self.rt;
-        let (end, written) = bounded(self.alloc, 1).map_err(no_memory)?;
-        let write = move || {
-            run_log(&rt, task);
-            let _ = end.send(&rt, ());
-        };
-        let Ok(thread) = thread::spawn(&rt, write) else {
-            return Err(ServeFault::NoMemory);
-        };
-        Ok(Some(Writing { thread, written }))
-    }
-
-    /// Starts the threads, the query sockets' before the clients', since these send queries.
-    pub(crate) fn open(&mut self, orders: Orders<R::File>) -> Result<(), ServeFault> {
-        let Orders { inner, servers } = orders;
-        match self.open_inner(inner) {
+        match opened {
             Ok(()) => self.open_servers(servers),
             Err(fault) => {
                 drop(servers);
                 Err(fault)
             }
         }
-    }
-
-    /// Starts the threads that have no socket of this proxy, and installs the filters.
-    fn open_inner(&mut self, inner: InnerOrders<R::File>) -> Result<(), ServeFault> {
-        let InnerOrders {
-            filters,
-            log,
-            notices,
-        } = inner;
-        self.open_logs(log, notices)?;
-        self.install(filters)?;
-        self.open_fetchers()
-    }
-
-    /// Starts the threads that write logs.
-    fn open_logs(
-        &mut self,
-        log: Option<LogTask<R::File>>,
-        notices: Option<LogTask<R::File>>,
-    ) -> Result<(), ServeFault> {
-        match self.open_log(log) {
-            Ok(writing) => drop(mem::replace(&mut self.site.writings.log, writing)),
-            Err(fault) => {
-                drop(notices);
-                return Err(fault);
-            }
-        }
-        let writing = self.open_log(notices)?;
-        drop(mem::replace(&mut self.site.writings.notices, writing));
-        Ok(())
     }
 
     /// Starts the threads that have sockets of this proxy, once the others are started.
@@ -336,6 +249,28 @@ where
                 Err(fault)
             }
         }
+    }
+
+    /// Starts the thread of the query sockets and those that serve clients, in this order, since clients have queries sent. Returns where
+    /// these sockets are bound.
+    fn open_front(
+        &mut self,
+        rules: FrontRules,
+        hurried: Vec<oneshot::Receiver<()>>,
+    ) -> Result<(QueryEnds, SocketAddr), ServeFault> {
+        let (outbox, queries) = match self.open_outbox() {
+            Ok(opened) => opened,
+            Err(fault) => {
+                drop(rules);
+                return Err(fault);
+            }
+        };
+        let kit = ClientKit::new(self.alloc, rules, outbox).map_err(no_memory)?;
+        let clients = self.open_clients(&kit, hurried)?;
+        drop(kit);
+        self.add_own(clients)?;
+        self.note_own_six(clients);
+        Ok((queries, clients))
     }
 
     /// Starts the thread that serves administration, and notes where all sockets are bound.
@@ -355,26 +290,33 @@ where
         });
         Ok(())
     }
+}
 
-    /// Starts the thread of the query sockets and those that serve clients. Returns where these sockets are bound.
-    fn open_front(
-        &mut self,
-        rules: FrontRules,
-        hurried: Vec<oneshot::Receiver<()>>,
-    ) -> Result<(QueryEnds, SocketAddr), ServeFault> {
-        let (outbox, queries) = match self.open_outbox() {
-            Ok(opened) => opened,
-            Err(fault) => {
-                drop(rules);
-                return Err(fault);
-            }
-        };
-        let kit = ClientKit::new(self.alloc, rules, outbox).map_err(no_memory)?;
-        let clients = self.open_clients(&kit, hurried)?;
-        drop(kit);
-        self.add_own(clients)?;
-        self.note_own_six(clients);
-        Ok((queries, clients))
+impl<R, S, L> Opening<R, S, L>
+where
+    L: Ledger + Send + Sync + 'static,
+    S: AtDesk<L> + Overseen + Send + Sync + 'static,
+    R: Threads
+        + Wait
+        + Net
+        + Clock
+        + RandomSource
+        + AllocGlobal
+        + Files
+        + Print
+        + Eprint
+        + Copy
+        + Send
+        + 'static,
+    R::Stream: Send + 'static,
+    R::Listener: Send + 'static,
+    R::File: Send + 'static,
+    R::Dir: Send + 'static,
+{
+    /// Starts a thread and keeps its handle.
+    fn keep(&mut self, work: Work<S, L>) -> Result<(), ServeFault> {
+        let thread = begin(self.rt, work)?;
+        self.site.keep(thread)
     }
 
     /// Starts the thread of the query sockets. Returns what takes datagrams for them, and where they are bound.
@@ -421,15 +363,15 @@ where
 }
 
 /// A proxy around the site that was made, and what its threads are started with.
-fn opening_of<R: AllocGlobal + Drop, S: Drop, L: Ledger, F: Drop>(
+pub(crate) fn opening_of<R: Drop, S: Drop, L: Ledger, F: Drop>(
     rt: R,
+    alloc: Global,
     config: ThreadConfig,
     site: Result<Site<S, L>, ServeFault>,
     orders: Orders<F>,
 ) -> Result<(Opening<R, S, L>, Orders<F>), ServeFault> {
     match site {
         Ok(site) => {
-            let alloc = rt.alloc();
             let opening = Opening {
                 rt,
                 alloc,

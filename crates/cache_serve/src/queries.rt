@@ -1,11 +1,11 @@
 //! The thread that owns the query sockets.
-use crate::fault::ServeFault;
 use crate::limits::SENDS_A_TURN;
 use crossbeam_channel::Receiver;
 use mio_queries::{MioWire, PumpFault, Wire, pump_with};
 use node_core::Out;
 use proxy_node::{AtDesk, MalformedWatch, NodeHandle, Outgoing};
 use proxy_panel::Overseen;
+use proxy_site::ServeFault;
 use proxy_state::{RETRIES, RETRY_MILLIS};
 use std::alloc::{AllocGlobal, Global};
 use std::net::Net;

@@ -1,7 +1,7 @@
 //! The main function of each thread of a proxy.
 ghost use Rattle.std.specs.Prelude.{◌<◌};
 
-use crate::fault::{Port, ServeFault};
+use crate::config::ThreadConfig;
 use crate::limits::{FREE_OCTETS, ProxyLimits};
 use crate::queries::carry;
 use client_streams::Stops;
@@ -13,33 +13,23 @@ use http_clients::{ClientSocket, ServeLimits, serve_admin, serve_clients};
 use http_fetches::{Budget, FetchLimits, FetchRules, run_fetches};
 use http_traffic::{FollowUp, Front, Job, Panel, PassOn};
 use mio_queries::{Bell, BindFault, MioWire, Timeline};
-use node_book::Seat;
 use plain_node::MAX_PENDING_FETCHES;
 use proxy_front::{FrontRules, NodeFront, ServeFront};
 use proxy_node::{AtDesk, NodeHandle, Outbox, Outgoing, ThreadSeat};
 use proxy_panel::{NodePanel, Overseen, ServePanel};
 use proxy_results::Results;
+use proxy_site::{Ending, Port, ServeFault, socket_fault};
 use proxy_state::{Origins, Purger, Shared};
 use serve_config::FilterFile;
 use std::alloc::{AllocError, AllocGlobal, Global};
 use std::fs::Files;
 use std::io;
-use std::io::ErrorKind;
-use std::net::{Ipv6Addr, Net, SocketAddr};
+use std::net::{Net, SocketAddr};
 use std::random::RandomSource;
 use std::sync::atomic::{AtomicBool, AtomicUsize};
 use std::sync::ledger::Ledger;
 use std::sync::{Arc, Mutex, RwLock, Wait};
 use std::time::Clock;
-
-/// How a thread ended.
-#[derive(Drop)]
-pub struct Ending<L: Ledger> {
-    /// The thread's seat. `None` if it had none or could not take it back.
-    pub seat: Option<Seat<L>>,
-    /// Why it ended, if that is an error.
-    pub fault: Option<ServeFault>,
-}
 
 /// What the query thread reports once its sockets are bound: the handle that wakes it, and the addresses.
 #[derive(Drop)]
@@ -49,33 +39,23 @@ pub struct BoundQueries {
     pub htcp: End,
 }
 
-/// What the threads of a proxy need of the configuration.
-#[derive(Clone, Copy)]
-pub struct ThreadConfig {
-    pub icp: End,
-    pub htcp: End,
-    pub clients: SocketAddr,
-    /// The address of IPv6 at which clients are served too, at the same port, if there is one.
-    pub six: Option<Ipv6Addr>,
-    /// How many threads serve clients: 1 to 16.
-    pub client_threads: usize,
-    pub admin_port: u16,
-    pub body_limit: usize,
-    pub fetch_octets: usize,
-    pub streams: u32,
-    pub stop_after: u64,
-    pub limits: ProxyLimits,
-}
-
-/// An allocation failure as a fault of the proxy.
-pub fn no_memory(_: AllocError) -> ServeFault {
-    ServeFault::NoMemory
-}
-
 /// The work of one thread. `S` is the state that all threads share. Its field is private to the crate, so only `start` makes tasks.
-#[derive(Drop)]
 pub struct Task<S, L: Ledger> {
     pub(crate) work: Work<S, L>,
+}
+
+// Written by hand, so that what lets it go is one call for the prover (docs/GATE.md).
+impl<S: Drop, L: Ledger> Drop for Task<S, L> {
+    fn drop(self) {
+        let Self { work: _ } = self;
+    }
+}
+
+impl<S: Drop, L: Ledger> Task<S, L> {
+    fn into_work(self) -> Work<S, L> {
+        let Self { work } = self;
+        work
+    }
 }
 
 /// The kinds of threads.
@@ -171,7 +151,7 @@ where
     S: AtDesk<L> + Overseen,
     L: Ledger,
 {
-    match task.work {
+    match task.into_work() {
         Work::Queries(queries) => answer_queries(rt, queries),
         Work::Clients(clients) => answer_clients(rt, clients),
         Work::Administration(administration) => administer(rt, administration),
@@ -544,14 +524,6 @@ where
     Ending {
         seat: Arc::into_inner(kept).map(|node| node.into_inner().into_seat()),
         fault: ran.err().map(|error| socket_fault(port, &error)),
-    }
-}
-
-/// A failure of a server or its socket as a fault of the proxy.
-pub fn socket_fault(port: Port, error: &io::Error) -> ServeFault {
-    match error.kind() {
-        ErrorKind::OutOfMemory => ServeFault::NoMemory,
-        kind => ServeFault::Bind(port, kind),
     }
 }
 

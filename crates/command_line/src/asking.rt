@@ -4,8 +4,8 @@ ghost use Rattle.std.specs.List.{list_any};
 ghost use Rattle.command_line.specs.Asking.{is_asking_word};
 
 use crate::commands::program;
-use clap::ArgMatches;
 use clap::error::ErrorKind;
+use clap::{ArgMatches, Error};
 use std::alloc::{AllocError, Global};
 
 /// What an argument list may ask for.
@@ -32,12 +32,39 @@ pub fn asked<'a>(
         return Ok(None);
     }
     let mut command = program(alloc, version)?;
-    match command.try_get_matches_from_mut(words) {
-        Ok(matches) => Ok(configuration_of(&matches).map(Question::Configuration)),
-        Err(error) if error.kind() == ErrorKind::OutOfMemory => Err(AllocError),
-        Err(error) if error.use_stderr() => Ok(None),
-        Err(error) => Ok(Some(Question::Text(format!(in alloc; "{error}")?))),
+    let found = command.try_get_matches_from_mut(words);
+    drop(command);
+    question_of(alloc, found)
+}
+
+// What a command line asks for that was taken apart so. Errors: out of memory.
+fn question_of<'a>(
+    alloc: Global,
+    found: Result<ArgMatches<'a>, Error>,
+) -> Result<Option<Question<'a>>, AllocError> {
+    match found {
+        Ok(matches) => {
+            let configuration = configuration_of(&matches);
+            drop(matches);
+            Ok(configuration.map(Question::Configuration))
+        }
+        Err(error) => {
+            let told = told_by(alloc, &error);
+            drop(error);
+            told
+        }
     }
+}
+
+// What a command line asks for that was not taken apart, since it asks for a help text or the version, or is none. Errors: out of memory.
+fn told_by<'a>(alloc: Global, error: &Error) -> Result<Option<Question<'a>>, AllocError> {
+    if error.kind() == ErrorKind::OutOfMemory {
+        return Err(AllocError);
+    }
+    if error.use_stderr() {
+        return Ok(None);
+    }
+    Ok(Some(Question::Text(format!(in alloc; "{error}")?)))
 }
 
 // Whether one of the words after the program's name is one that this crate answers to.

@@ -14,21 +14,29 @@ const STATUSES: &str = "\
 Statuses: 0; 1 after a fault, with its line; 2 for words that are none of these; 3 where replay was told to fail.
 The manual is wabretos(1); docs/OPERATING.md and docs/REPLAY.md have all of it.";
 
+// A command on its way, or that there was no memory for it. Its parts are added by calls that take it so, which leaves the functions that
+// add several without a way out that would let it go (docs/GATE.md).
+type Made<'a> = Result<Command<'a>, AllocError>;
+
 /// The program with all its commands, of this version.
-pub(crate) fn program<'a>(alloc: Global, version: &'a str) -> Result<Command<'a>, AllocError> {
-    Command::new(alloc, "cache_main")
-        .bin_name("cache_main")?
+pub(crate) fn program<'a>(alloc: Global, version: &'a str) -> Made<'a> {
+    let program = with_command(named(alloc, version), Ok(feed(alloc)));
+    let program = with_command(program, check(alloc));
+    let program = with_command(program, serve(alloc));
+    let program = with_command(program, replay(alloc));
+    with_command(program, explain(alloc))
+}
+
+// The program without its commands.
+fn named<'a>(alloc: Global, version: &'a str) -> Made<'a> {
+    let command = Command::new(alloc, "cache_main")
         .version(version)
         .about(
             "Wabretos, a caching HTTP/1.1 proxy that asks its neighbours by ICP and HTCP, through filters",
         )
         .after_help(STATUSES)
-        .subcommand_required(true)
-        .subcommand(feed(alloc))?
-        .subcommand(check(alloc)?)?
-        .subcommand(serve(alloc)?)?
-        .subcommand(replay(alloc)?)?
-        .subcommand(explain(alloc)?)
+        .subcommand_required(true);
+    command.bin_name("cache_main")
 }
 
 fn feed<'a>(alloc: Global) -> Command<'a> {
@@ -37,7 +45,7 @@ fn feed<'a>(alloc: Global) -> Command<'a> {
     )
 }
 
-fn check<'a>(alloc: Global) -> Result<Command<'a>, AllocError> {
+fn check<'a>(alloc: Global) -> Made<'a> {
     Command::new(alloc, "check")
         .about("Prints the filter program in a file, or the line of its fault")
         .arg(word(
@@ -47,33 +55,71 @@ fn check<'a>(alloc: Global) -> Result<Command<'a>, AllocError> {
         ))
 }
 
-fn serve<'a>(alloc: Global) -> Result<Command<'a>, AllocError> {
-    Command::new(alloc, "serve")
+fn serve<'a>(alloc: Global) -> Made<'a> {
+    let command = Command::new(alloc, "serve")
         .about("Runs the proxy, or checks its configuration")
-        .arg(word(alloc, "config.json", "The configuration, one JSON object"))?
-        .arg(SERVE.arg(alloc))
+        .arg(word(alloc, "config.json", "The configuration, one JSON object"));
+    with_argument(command, SERVE.arg(alloc))
 }
 
-fn replay<'a>(alloc: Global) -> Result<Command<'a>, AllocError> {
+fn replay<'a>(alloc: Global) -> Made<'a> {
     let command = Command::new(alloc, "replay")
         .about("Runs a filter, or a whole node, over a capture")
         .override_usage(REPLAY_USAGE)
-        .arg(word(alloc, "filter", "The filter that judges the datagrams"))?
-        .arg(word(alloc, "capture", "A capture, pcap or pcapng"))?;
-    let command = with_flags(alloc, command, &SHARED, "Options of both")?;
-    let command = with_flags(alloc, command, &FILTER, "Options of a filter")?;
+        .arg(word(alloc, "filter", "The filter that judges the datagrams"));
+    let command = with_argument(command, word(alloc, "capture", "A capture, pcap or pcapng"));
+    with_node_flags(
+        alloc,
+        with_filter_flags(alloc, with_shared_flags(alloc, command)),
+    )
+}
+
+// The options of `replay` are added in three functions, as each lays out its own table.
+fn with_shared_flags<'a>(alloc: Global, command: Made<'a>) -> Made<'a> {
+    with_flags(alloc, command, &SHARED, "Options of both")
+}
+
+fn with_filter_flags<'a>(alloc: Global, command: Made<'a>) -> Made<'a> {
+    with_flags(alloc, command, &FILTER, "Options of a filter")
+}
+
+fn with_node_flags<'a>(alloc: Global, command: Made<'a>) -> Made<'a> {
     with_flags(alloc, command, &NODE, "Options of a node")
 }
 
-fn explain<'a>(alloc: Global) -> Result<Command<'a>, AllocError> {
-    Command::new(alloc, "explain")
+fn explain<'a>(alloc: Global) -> Made<'a> {
+    let command = Command::new(alloc, "explain")
         .about("Prints the run of a filter on one datagram, step by step")
-        .arg(word(alloc, "filter", "The filter that judges the datagram"))?
-        .arg(word(
-            alloc,
-            "datagram",
-            "Its packet in hexadecimal, or a capture and a record's number: FILE:NUMBER",
-        ))
+        .arg(word(alloc, "filter", "The filter that judges the datagram"));
+    let datagram = word(
+        alloc,
+        "datagram",
+        "Its packet in hexadecimal, or a capture and a record's number: FILE:NUMBER",
+    );
+    with_argument(command, datagram)
+}
+
+// Adds a command to the program.
+fn with_command<'a>(program: Made<'a>, command: Made<'a>) -> Made<'a> {
+    match (program, command) {
+        (Ok(program), Ok(command)) => program.subcommand(command),
+        (program, command) => {
+            drop(program);
+            drop(command);
+            Err(AllocError)
+        }
+    }
+}
+
+// Adds an argument to a command.
+fn with_argument<'a>(command: Made<'a>, argument: Arg<'a>) -> Made<'a> {
+    match command {
+        Ok(command) => command.arg(argument),
+        Err(fault) => {
+            drop(argument);
+            Err(fault)
+        }
+    }
 }
 
 // A word that has to stand in its place.
@@ -82,15 +128,10 @@ fn word<'a>(alloc: Global, name: &'a str, help: &'a str) -> Arg<'a> {
 }
 
 // Adds options under a heading to a command.
-fn with_flags<'a>(
-    alloc: Global,
-    command: Command<'a>,
-    flags: &[Flag],
-    heading: &'a str,
-) -> Result<Command<'a>, AllocError> {
+fn with_flags<'a>(alloc: Global, command: Made<'a>, flags: &[Flag], heading: &'a str) -> Made<'a> {
     let mut command = command;
     for flag in flags {
-        command = command.arg(flag.arg(alloc).help_heading(heading))?;
+        command = with_argument(command, flag.arg(alloc).help_heading(heading));
     }
-    Ok(command)
+    command
 }

@@ -3,7 +3,7 @@ use Rattle.std.proofs.Common.{◌≡◌, true, is_some, unwrap_or, Option, Some,
 use Rattle.neighbours.specs.declared.key.Key.{Key}
 use Rattle.neighbours.specs.declared.neighbour.Neighbour.{Neighbour}
 use Rattle.plain_node.specs.declared.config.Config.{Config}
-use Rattle.plain_node.specs.declared.config.Network.{Network}
+use Rattle.node_terms.specs.declared.network.Network.{Network}
 use Rattle.plain_node.specs.declared.config.NodeFault.{NodeFault}
 use Rattle.plain_node.specs.declared.config.NodeFault.TheVariants.{Table, Limits, NoMemory}
 use Rattle.neighbours.specs.declared.fault.ConfigFault.{ConfigFault}

@@ -18,11 +18,21 @@ pub(crate) enum Stop {
 }
 
 /// The phase of the script, the incomplete current line, and the number of lines before it.
-#[derive(Drop)]
 pub(crate) struct Engine {
     phase: Phase,
     line: Vec<u8>,
     number: u64,
+}
+
+// Written by hand, so that what lets it go is one call for the prover (docs/GATE.md).
+impl Drop for Engine {
+    fn drop(self) {
+        let Self {
+            phase: _,
+            line: _,
+            number: _,
+        } = self;
+    }
 }
 
 // The line without a carriage return at its end; only one is removed.

@@ -62,11 +62,20 @@ impl Known {
 /// The keys of targets, of which up to 8,192 with at most 512 octets each are remembered, since to parse a URL takes much longer
 /// than to compare it. Only targets are remembered that are written as their keys are; one takes the place of another where
 /// both have the same place.
-#[derive(Drop)]
 pub struct KnownKeys {
     alloc: Global,
     // Empty until a key is remembered.
     places: Vec<Option<Known>>,
+}
+
+// Written by hand, so that what lets it go is one call for the prover (docs/GATE.md).
+impl Drop for KnownKeys {
+    fn drop(self) {
+        let Self {
+            alloc: _,
+            places: _,
+        } = self;
+    }
 }
 
 impl KnownKeys {

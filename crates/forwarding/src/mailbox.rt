@@ -86,7 +86,6 @@ impl Fetching {
 }
 
 /// Waiting clients by client number, and in-flight fetches by fetch number.
-#[derive(Drop)]
 pub struct Mailbox {
     clients: BTreeMap<u64, Waiting>,
     fetches: BTreeMap<u32, Fetching>,
@@ -94,6 +93,18 @@ pub struct Mailbox {
     looped: BTreeMap<Vec<u8>, BTreeSet<u64>>,
     // Clients that may have the answer of the shared fetch which they began while it is collected, by key.
     leaders: BTreeMap<Vec<u8>, u64>,
+}
+
+// Written by hand, so that what lets it go is one call for the prover (docs/GATE.md).
+impl Drop for Mailbox {
+    fn drop(self) {
+        let Self {
+            clients: _,
+            fetches: _,
+            looped: _,
+            leaders: _,
+        } = self;
+    }
 }
 
 impl Mailbox {

@@ -8,9 +8,12 @@
 
 mod account;
 mod administration;
+mod cache_status;
+mod connection;
 mod door;
 mod reply;
 mod requests;
+mod responses;
 mod server;
 mod serving;
 mod texts;

@@ -4,18 +4,12 @@ ghost use Rattle.futures.specs.Task.{Covers, Keeps};
 
 use crate::account::Telling;
 use crate::requests::Answers;
-use bytes::{Bytes, BytesMut};
+use bytes::BytesMut;
 use client_streams::Patience;
 use futures::channel::oneshot;
 use futures::task::{Context, Poll};
 use futures::{Future, ready};
-use http_body::Body;
 use http_traffic::{Addresses, Server, Ticket, TunnelEnd};
-use hyper::body::Incoming;
-use hyper::rt::Timer;
-use hyper::server::conn::http1::{Connection, Parts};
-use hyper::service::Service;
-use hyper::{Request, Response};
 use paced_stream::Paced;
 use std::alloc::{AllocError, Global};
 use std::io::ErrorKind;
@@ -717,26 +711,4 @@ pub(crate) trait HandOver: Drop {
 
     /// The socket, and what was read from it and not used.
     fn hand_over(self) -> (Self::Socket, BytesMut);
-}
-
-impl<I, S, B, T> HandOver for Connection<I, S, B, T>
-where
-    I: AsyncRead + AsyncWrite,
-    S: Service<Request<Incoming<I>>, Response = Response<B>>,
-    S::Error: Into<anyhow::Error>,
-    B: Body,
-    B::Data: Into<Bytes>,
-    B::Error: Into<anyhow::Error>,
-    T: Timer,
-{
-    type Socket = I;
-
-    fn hand_over(self) -> (I, BytesMut) {
-        let Parts {
-            io,
-            read_buf,
-            service: _,
-        } = self.into_parts();
-        (io, read_buf)
-    }
 }

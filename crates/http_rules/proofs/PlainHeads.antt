@@ -3,8 +3,8 @@ use Rattle.std.proofs.Common.{◌≡◌, ℕ, List, [], ◌∷◌, codes, map, f
 use Rattle.std.specs.Prelude.{Result, Ok, Err}
 use Rattle.std.specs.List.{list_any, list_all}
 use Rattle.httpdate.specs.Date.{parse_secs}
-use Rattle.plain_node.specs.declared.event.Mode.{Mode}
-use Rattle.plain_node.specs.declared.event.Mode.TheVariants.{Shared, Cached, Private}
+use Rattle.node_terms.specs.declared.mode.Mode.{Mode}
+use Rattle.node_terms.specs.declared.mode.Mode.TheVariants.{Shared, Cached, Private}
 use Rattle.http_rules.specs.declared.conditions.StoredAnswer.{StoredAnswer}
 use Rattle.http_rules.specs.declared.conditions.StoredAnswer.TheVariants.{Whole, NotModified}
 use Rattle.http_rules.specs.Fields.{Field, values_of, has_field}

@@ -1,7 +1,7 @@
 -- How a request is answered in the profile rfc9111, from what it says and from what is stored under its URL.
 use Rattle.std.specs.Prelude.{ℕ, List, codes, bytes_eq, not, ◌&&◌, ◌||◌, Bool, false, Option, Some, None, is_some, option_and_then, Result, Ok, Err, if◌then◌else◌}
-use Rattle.plain_node.specs.declared.event.Mode.{Mode}
-use Rattle.plain_node.specs.declared.event.Mode.TheVariants.{Shared, Cached, Private}
+use Rattle.node_terms.specs.declared.mode.Mode.{Mode}
+use Rattle.node_terms.specs.declared.mode.Mode.TheVariants.{Shared, Cached, Private}
 use Rattle.http_rules.specs.declared.choice.Stored.{Stored}
 use Rattle.http_rules.specs.Fields.{Field, has_field}
 use Rattle.http_rules.specs.Directives.{asks}

@@ -2,8 +2,8 @@
 use Rattle.std.specs.Prelude.{ℕ, List, [], ◌∷◌, bytes_eq, not, ◌==◌, ◌&&◌, ◌||◌, Bool, true, Vec, Option, Some, None, if◌then◌else◌}
 use Rattle.std.specs.List.{list_any}
 use Rattle.bpf_run.specs.declared.ends.End.{End}
-use Rattle.plain_node.specs.declared.config.Network.{Network}
-use Rattle.plain_node.specs.Settings.{is_inside}
+use Rattle.node_terms.specs.declared.network.Network.{Network}
+use Rattle.node_terms.specs.Networks.{is_inside}
 use Rattle.http_rules.specs.declared.origins.OriginRules.{OriginRules}
 
 -- the address that a connection to an address reaches: Linux takes 0.0.0.0 for 127.0.0.1

@@ -1,7 +1,7 @@
 -- How a request may be answered, from its method and header fields.
 use Rattle.std.specs.Prelude.{ℕ, List, codes, bytes_eq, not, ◌&&◌, ◌||◌, Bool, Result, Ok, Err, if◌then◌else◌}
-use Rattle.plain_node.specs.declared.event.Mode.{Mode}
-use Rattle.plain_node.specs.declared.event.Mode.TheVariants.{Shared, Cached, Private}
+use Rattle.node_terms.specs.declared.mode.Mode.{Mode}
+use Rattle.node_terms.specs.declared.mode.Mode.TheVariants.{Shared, Cached, Private}
 use Rattle.http_rules.specs.Fields.{Field, has_field}
 use Rattle.http_rules.specs.Directives.{asks, has_unclosed}
 

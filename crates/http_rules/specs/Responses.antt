@@ -1,7 +1,7 @@
 -- How long a response may be stored, from the mode of its request, its status and its header fields as received.
 use Rattle.std.specs.Prelude.{ℕ, ◌-◌, List, codes, nat_lt, ◌==◌, not, ◌&&◌, ◌||◌, Bool, Option, Some, None, unwrap_or, option_and_then, if◌then◌else◌}
-use Rattle.plain_node.specs.declared.event.Mode.{Mode}
-use Rattle.plain_node.specs.declared.event.Mode.TheVariants.{Shared, Cached, Private}
+use Rattle.node_terms.specs.declared.mode.Mode.{Mode}
+use Rattle.node_terms.specs.declared.mode.Mode.TheVariants.{Shared, Cached, Private}
 use Rattle.http_rules.specs.Fields.{Field, first_value, has_field}
 use Rattle.http_rules.specs.Directives.{argument, argument_seconds, asks, has_unclosed}
 use Rattle.http_rules.specs.Text.{seconds}

@@ -12,7 +12,7 @@ use crate::request::may_ask_no_cache;
 use crate::reuse::{accepts, asks_by_pragma};
 use crate::validators::only_value;
 use http_header::HeaderMap;
-use node_core::Mode;
+use node_terms::Mode;
 
 /// What is stored under a URL and fresh, in seconds.
 #[derive(Clone, Copy, Debug, PartialEq, Eq)]

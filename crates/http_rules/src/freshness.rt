@@ -13,7 +13,7 @@ use crate::refresh::{RefreshRule, first_rule};
 use crate::seconds::MOST_SECONDS;
 use crate::text::is_name;
 use http_header::HeaderMap;
-use node_core::Mode;
+use node_terms::Mode;
 
 /// How a response is kept.
 #[derive(Clone, Copy, Debug, PartialEq, Eq)]

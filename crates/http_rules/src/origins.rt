@@ -5,7 +5,7 @@ ghost use Rattle.http_rules.specs.Origins.{admits, is_own, is_denied, is_port, r
 
 use crate::origins_six::{SixEnd, SixNetwork};
 use filter_slots::End;
-use node_core::Network;
+use node_terms::Network;
 use std::alloc::{AllocError, Global};
 
 /// This host.

@@ -1,7 +1,7 @@
 //! Requests without any field that decides how they are answered.
 ghost use Rattle.std.specs.Prelude.{◌≡◌, ℕ, List, None, Ok, IsTrue, false, codes};
 ghost use Rattle.std.specs.List.{list_any};
-ghost use Rattle.plain_node.specs.declared.event.Mode.TheVariants as mode;
+ghost use Rattle.node_terms.specs.declared.mode.Mode.TheVariants as mode;
 ghost use Rattle.http_rules.specs.declared.conditions.StoredAnswer.TheVariants as answer;
 ghost use Rattle.http_rules.specs.Fields.{Field, fields_of};
 ghost use Rattle.http_rules.specs.Requests.{mode_of};

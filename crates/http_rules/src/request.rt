@@ -7,7 +7,7 @@ ghost use Rattle.http_rules.specs.Requests.{mode_of, is_private};
 use crate::directives::Directives;
 use crate::fields::has_field;
 use http_header::HeaderMap;
-use node_core::Mode;
+use node_terms::Mode;
 
 /// How a request may be answered, from its method and header fields.
 ///

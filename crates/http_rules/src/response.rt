@@ -8,7 +8,7 @@ use crate::age_of;
 use crate::directives::Directives;
 use crate::fields::has_field;
 use http_header::HeaderMap;
-use node_core::Mode;
+use node_terms::Mode;
 
 /// The remaining freshness lifetime, in seconds, with which a response may be stored; `None` if it must not be stored. Only
 /// responses with status 200 to shared requests may be, and none that is already stale. `head` holds the fields as received.

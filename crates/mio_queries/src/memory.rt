@@ -12,7 +12,6 @@ use std::alloc::Global;
 use std::sync::Arc;
 
 /// An in-memory wire: it receives the given results, then fails, and it records what it sends.
-#[derive(Drop)]
 pub struct MemoryWire {
     alloc: Global,
     answers: Vec<Result<Received, WireFault>>,
@@ -21,6 +20,21 @@ pub struct MemoryWire {
     tried: usize,
     sent: Vec<Sending>,
     faults: u64,
+}
+
+// Written by hand, so that what lets it go is one call for the prover (docs/GATE.md).
+impl Drop for MemoryWire {
+    fn drop(self) {
+        let Self {
+            alloc: _,
+            answers: _,
+            taken: _,
+            failing: _,
+            tried: _,
+            sent: _,
+            faults: _,
+        } = self;
+    }
 }
 
 impl MemoryWire {

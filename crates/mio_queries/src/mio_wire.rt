@@ -19,10 +19,19 @@ use std::time::Clock;
 /// `receive` alternates between the sockets and waits at most 100 milliseconds if both would block. It returns `Idle` at least
 /// once in 100 milliseconds, however many datagrams are waiting, and when its bell rings. A send that
 /// would block fails. Times are those of its timeline.
-#[derive(Drop)]
 pub struct MioWire<R> {
     sockets: Sockets<R>,
     faults: u64,
+}
+
+// Written by hand, so that what lets it go is one call for the prover (docs/GATE.md).
+impl<R: Drop> Drop for MioWire<R> {
+    fn drop(self) {
+        let Self {
+            sockets: _,
+            faults: _,
+        } = self;
+    }
 }
 
 impl<R: Net + Clock + AllocGlobal + Drop> MioWire<R> {

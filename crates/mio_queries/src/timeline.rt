@@ -11,10 +11,16 @@ use std::time::{Clock, Duration, SystemTime};
 /// Moments in milliseconds since 1970, by the monotonic clock: they go on where the system's clock is set back. How far they are
 /// ahead of the monotonic clock is taken from the system's clock at the start, and taken again where that clock was set forward.
 /// All handles to a timeline have the same moments.
-#[derive(Drop)]
 pub struct Timeline {
     // Milliseconds; it never shrinks.
     ahead: Arc<AtomicU64>,
+}
+
+// Written by hand, so that what lets it go is one call for the prover (docs/GATE.md).
+impl Drop for Timeline {
+    fn drop(self) {
+        let Self { ahead: _ } = self;
+    }
 }
 
 impl Timeline {

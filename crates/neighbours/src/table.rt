@@ -25,11 +25,22 @@ pub struct Mark {
 }
 
 /// The neighbours in configuration order, and the signing keys. A neighbour is identified by its index. Contracts see `Rows`.
-#[derive(Debug, Drop)]
+#[derive(Debug)]
 pub struct Table {
     neighbours: Vec<Neighbour>,
     keys: Vec<Key>,
     marks: Vec<Mark>,
+}
+
+// Written by hand, so that what lets it go is one call for the prover (docs/GATE.md).
+impl Drop for Table {
+    fn drop(self) {
+        let Self {
+            neighbours: _,
+            keys: _,
+            marks: _,
+        } = self;
+    }
 }
 
 impl Model for Table {

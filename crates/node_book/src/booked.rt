@@ -77,14 +77,19 @@ pub struct Entry {
 }
 
 /// The entries of a finished volume. Dropping them may take long, so drop this where no lock is held.
-#[derive(Drop)]
 pub struct Volume {
     _kept: Vec<Entry>,
 }
 
+// Written by hand, so that what lets it go is one call for the prover (docs/GATE.md).
+impl Drop for Volume {
+    fn drop(self) {
+        let Self { _kept: _ } = self;
+    }
+}
+
 /// A node and its book. Contracts see the book, which is always legal: replaying its entries from the opening state of the volume
 /// gives the node's present state and every tally.
-#[derive(Drop)]
 pub struct Booked {
     first: Image,
     opening: Image,
@@ -95,6 +100,22 @@ pub struct Booked {
     base: u64,
     volume: usize,
     most_octets: u32,
+}
+
+// Written by hand, so that what lets it go is one call for the prover (docs/GATE.md).
+impl Drop for Booked {
+    fn drop(self) {
+        let Self {
+            first: _,
+            opening: _,
+            present: _,
+            kept: _,
+            octets: _,
+            base: _,
+            volume: _,
+            most_octets: _,
+        } = self;
+    }
 }
 
 impl Model for Booked {

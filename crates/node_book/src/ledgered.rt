@@ -63,12 +63,23 @@ impl Spent {
 
 /// A book whose count is the total of a ledger of shares, one share for each seat. Contracts see the book, the total and the
 /// number of seats.
-#[derive(Drop)]
 pub struct Ledgered<L: Ledger> {
     booked: Booked,
     total: Book<L>,
     spare: Share<L>,
     seats: u64,
+}
+
+// Written by hand, so that what lets it go is one call for the prover (docs/GATE.md).
+impl<L: Ledger> Drop for Ledgered<L> {
+    fn drop(self) {
+        let Self {
+            booked: _,
+            total: _,
+            spare: _,
+            seats: _,
+        } = self;
+    }
 }
 
 impl<L: Ledger> Model for Ledgered<L> {

@@ -12,11 +12,21 @@ use std::marker::Model;
 use std::sync::Arc;
 
 /// A clerk that owns its node, with the number of the next event and all actions passed on. Contracts see a record of these.
-#[derive(Drop)]
 pub struct Lone {
     node: Node,
     next: u64,
     passed: Vec<Action>,
+}
+
+// Written by hand, so that what lets it go is one call for the prover (docs/GATE.md).
+impl Drop for Lone {
+    fn drop(self) {
+        let Self {
+            node: _,
+            next: _,
+            passed: _,
+        } = self;
+    }
 }
 
 impl Model for Lone {

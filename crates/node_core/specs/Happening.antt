@@ -7,7 +7,7 @@ use Rattle.filter_slots.specs.Datagram.{DatagramFields}
 use Rattle.filter_slots.specs.declared.slot.Slot.{Slot}
 use Rattle.node_core.specs.declared.event.Event.{Event}
 use Rattle.node_core.specs.declared.event.Event.TheVariants as event
-use Rattle.plain_node.specs.declared.event.Mode.{Mode}
+use Rattle.node_terms.specs.declared.mode.Mode.{Mode}
 use Rattle.plain_node.specs.declared.event.Outcome.{Outcome}
 
 -- a datagram arrives; a client requests a key; the clock reaches a time; a fetch attempt ends; a client disconnects; or a slot's

@@ -32,11 +32,21 @@ use std::marker::Model;
 use std::sync::Arc;
 
 /// A node with its filters and counters. Contracts see a record of the plain node, the programs and the counters.
-#[derive(Drop)]
 pub struct Node {
     core: Core,
     slots: Slots,
     stats: Stats,
+}
+
+// Written by hand, so that what lets it go is one call for the prover (docs/GATE.md).
+impl Drop for Node {
+    fn drop(self) {
+        let Self {
+            core: _,
+            slots: _,
+            stats: _,
+        } = self;
+    }
 }
 
 impl Model for Node {

@@ -34,7 +34,6 @@ use std::marker::Model;
 
 /// The pending fetches in the order of opening: at most 256, with at most 1,024 waiting clients in all. Private indexes hold
 /// the numbers by position, by key and by client, and a queue holds the undecided rounds.
-#[derive(Drop)]
 pub struct Pending {
     last: u32,
     order: Order,
@@ -44,6 +43,21 @@ pub struct Pending {
     hashes: KeyHashes,
     clients: WaitingClients,
     undecided: VecDeque<Undecided>,
+}
+
+// Written by hand, so that what lets it go is one call for the prover (docs/GATE.md).
+impl Drop for Pending {
+    fn drop(self) {
+        let Self {
+            last: _,
+            order: _,
+            slots: _,
+            keys: _,
+            hashes: _,
+            clients: _,
+            undecided: _,
+        } = self;
+    }
 }
 
 impl Model for Pending {

@@ -13,8 +13,8 @@ use Rattle.pending_fetch.specs.Fetches.{PendingFetch, waits, shared_number}
 use Rattle.pending_fetch.specs.Calls.{is_full}
 use Rattle.plain_node.specs.declared.action.Action.{Action}
 use Rattle.plain_node.specs.declared.action.Action.TheVariants.{Send, Fetch, Serve}
-use Rattle.plain_node.specs.declared.event.Mode.{Mode}
-use Rattle.plain_node.specs.declared.event.Mode.TheVariants.{Shared, Cached, Private}
+use Rattle.node_terms.specs.declared.mode.Mode.{Mode}
+use Rattle.node_terms.specs.declared.mode.Mode.TheVariants.{Shared, Cached, Private}
 use Rattle.plain_node.specs.declared.event.Outcome.{Outcome}
 use Rattle.plain_node.specs.declared.event.Outcome.TheVariants.{Object, Failed}
 use Rattle.plain_node.specs.PlainNode.{PlainNode}

@@ -14,8 +14,8 @@ use Rattle.pending_fetch.specs.Calls.{is_crowded, is_full}
 use Rattle.plain_node.specs.declared.action.Action.{Action}
 use Rattle.plain_node.specs.declared.action.Action.TheVariants.{Send, Serve}
 use Rattle.plain_node.specs.declared.action.Answer.TheVariants.{Hit, Fail}
-use Rattle.plain_node.specs.declared.event.Mode.{Mode}
-use Rattle.plain_node.specs.declared.event.Mode.TheVariants.{Shared, Cached, Private}
+use Rattle.node_terms.specs.declared.mode.Mode.{Mode}
+use Rattle.node_terms.specs.declared.mode.Mode.TheVariants.{Shared, Cached, Private}
 use Rattle.plain_node.specs.PlainNode.{PlainNode, with_fetches, sending}
 use Rattle.plain_node.specs.Sources.{decision_step}
 use Rattle.plain_node.specs.Signatures.{SigningKey, signing_key, text_to}

@@ -1,8 +1,7 @@
 -- The configuration of a node: its own addresses and ports, the networks whose queries it answers, what it may do, the limits
 -- of its store, and its neighbours with their keys.
-use Rattle.std.specs.Prelude.{ℕ, ◌-◌, ◌/◌, ◌^◌, ◌==◌, ◌&&◌, nat_le, Bool, List, Option, Some, None, if◌then◌else◌}
+use Rattle.std.specs.Prelude.{ℕ, ◌&&◌, nat_le, Bool, List, Option, Some, None, if◌then◌else◌}
 use Rattle.std.specs.List.{list_all, list_any}
-use Rattle.std.specs.Int.{from_be_bytes, w32}
 use Rattle.bpf_run.specs.declared.ends.End.{End}
 use Rattle.neighbours.specs.declared.neighbour.Neighbour.{Neighbour}
 use Rattle.neighbours.specs.declared.key.Key.{Key}
@@ -11,7 +10,8 @@ use Rattle.neighbours.specs.Faults.{fault_of}
 use Rattle.plain_node.specs.declared.config.NodeFault.{NodeFault}
 use Rattle.plain_node.specs.declared.config.NodeFault.TheVariants.{Table, Limits}
 use Rattle.plain_node.specs.declared.config.Config.{Config}
-use Rattle.plain_node.specs.declared.config.Network.{Network}
+use Rattle.node_terms.specs.declared.network.Network.{Network}
+use Rattle.node_terms.specs.Networks.{is_inside}
 
 -- the settings that the node keeps: `miss_nofetch` answers MISS_NOFETCH instead of MISS, `origin` allows fetches from origin
 -- servers
@@ -49,14 +49,6 @@ setup_of config = record {
   neighbours = config.neighbours.items;
   keys = config.keys.items;
 }
-
--- the first `prefix` bits of an address, as a number
-abbrev pub first_bits : ℕ → List ℕ → ℕ
-first_bits prefix address = from_be_bytes w32 address / 2 ^ (32 - prefix)
-
--- whether an address is in a network: their first bits are equal
-abbrev pub is_inside : List ℕ → Network → Bool
-is_inside address network = first_bits network.prefix address == first_bits network.prefix network.addr
 
 -- whether an address is in one of the allowed networks
 abbrev pub is_allowed : Settings → List ℕ → Bool

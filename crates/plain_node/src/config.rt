@@ -1,39 +1,14 @@
 //! The configuration of a node.
 ghost use Rattle.std.specs.Prelude.{◌≡◌, ◌&&◌, IfOk};
-ghost use Rattle.plain_node.specs.Settings.{are_limits, are_prefixes, first_bits, is_allowed, is_inside};
+ghost use Rattle.plain_node.specs.Settings.{are_limits, are_prefixes, is_allowed};
 
 use crate::NoMemory;
 use filter_slots::End;
 use neighbours::{ConfigFault, Key, Neighbour};
+use node_terms::Network;
 use std::alloc::Global;
 use std::marker::Model;
 use thiserror::Error;
-
-/// An IPv4 network: the addresses whose first `prefix` bits equal those of `addr`.
-#[derive(Clone, Copy, Debug, PartialEq, Eq)]
-pub struct Network {
-    /// Any address in the network.
-    pub addr: [u8; 4],
-    /// The prefix length in bits, 0 to 32.
-    pub prefix: u8,
-}
-
-impl Network {
-    /// Whether an address is in the network.
-    pub fn contains(&self, addr: [u8; 4]) -> bool
-        ensures { result ≡ is_inside addr self.now }
-    {
-        first_bits(self.prefix, addr) == first_bits(self.prefix, self.addr)
-    }
-}
-
-/// The first `prefix` bits of an address, as a number.
-fn first_bits(prefix: u8, addr: [u8; 4]) -> u64
-    ensures { result ≡ first_bits prefix addr }
-{
-    let dropped = 32u8.saturating_sub(prefix);
-    u32::from_be_bytes(addr) as u64 >> dropped
-}
 
 /// The configuration, which stays the same while a node runs.
 #[derive(Debug, Drop)]

@@ -23,13 +23,25 @@ use std::alloc::Global;
 use std::marker::Model;
 
 /// The node without filters and counters.
-#[derive(Drop)]
 pub struct Core {
     pub(crate) rules: Rules,
     pub(crate) table: Table,
     pub(crate) store: Store,
     pub(crate) pending: Pending,
     pub(crate) clock: Moment,
+}
+
+// Written by hand, so that what lets it go is one call for the prover (docs/GATE.md).
+impl Drop for Core {
+    fn drop(self) {
+        let Self {
+            rules: _,
+            table: _,
+            store: _,
+            pending: _,
+            clock: _,
+        } = self;
+    }
 }
 
 impl Model for Core {

@@ -1,16 +1,5 @@
-//! Parts of the node's events.
+//! How fetches end, as an event of the node says it.
 use object_store::SharedObject;
-
-/// How a client's request may be answered.
-#[derive(Clone, Copy, Debug, PartialEq, Eq)]
-pub enum Mode {
-    /// From the store, or by a fetch that other clients may join.
-    Shared,
-    /// From the store only.
-    Cached,
-    /// By a fetch of its own, whose result isn't stored.
-    Private,
-}
 
 /// How an attempt of a fetch ended.
 #[derive(Drop)]

@@ -25,9 +25,10 @@ mod sources;
 mod tally;
 
 pub use action::{Action, Answer, MAX_ACTIONS, Out, Payload};
-pub use config::{Config, Network, NodeFault};
+pub use config::{Config, NodeFault};
 pub use core_node::Core;
-pub use event::{Mode, Outcome};
+pub use event::Outcome;
+pub use node_terms::{Mode, Network};
 pub use pending_fetch::MAX_PENDING_FETCHES;
 pub use std::alloc::AllocError as NoMemory;
 pub use tally::Tally;

@@ -54,7 +54,6 @@ pub trait ServeFront: Drop {
 
 /// Submits client requests to the node and counts the answers. Owned by a thread that serves clients. `S` is the state that all threads
 /// share, `N` the thread's handle to the node.
-#[derive(Drop)]
 pub struct NodeFront<R, S, N> {
     pub rt: R,
     pub alloc: Global,
@@ -73,6 +72,24 @@ pub struct NodeFront<R, S, N> {
     pub stop_after: u64,
     /// Receives a message when the last answer has been given.
     pub stop: Sender<(), Global>,
+}
+
+// Written by hand, so that what lets it go is one call for the prover (docs/GATE.md).
+impl<R: Drop, S: Drop, N: Drop> Drop for NodeFront<R, S, N> {
+    fn drop(self) {
+        let Self {
+            rt: _,
+            alloc: _,
+            proxy: _,
+            node: _,
+            rules: _,
+            keys: _,
+            last: _,
+            step: _,
+            stop_after: _,
+            stop: _,
+        } = self;
+    }
 }
 
 /// What a fetch for a request forwards.

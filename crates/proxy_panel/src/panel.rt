@@ -28,7 +28,6 @@ use traffic_figures::{NeighbourCounts, Page, clients_text, metrics_text};
 
 /// Installs and removes filters, reads counters, and begins captures. Owned by the administration thread, the only one that swaps filters. `S` is the
 /// state that all threads share, `N` the thread's handle to the node.
-#[derive(Drop)]
 pub struct NodePanel<R, S, N> {
     pub rt: R,
     pub alloc: Global,
@@ -42,6 +41,21 @@ pub struct NodePanel<R, S, N> {
     pub files: Vec<FilterFile>,
     /// Takes objects out of the store.
     pub purger: Purger,
+}
+
+// Written by hand, so that what lets it go is one call for the prover (docs/GATE.md).
+impl<R: Drop, S: Drop, N: Drop> Drop for NodePanel<R, S, N> {
+    fn drop(self) {
+        let Self {
+            rt: _,
+            alloc: _,
+            proxy: _,
+            node: _,
+            token: _,
+            files: _,
+            purger: _,
+        } = self;
+    }
 }
 
 /// Serves a panel, whichever it is.

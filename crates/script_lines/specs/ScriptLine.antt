@@ -14,8 +14,8 @@ use Rattle.neighbours.specs.declared.key.Key.{Key}
 use Rattle.neighbours.specs.declared.neighbour.Neighbour.{Neighbour}
 use Rattle.neighbours.specs.declared.neighbour.Role.{Role}
 use Rattle.object_store.specs.Object.{ObjectFields}
-use Rattle.plain_node.specs.declared.config.Network.{Network}
-use Rattle.plain_node.specs.declared.event.Mode.{Mode}
+use Rattle.node_terms.specs.declared.network.Network.{Network}
+use Rattle.node_terms.specs.declared.mode.Mode.{Mode}
 use Rattle.plain_node.specs.declared.event.Outcome.{Outcome}
 use Rattle.plain_node.specs.declared.event.Outcome.TheVariants.{Object, Failed}
 use Rattle.node_core.specs.Happening.{Happening, asks, ticks, ends, leaves, swaps}

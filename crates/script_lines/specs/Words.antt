@@ -15,9 +15,9 @@ use Rattle.filter_slots.specs.declared.slot.Slot.{Slot}
 use Rattle.filter_slots.specs.declared.slot.Slot.TheVariants as slots
 use Rattle.neighbours.specs.declared.neighbour.Role.{Role}
 use Rattle.neighbours.specs.declared.neighbour.Role.TheVariants.{Sibling, Parent}
-use Rattle.plain_node.specs.declared.config.Network.{Network}
-use Rattle.plain_node.specs.declared.event.Mode.{Mode}
-use Rattle.plain_node.specs.declared.event.Mode.TheVariants.{Shared, Cached, Private}
+use Rattle.node_terms.specs.declared.network.Network.{Network}
+use Rattle.node_terms.specs.declared.mode.Mode.{Mode}
+use Rattle.node_terms.specs.declared.mode.Mode.TheVariants.{Shared, Cached, Private}
 use Rattle.object_store.specs.Object.{ObjectFields, object_of}
 
 -- a decimal number of at most `most`

@@ -1,6 +1,6 @@
 -- Which origins a configuration allows and denies.
 use Rattle.std.specs.Prelude.{ℕ, ◌≤◌, List, All, length}
-use Rattle.plain_node.specs.declared.config.Network.{Network}
+use Rattle.node_terms.specs.declared.network.Network.{Network}
 use Rattle.serve_config.specs.declared.origins.SixNetwork.{SixNetwork}
 
 -- networks with prefixes of at most 32 bits

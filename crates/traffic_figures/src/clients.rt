@@ -16,23 +16,45 @@ use std::alloc::{AllocError, Global};
 /// sums of times have six decimals here.
 pub fn clients_text(alloc: Global, page: &Page) -> Result<Vec<u8>, AllocError> {
     let mut json = Writer::new(Vec::new(alloc));
+    match write_page(alloc, &mut json, page) {
+        Ok(()) => ended(json.into_inner()),
+        Err(fault) => {
+            drop(json);
+            Err(fault)
+        }
+    }
+}
+
+// The text with the LF at its end.
+fn ended(text: Vec<u8>) -> Result<Vec<u8>, AllocError> {
+    let mut text = text;
+    text.push(b'\n')?;
+    Ok(text)
+}
+
+fn write_page(alloc: Global, json: &mut Writer, page: &Page) -> Result<(), AllocError> {
     json.begin_object()?;
     json.key("uptime")?;
     json.u64(page.uptime)?;
-    write_answers(&mut json, &page.figures)?;
-    write_octets(&mut json, &page.figures)?;
-    write_fetches(&mut json, &page.figures)?;
-    write_seconds(alloc, &mut json, &page.figures)?;
-    write_optional(&mut json, "connections", page.connections)?;
-    write_optional(&mut json, "waiting", page.waiting)?;
-    write_optional(&mut json, "fetching", page.fetching)?;
-    write_known(&mut json, "streams", page.streams)?;
-    write_known(&mut json, "tunnels", page.tunnels)?;
-    write_log(&mut json, page)?;
-    json.end_object()?;
-    let mut text = json.into_inner();
-    text.push(b'\n')?;
-    Ok(text)
+    write_figures(alloc, json, &page.figures)?;
+    write_numbers(json, page)?;
+    write_log(json, page)?;
+    json.end_object()
+}
+
+fn write_figures(alloc: Global, json: &mut Writer, figures: &Snapshot) -> Result<(), AllocError> {
+    write_answers(json, figures)?;
+    write_octets(json, figures)?;
+    write_fetches(json, figures)?;
+    write_seconds(alloc, json, figures)
+}
+
+fn write_numbers(json: &mut Writer, page: &Page) -> Result<(), AllocError> {
+    write_optional(json, "connections", page.connections)?;
+    write_optional(json, "waiting", page.waiting)?;
+    write_optional(json, "fetching", page.fetching)?;
+    write_known(json, "streams", page.streams)?;
+    write_known(json, "tunnels", page.tunnels)
 }
 
 /// Writes what is counted of a neighbour, as the members `queries`, `replies` (by kind) and `fetches` (by outcome) of the object that
@@ -140,18 +162,34 @@ fn write_seconds(alloc: Global, json: &mut Writer, figures: &Snapshot) -> Result
 fn write_times(alloc: Global, json: &mut Writer, times: &Times) -> Result<(), AllocError> {
     json.begin_object()?;
     json.key("buckets")?;
-    json.begin_array()?;
-    for (bucket, bound) in BOUNDS.iter().enumerate() {
-        json.begin_array()?;
-        write_number(json, bound)?;
-        json.u64(times.up_to(bucket))?;
-        json.end_array()?;
-    }
-    json.end_array()?;
+    write_buckets(json, times)?;
     json.key("sum")?;
-    write_number(json, seconds_text(alloc, times.micros)?.as_str())?;
+    write_sum(alloc, json, times.micros)?;
     write_count(json, "count", times.count())?;
     json.end_object()
+}
+
+// How many of these times are up to each bound.
+fn write_buckets(json: &mut Writer, times: &Times) -> Result<(), AllocError> {
+    json.begin_array()?;
+    for (bucket, bound) in BOUNDS.iter().enumerate() {
+        write_bucket(json, bound, times.up_to(bucket))?;
+    }
+    json.end_array()
+}
+
+fn write_bucket(json: &mut Writer, bound: &str, count: u64) -> Result<(), AllocError> {
+    json.begin_array()?;
+    write_number(json, bound)?;
+    json.u64(count)?;
+    json.end_array()
+}
+
+fn write_sum(alloc: Global, json: &mut Writer, micros: u64) -> Result<(), AllocError> {
+    let sum = seconds_text(alloc, micros)?;
+    let written = write_number(json, sum.as_str());
+    drop(sum);
+    written
 }
 
 // A number in decimals; a text that is none, as "+Inf", as a string.

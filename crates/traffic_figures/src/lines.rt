@@ -145,16 +145,24 @@ pub(crate) fn put_histogram(
 ) -> Result<(), AllocError> {
     put_family(out, name, Kind::Histogram, help)?;
     for (bucket, bound) in BOUNDS.iter().enumerate() {
-        put(out, name)?;
-        put_sample(out, "_bucket", &[("le", bound)], times.up_to(bucket))?;
+        put_bucket(out, name, bound, times.up_to(bucket))?;
     }
-    put(out, name)?;
-    put_text(
-        out,
-        "_sum",
-        &[],
-        seconds_text(alloc, times.micros)?.as_str(),
-    )?;
+    put_sum(out, alloc, name, times.micros)?;
     put(out, name)?;
     put_sample(out, "_count", &[], times.count())
+}
+
+// How many times are up to this bound.
+fn put_bucket(out: &mut Vec<u8>, name: &str, bound: &str, count: u64) -> Result<(), AllocError> {
+    put(out, name)?;
+    put_sample(out, "_bucket", &[("le", bound)], count)
+}
+
+// The sum of times.
+fn put_sum(out: &mut Vec<u8>, alloc: Global, name: &str, micros: u64) -> Result<(), AllocError> {
+    put(out, name)?;
+    let sum = seconds_text(alloc, micros)?;
+    let written = put_text(out, "_sum", &[], sum.as_str());
+    drop(sum);
+    written
 }

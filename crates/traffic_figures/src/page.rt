@@ -58,7 +58,7 @@ pub struct LogLines {
 }
 
 /// All that both texts show. What is `None` is left out of the metrics.
-#[derive(Debug, Drop)]
+#[derive(Debug)]
 pub struct Page {
     /// The counters of answers and fetches.
     pub figures: Snapshot,
@@ -100,4 +100,32 @@ pub struct Page {
     pub events: Option<u64>,
     /// The lines of the access log. `None` if there is none.
     pub log: Option<LogLines>,
+}
+
+// Written by hand, so that what lets it go is one call for the prover (docs/GATE.md).
+impl Drop for Page {
+    fn drop(self) {
+        let Self {
+            figures: _,
+            version: _,
+            uptime: _,
+            started: _,
+            resident: _,
+            open_files: _,
+            sockets: _,
+            neighbours: _,
+            connections: _,
+            fetching: _,
+            waiting: _,
+            streams: _,
+            tunnels: _,
+            objects: _,
+            stored: _,
+            evictions: _,
+            swaps: _,
+            book: _,
+            events: _,
+            log: _,
+        } = self;
+    }
 }

@@ -1,9 +1,8 @@
 //! Starting the threads that serve clients.
 use super::{Opening, ServerEnd, ServerLine};
-use crate::fault::{Port, ServeFault};
-use crate::tasks::{
-    ClientTask, FrontTask, ServingTask, ThreadConfig, Work, no_memory, socket_fault,
-};
+use crate::config::ThreadConfig;
+use crate::starting::begin;
+use crate::tasks::{ClientTask, FrontTask, ServingTask, Work};
 use client_streams::Stops;
 use crossbeam_channel::Receiver;
 use futures::channel::oneshot;
@@ -11,6 +10,7 @@ use http_clients::{ClientSocket, client_sockets, listen_at_six};
 use proxy_front::FrontRules;
 use proxy_node::{AtDesk, Outbox, ThreadSeat};
 use proxy_panel::Overseen;
+use proxy_site::{Port, ServeFault, no_memory, socket_fault};
 use proxy_state::Shared;
 use std::alloc::{AllocError, AllocGlobal, Global};
 use std::fs::Files;
@@ -175,7 +175,29 @@ where
         let heard = self.begin_clients(kit, places)?;
         self.opened_clients(heard)
     }
+}
 
+impl<R, S, L> Opening<R, S, L>
+where
+    L: Ledger + Send + Sync + 'static,
+    S: AtDesk<L> + Overseen + Send + Sync + 'static,
+    R: Threads
+        + Wait
+        + Net
+        + Clock
+        + RandomSource
+        + AllocGlobal
+        + Files
+        + Print
+        + Eprint
+        + Copy
+        + Send
+        + 'static,
+    R::Stream: Send + 'static,
+    R::Listener: Send + 'static,
+    R::File: Send + 'static,
+    R::Dir: Send + 'static,
+{
     /// Starts the threads that serve clients. Returns what hears from each where it serves them.
     fn begin_clients(
         &mut self,
@@ -203,7 +225,7 @@ where
                 return Err(fault);
             }
         };
-        let thread = self.begin(Work::Clients(clients))?;
+        let thread = begin(self.rt, Work::Clients(clients))?;
         let ServerLine { heard, stop } = here;
         // Both have the capacity for all of these threads.
         let _ = self.site.clients.push(thread);

@@ -1,15 +1,14 @@
-//! Starting the threads that fetch, and those that look up names.
+//! Starting the threads that fetch.
 use super::Opening;
-use crate::fault::ServeFault;
-use crate::limits::{FETCHERS, LOOK_UPS};
-use crate::tasks::{FetchTask, Work, no_memory};
+use crate::tasks::{FetchTask, Work};
 use crossbeam_channel::{Receiver, Sender, bounded};
 use futures::channel::mpsc;
 use http_fetches::Budget;
 use http_traffic::Job;
-use name_lookup::{NameDesk, NameLimits, look_up, open_names};
+use name_lookup::NameDesk;
 use proxy_node::AtDesk;
 use proxy_panel::Overseen;
+use proxy_site::{FETCHERS, ServeFault, no_memory};
 use proxy_state::{Lanes, Shared};
 use std::alloc::{AllocError, AllocGlobal, Global};
 use std::fs::Files;
@@ -18,7 +17,6 @@ use std::net::Net;
 use std::random::RandomSource;
 use std::sync::ledger::Ledger;
 use std::sync::{Arc, Wait};
-use std::thread;
 use std::thread::Threads;
 use std::time::Clock;
 
@@ -86,9 +84,15 @@ where
     R::File: Send + 'static,
     R::Dir: Send + 'static,
 {
-    pub(super) fn open_fetchers(&mut self) -> Result<(), ServeFault> {
-        let jobs = self.open_lanes()?;
-        let names = self.open_look_ups()?;
+    /// Starts the threads that fetch, for which `names` looks up names.
+    pub(super) fn open_fetchers(&mut self, names: NameDesk) -> Result<(), ServeFault> {
+        let jobs = match self.open_lanes() {
+            Ok(jobs) => jobs,
+            Err(fault) => {
+                drop(names);
+                return Err(fault);
+            }
+        };
         self.site
             .proxy
             .fetchers()
@@ -130,22 +134,5 @@ where
         let fetches = self.fetch_task(jobs, budget, opened)?;
         self.keep(Work::Fetches(fetches))?;
         Ok(to)
-    }
-
-    /// Starts the threads that look up names. They are not joined, since the system's resolver may hold each for as long as it
-    /// likes: a thread that is idle ends when the desk is dropped, and one that is held ends with the process. None of
-    /// them has a seat or a part of the shared state.
-    fn open_look_ups(&mut self) -> Result<NameDesk, ServeFault> {
-        let has_six = self.site.proxy.passes().has_six;
-        let names = open_names(self.alloc, NameLimits::usual(), has_six);
-        let (desk, clerk) = names.map_err(no_memory)?;
-        for _ in 0..LOOK_UPS {
-            let (rt, clerk) = (self.rt, clerk.share().map_err(no_memory)?);
-            let Ok(thread) = thread::spawn(&rt, move || look_up(&rt, &clerk)) else {
-                return Err(ServeFault::NoMemory);
-            };
-            drop(thread);
-        }
-        Ok(desk)
     }
 }

@@ -1,8 +1,8 @@
 use Rattle.std.proofs.Common.{◌≡◌, ℕ, ◌+◌, [], ◌++◌, take, drop, Err, refl, subst, arith}
-use Rattle.std.proofs.lemmas.Result.{err_from_is_err_and, on_err_weaker}
+use Rattle.std.proofs.lemmas.Result.{err_from_is_err_and, on_err_weaker, on_ok_weaker}
 use Rattle.std.specs.Io.KnownBytes.{Consumes}
 use Rattle.feed_script.specs.declared.fault.FeedFault.TheVariants.{Line, Read}
-use Rattle.feed_script.proofs.ToldLemmas.{told-start, told-kept, told-empty, told-takes, prefix-told, prefix-shown, line-stops, ends-at-line, read-piece, length-piece, room-some, length-chunk, total-fits, whole-told}
+use Rattle.feed_script.proofs.ToldLemmas.{told-start, told-kept, told-empty, told-takes, prefix-told, prefix-shown, line-stops, ends-right, ends-at-line, read-piece, length-piece, room-some, length-chunk, total-fits, whole-told}
 use Rattle.feed_script.proofs.stream.feed.Goals as goal
 use Rattle.feed_script.proofs.stream.feed.Goals.{in-Ok+in_ok-take_out-in-Ok+else-total-gt-SCRIPT_LIMIT, in-Err+else-ne}
 
@@ -193,3 +193,35 @@ returns-in-Ok-eq0-clause-prefix g c =
     let consumed : Consumes j k [] = subst P zero c.in-Ok-eq0.ensures.bytes.0 in
     on_err_weaker c.end_out.result (λ f. prefix-shown i j k o p (g.W.Write.contents c.end_out.new.output) c.turns.engine c.turns.total [] f.shown f.more before.told consumed f.parts f.appended (omega (arith, before.most)))
     c.end_out.ensures.front
+
+pub returns-in-Ok-eq0-clause-right : goal.returns-in-Ok-eq0-clause-right
+returns-in-Ok-eq0-clause-right g c =
+    let before = c.turns.invariant in
+    let zero : c.in-Ok-eq0.field-0 ≡ 0 = omega arith in
+    let i = g.R.Read.remaining c.args.input.now in
+    let j = g.R.Read.remaining c.turns.input in
+    let k = g.R.Read.remaining c.read.new.self in
+    let o = g.W.Write.contents c.args.output.now in
+    let p = g.W.Write.contents c.turns.output in
+    let P : ℕ → Type 0 = λ n. Consumes j k (take n c.read.new.buf) in
+    let some = room-some c.min-room.result c.turns.total c.turns.chunk c.read.new.buf before.size before.most c.min-room.ensures c.read.auto.buf in
+    let told = told-empty i j k o p c.turns.engine c.turns.total before.told (subst P zero c.in-Ok-eq0.ensures.bytes.0) in
+    let end = c.in-Ok-eq0.ensures.bytes.1 zero some in
+    on_ok_weaker c.end_out.result (λ out. (ends-right i k o p (g.W.Write.contents c.end_out.new.output) c.turns.engine c.turns.total out.printed told end out.ends out.appended).0)
+    c.end_out.ensures.ok
+
+pub returns-in-Ok-eq0-clause-written : goal.returns-in-Ok-eq0-clause-written
+returns-in-Ok-eq0-clause-written g c =
+    let before = c.turns.invariant in
+    let zero : c.in-Ok-eq0.field-0 ≡ 0 = omega arith in
+    let i = g.R.Read.remaining c.args.input.now in
+    let j = g.R.Read.remaining c.turns.input in
+    let k = g.R.Read.remaining c.read.new.self in
+    let o = g.W.Write.contents c.args.output.now in
+    let p = g.W.Write.contents c.turns.output in
+    let P : ℕ → Type 0 = λ n. Consumes j k (take n c.read.new.buf) in
+    let some = room-some c.min-room.result c.turns.total c.turns.chunk c.read.new.buf before.size before.most c.min-room.ensures c.read.auto.buf in
+    let told = told-empty i j k o p c.turns.engine c.turns.total before.told (subst P zero c.in-Ok-eq0.ensures.bytes.0) in
+    let end = c.in-Ok-eq0.ensures.bytes.1 zero some in
+    on_ok_weaker c.end_out.result (λ out. (ends-right i k o p (g.W.Write.contents c.end_out.new.output) c.turns.engine c.turns.total out.printed told end out.ends out.appended).1)
+    c.end_out.ensures.ok

@@ -2,10 +2,7 @@
 ghost use Rattle.std.specs.Prelude.{◌≡◌, IfOk};
 ghost use Rattle.node_book.specs.Book.{count_of};
 
-use crate::fault::ServeFault;
-use crate::limits::SEATS;
 use crate::passing::passes_of;
-use crate::tasks::no_memory;
 use capture_tap::Tap;
 use crossbeam_channel::Sender;
 use forwarding::{Field, Peer, Profile};
@@ -19,6 +16,7 @@ use node_core::{Config, Node};
 use object_shelf::Shelf;
 use object_store::{KeyHashes, MOST_KEY_OCTETS};
 use proxy_node::ProxyState;
+use proxy_site::{SEATS, ServeFault, Site, ends_of, no_memory};
 use proxy_state::{
     AccessLog, Fetchers, Kept, Mail, NeighbourEnds, Notices, Outward, PartKeys, Passes, Stopping,
     Telling, UnaskedKeys,
@@ -35,11 +33,12 @@ use traffic_figures::Figures;
 
 /// What the shared state of a proxy is given beside its settings.
 #[derive(Drop)]
-pub(crate) struct Given {
+pub struct Given {
     /// Time to connect to a server.
     pub(crate) connecting: Duration,
     /// Time for a whole fetch.
     pub(crate) fetching: Duration,
+    /// Where logs go.
     pub(crate) told: Logs,
     /// Ends the grace of clients early, at each thread that serves them.
     pub(crate) hurries: Vec<oneshot::Sender<()>>,
@@ -47,9 +46,12 @@ pub(crate) struct Given {
 
 /// Where logs go, and the version of the program.
 #[derive(Drop)]
-pub(crate) struct Logs {
+pub struct Logs {
+    /// Where lines of the access log go, if there is one.
     pub(crate) log: Option<AccessLog>,
+    /// Where notices go, if they are asked for.
     pub(crate) notices: Option<Notices>,
+    /// The version of the program.
     pub(crate) version: &'static str,
 }
 
@@ -82,8 +84,34 @@ struct BookSizes {
     room: u32,
 }
 
+/// A proxy that has no thread yet, with a new node. The ledger behind `blank` has one part per seat. Errors: the node or its event log
+/// refuses the settings, the system has no random numbers, or out of memory.
+pub fn site_of<R: RandomSource + Clock, L: Ledger>(
+    rt: &R,
+    alloc: Global,
+    blank: Blank,
+    settings: Settings,
+    given: Given,
+) -> Result<Site<ProxyState<L>, L>, ServeFault>
+    requires name { blank.name ≡ L.name }
+    requires parts { blank.parts ≡ L.parts }
+    requires seats { blank.parts ≡ SEATS }
+{
+    match ends_of(alloc) {
+        Ok((sender, ends)) => {
+            let made = proxy_of(rt, alloc, blank, settings, given, sender);
+            Site::around(alloc, made, ends)
+        }
+        Err(_) => {
+            drop(settings);
+            drop(given);
+            Err(ServeFault::NoMemory)
+        }
+    }
+}
+
 /// The shared state of a proxy, with a new node, and the seats of its threads. `end` asks the proxy to end.
-pub(crate) fn proxy_of<R: RandomSource + Clock, L: Ledger>(
+fn proxy_of<R: RandomSource + Clock, L: Ledger>(
     rt: &R,
     alloc: Global,
     blank: Blank,
@@ -521,7 +549,7 @@ fn denied_six(
     Ok(Some(denied))
 }
 
-/// The same networks as the rules of HTTP have them.
+/// The same networks as the rules of HTTP have them. Errors: out of memory.
 pub(crate) fn six_networks(
     alloc: Global,
     networks: &[serve_config::SixNetwork],

@@ -1,5 +1,7 @@
 //! Errors of starting and of running a proxy.
 use node_core::NodeFault;
+use std::alloc::AllocError;
+use std::io;
 use std::io::ErrorKind;
 
 /// A port that the configuration sets.
@@ -32,4 +34,17 @@ pub enum ServeFault {
     Settle,
     /// A query socket failed.
     QuerySocket,
+}
+
+/// An allocation failure as a fault of the proxy.
+pub fn no_memory(_: AllocError) -> ServeFault {
+    ServeFault::NoMemory
+}
+
+/// A failure of a server or its socket as a fault of the proxy.
+pub fn socket_fault(port: Port, error: &io::Error) -> ServeFault {
+    match error.kind() {
+        ErrorKind::OutOfMemory => ServeFault::NoMemory,
+        kind => ServeFault::Bind(port, kind),
+    }
 }

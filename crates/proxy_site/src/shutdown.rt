@@ -1,7 +1,7 @@
 //! The end of a proxy: its threads are joined, and the event log is settled.
+use crate::ending::Ending;
 use crate::fault::ServeFault;
 use crate::site::Site;
-use crate::tasks::Ending;
 use crate::writing::Written;
 use futures::channel::oneshot;
 use node_book::{Report, Seat};
@@ -29,7 +29,7 @@ pub struct Finish {
 impl<S: AtDesk<L>, L: Ledger + Send + Sync + 'static> Site<S, L> {
     /// Stops and joins all threads but those that look up names, and settles the event log. Those that serve clients go first, so that
     /// fetches that are still under way have their grace. Returns the report, and which logs are written to their end.
-    pub(crate) fn shut<R: Threads + Wait + Clock + Copy>(
+    pub fn shut<R: Threads + Wait + Clock + Copy>(
         self,
         rt: R,
     ) -> Result<(Report, Written), ServeFault> {

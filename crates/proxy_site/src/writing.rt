@@ -8,16 +8,17 @@ use std::time::{Clock, Duration};
 
 /// A thread that writes a log.
 #[derive(Drop)]
-pub(crate) struct Writing {
-    pub(crate) thread: JoinHandle<()>,
+pub struct Writing {
+    /// Its handle.
+    pub thread: JoinHandle<()>,
     /// Receives a message once all is written.
-    pub(crate) written: Receiver<(), Global>,
+    pub written: Receiver<(), Global>,
 }
 
 impl Writing {
     /// Waits until all lines are written, for a while. Returns whether they are. A thread that still waits for what it writes to ends
     /// with the program.
-    pub(crate) fn is_done<R: Threads + Wait + Clock>(self, rt: &R) -> bool {
+    fn is_done<R: Threads + Wait + Clock>(self, rt: &R) -> bool {
         let Writing { thread, written } = self;
         if written
             .recv_timeout(rt, Duration::from_secs(LOG_GRACE))
@@ -32,18 +33,20 @@ impl Writing {
 
 /// The threads that write logs.
 #[derive(Drop)]
-pub(crate) struct Writings {
+pub struct Writings {
     /// That of the access log, if there is one.
-    pub(crate) log: Option<Writing>,
+    pub log: Option<Writing>,
     /// That of the notices, if they are asked for.
-    pub(crate) notices: Option<Writing>,
+    pub notices: Option<Writing>,
 }
 
 /// Which logs are written to their end, or not there.
 #[derive(Clone, Copy)]
-pub(crate) struct Written {
-    pub(crate) is_logged: bool,
-    pub(crate) is_told: bool,
+pub struct Written {
+    /// Whether the access log is.
+    pub is_logged: bool,
+    /// Whether the notices are.
+    pub is_told: bool,
 }
 
 impl Writings {

@@ -1,60 +1,59 @@
 //! What the threads of a proxy are started with.
-use crate::descriptors::{connections_within, most_files};
-use crate::limits::{
-    ADDRESS_CONNECTIONS, FETCH_OCTETS, MOST_CLIENT_THREADS, ProxyLimits, USUAL_CLIENT_THREADS,
-};
 use crate::passing::allows_own;
-use crate::site::Equipment;
 use crate::state::{Given, Logs, six_networks};
-use crate::tasks::ThreadConfig;
 use filter_files::Filter;
 use futures::channel::oneshot;
 use http_rules::{Mirror, SixNetwork};
 use log_writer::LogTask;
 use node_core::{Config, Network};
 use proxy_front::FrontRules;
+use proxy_site::Equipment;
 use proxy_state::Purger;
 use serve_config::{FilterFile, MirrorPath, Settings};
-use std::alloc::{AllocError, AllocGlobal, Global};
-use std::fs::Files;
-use std::net::{Ipv4Addr, Ipv6Addr, SocketAddr, SocketAddrV4};
-use std::thread::Threads;
+use std::alloc::{AllocError, Global};
+use std::mem;
 use std::time::Duration;
-use std::{mem, thread};
 
 /// What the threads are started with, beside the shared state. `F` is a file.
 #[derive(Drop)]
-pub(crate) struct Orders<F> {
-    pub(super) inner: InnerOrders<F>,
-    pub(super) servers: ServerOrders,
+pub struct Orders<F> {
+    /// What the first threads are started with.
+    pub logs: LogTasks<F>,
+    /// The filters that are in force from the first datagram on.
+    pub filters: Vec<Filter>,
+    /// What the servers are started with.
+    pub servers: ServerOrders,
 }
 
-/// What is needed before the first thread that has a socket. `F` is a file.
+/// What writes logs. `F` is a file.
 #[derive(Drop)]
-pub(super) struct InnerOrders<F> {
-    /// The filters that are in force from the first datagram on.
-    pub(super) filters: Vec<Filter>,
+pub struct LogTasks<F> {
     /// What writes the access log, if there is one.
-    pub(super) log: Option<LogTask<F>>,
+    pub log: Option<LogTask<F>>,
     /// What writes the notices, if they are asked for.
-    pub(super) notices: Option<LogTask<F>>,
+    pub notices: Option<LogTask<F>>,
 }
 
 /// What the servers are started with.
 #[derive(Drop)]
-pub(super) struct ServerOrders {
-    pub(super) rules: FrontRules,
-    pub(super) keeping: Keeping,
+pub struct ServerOrders {
+    /// The rules of the servers for clients.
+    pub rules: FrontRules,
+    /// What the administration keeps.
+    pub keeping: Keeping,
     /// Receives a message when the grace of clients is to end early; one for each thread that serves them.
-    pub(super) hurried: Vec<oneshot::Receiver<()>>,
+    pub hurried: Vec<oneshot::Receiver<()>>,
 }
 
 /// What the administration keeps of the settings.
 #[derive(Drop)]
-pub(super) struct Keeping {
-    pub(super) token: Option<String>,
-    pub(super) files: Vec<FilterFile>,
-    pub(super) purger: Purger,
+pub struct Keeping {
+    /// The token that administrators have to show, if there is one.
+    pub token: Option<String>,
+    /// The files that filters are read from.
+    pub files: Vec<FilterFile>,
+    /// What takes objects out of the store.
+    pub purger: Purger,
 }
 
 /// What the administration keeps, which is taken out of the settings.
@@ -95,8 +94,8 @@ fn hurries(
 }
 
 /// What the servers are started with, which is taken out of the settings, and what ends the grace of clients early at each of so many
-/// threads.
-pub(super) fn server_orders(
+/// threads. Errors: out of memory.
+pub fn server_orders(
     alloc: Global,
     settings: &mut Settings,
     threads: usize,
@@ -110,17 +109,19 @@ pub(super) fn server_orders(
     Ok((orders, hurries))
 }
 
-/// What of the equipment the shared state is given, and what is left for the first threads.
-pub(super) fn equipped<F: Drop>(
+/// Takes the equipment apart: where logs go belongs to the shared state, with the times to connect to a server and for a whole fetch, and
+/// with what ends the grace of clients early. The tasks that write logs, and the filters, are for the threads.
+pub fn equipped<F: Drop>(
     equipment: Equipment<F>,
-    limits: ProxyLimits,
+    connecting: Duration,
+    fetching: Duration,
     hurries: Vec<oneshot::Sender<()>>,
-) -> (Given, InnerOrders<F>) {
+) -> (Given, LogTasks<F>, Vec<Filter>) {
     let (log, log_task) = split(equipment.log);
     let (notices, notices_task) = split(equipment.notices);
     let given = Given {
-        connecting: limits.connecting,
-        fetching: limits.fetching,
+        connecting,
+        fetching,
         told: Logs {
             log,
             notices,
@@ -128,12 +129,11 @@ pub(super) fn equipped<F: Drop>(
         },
         hurries,
     };
-    let inner = InnerOrders {
-        filters: equipment.filters,
+    let logs = LogTasks {
         log: log_task,
         notices: notices_task,
     };
-    (given, inner)
+    (given, logs, equipment.filters)
 }
 
 /// The two parts of a log, if there is one: where lines go, and what writes them.
@@ -141,76 +141,6 @@ fn split<D: Drop, F: Drop>(log: Option<(D, LogTask<F>)>) -> (Option<D>, Option<L
     match log {
         Some((log, writing)) => (Some(log), Some(writing)),
         None => (None, None),
-    }
-}
-
-/// How many threads serve clients: as many as the settings say, or one for each processor, at most 4.
-fn client_threads<R: Threads>(rt: &R, settings: &Settings) -> usize {
-    let threads = match settings.client_threads {
-        Some(threads) => threads as usize,
-        None => match thread::available_parallelism(rt) {
-            Ok(processors) => processors.get().min(USUAL_CLIENT_THREADS),
-            Err(_) => 1,
-        },
-    };
-    threads.clamp(1, MOST_CLIENT_THREADS)
-}
-
-/// What the threads need of the settings.
-pub(super) fn thread_config<R: Threads + Files + AllocGlobal>(
-    rt: &R,
-    settings: &Settings,
-    limits: ProxyLimits,
-) -> ThreadConfig {
-    let address = Ipv4Addr::from_octets(settings.address);
-    let mut limits = limits;
-    let an_address = settings.address_connections.unwrap_or(ADDRESS_CONNECTIONS);
-    limits.clients.connections.an_address = an_address as usize;
-    let client_threads = client_threads(rt, settings);
-    if let Some(files) = most_files(rt) {
-        let most = limits.clients.connections.most;
-        let files = files.saturating_sub(six_files(settings, client_threads));
-        limits.clients.connections.most = connections_within(files, client_threads, most);
-    }
-    limits.fetching = Duration::from_secs(u64::from(settings.fetch_seconds));
-    limits.idle = settings
-        .fetch_idle
-        .map(|seconds| Duration::from_secs(u64::from(seconds)));
-    limits.keep = keep_of(settings.keep_alive);
-    ThreadConfig {
-        icp: settings.node.icp,
-        htcp: settings.node.htcp,
-        clients: SocketAddr::V4(SocketAddrV4::new(address, settings.http_port)),
-        six: six_address(settings),
-        client_threads,
-        admin_port: settings.admin_port,
-        body_limit: settings.body_limit as usize,
-        fetch_octets: settings.fetch_octets.unwrap_or(FETCH_OCTETS) as usize,
-        streams: settings.streams,
-        stop_after: settings.stop_after,
-        limits,
-    }
-}
-
-/// The address of IPv6 at which clients are served too, if there is one.
-fn six_address(settings: &Settings) -> Option<Ipv6Addr> {
-    let clients = settings.six_clients.as_ref()?;
-    Some(Ipv6Addr::from_bits(clients.address))
-}
-
-/// The open files of the socket there: the handle of each of so many threads.
-fn six_files(settings: &Settings, threads: usize) -> usize {
-    match &settings.six_clients {
-        Some(_) => threads,
-        None => 0,
-    }
-}
-
-/// How long connections are kept for further fetches.
-fn keep_of(seconds: u32) -> Option<Duration> {
-    match seconds {
-        0 => None,
-        _ => Some(Duration::from_secs(u64::from(seconds))),
     }
 }
 

@@ -1,7 +1,8 @@
 //! The command `serve --check`: reads a configuration, tells what is wrong or odd in it, and binds no socket.
 
 use crate::NO_OUTPUT;
-use crate::serve_command::{filters_of, settings_in};
+use crate::equipment::filters_of;
+use crate::settings::settings_in;
 use node_core::Network;
 use serve_config::{Settings, SixNetwork};
 use std::fs;

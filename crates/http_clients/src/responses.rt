@@ -1,0 +1,313 @@
+//! The responses to clients and administrators.
+ghost use Rattle.std.specs.Prelude.{None};
+
+use crate::reply::Reply;
+use crate::requests::{Answers, Given, PassedAnswer};
+use admin_page::POLICY;
+use futures::channel::mpsc;
+use http_content::{add_field, add_object_fields};
+use http_rules::end_to_end;
+use http_traffic::{Early, PassedHead, Piece, Shape};
+use hyper::header::{HeaderName, HeaderValue};
+use hyper::{HeaderMap, Response, StatusCode, header};
+use object_body::Portions;
+use object_store::SharedObject;
+use std::alloc::Global;
+
+// A response with an empty body.
+pub(crate) fn bare<H: Answers, I: Drop>(alloc: Global, status: u16) -> Response<Reply<H, I>> {
+    let mut response = Response::new(alloc, Reply::of(Portions::of_text(alloc, Vec::new(alloc))));
+    *response.status_mut() = status_of(status);
+    response
+}
+
+fn status_of(status: u16) -> StatusCode {
+    StatusCode::from_u16(status).unwrap_or(StatusCode::BAD_GATEWAY)
+}
+
+// Has the connection close after a response with these fields, as far as there is memory for one more.
+pub(crate) fn announce_close(headers: &mut HeaderMap) {
+    let close = HeaderValue::from_static("close");
+    drop(headers.insert(header::CONNECTION, close));
+}
+
+// The response with this content. Returns `None` if out of memory, or if there are too many fields.
+pub(crate) fn response_of<H: Answers, I: Drop>(
+    alloc: Global,
+    given: Given,
+) -> Option<Response<Reply<H, I>>> {
+    match given {
+        Given::Object {
+            object,
+            shape,
+            age,
+            told,
+        } => {
+            let response = shaped_response(alloc, &object, &shape, age.is_some());
+            drop(shape);
+            drop(object);
+            with_own_fields(alloc, response, age, told)
+        }
+        Given::Text { status, text, kind } => {
+            text_response(alloc, status, text, kind.media_type())
+        }
+        Given::Page(text) => page_response(alloc, text),
+        Given::Capture(pieces) => capture_response(alloc, pieces),
+        Given::Passed(answer) => passed_response(alloc, answer),
+        Given::Early { early, told } => early_response(alloc, early, told),
+        Given::Challenge(text) => {
+            let response = text_response(alloc, 401, text, b"text/plain");
+            with_field(alloc, response, b"www-authenticate", b"Bearer")
+        }
+    }
+}
+
+// The response, if what was done to it has been done.
+fn if_done<H: Answers, I: Drop>(
+    response: Response<Reply<H, I>>,
+    done: Option<()>,
+) -> Option<Response<Reply<H, I>>> {
+    match done {
+        Some(()) => Some(response),
+        None => {
+            drop(response);
+            None
+        }
+    }
+}
+
+// The response with the pieces of a capture file. Returns `None` as `with_field` does.
+fn capture_response<H: Answers, I: Drop>(
+    alloc: Global,
+    pieces: mpsc::Receiver<Vec<u8>>,
+) -> Option<Response<Reply<H, I>>> {
+    let response = Response::new(alloc, Reply::of_pieces(alloc, pieces));
+    let kind = b"application/x-pcapng";
+    with_field(alloc, Some(response), b"content-type", kind)
+}
+
+// A response with this field as well. Returns `None` without a response, if out of memory, or if there are too many fields.
+fn with_field<H: Answers, I: Drop>(
+    alloc: Global,
+    response: Option<Response<Reply<H, I>>>,
+    name: &[u8],
+    value: &[u8],
+) -> Option<Response<Reply<H, I>>> {
+    let mut response = response?;
+    let done = add_field(alloc, response.headers_mut(), name, value);
+    if_done(response, done)
+}
+
+// A response with this Age, if one is given, and this Cache-Status. Returns `None` as `with_field` does.
+fn with_own_fields<H: Answers, I: Drop>(
+    alloc: Global,
+    response: Option<Response<Reply<H, I>>>,
+    age: Option<u32>,
+    told: Vec<u8>,
+) -> Option<Response<Reply<H, I>>> {
+    let mut response = response?;
+    let done = add_own_fields(alloc, response.headers_mut(), age, told);
+    if_done(response, done)
+}
+
+// Appends this Age, if one is given, and this Cache-Status. Returns `None` as `add_field` does.
+fn add_own_fields(
+    alloc: Global,
+    headers: &mut HeaderMap,
+    age: Option<u32>,
+    told: Vec<u8>,
+) -> Option<()> {
+    if let Some(age) = age {
+        let age = age.to_string(alloc).ok()?;
+        append_field(headers, header::AGE, age.into_bytes())?;
+    }
+    append_field(headers, HeaderName::from_static("cache-status"), told)
+}
+
+// Appends a field whose value is not copied. Returns `None` as `add_field` does.
+fn append_field(headers: &mut HeaderMap, name: HeaderName, value: Vec<u8>) -> Option<()> {
+    let Ok(value) = HeaderValue::from_vec(value) else {
+        drop(name);
+        return None;
+    };
+    match headers.append(name, value) {
+        Ok(_) => Some(()),
+        Err(_) => None,
+    }
+}
+
+// The response with an object in this shape, without Age if `is_age_apart`. Returns `None` if out of memory, or if there are too many
+// fields.
+fn shaped_response<H: Answers, I: Drop>(
+    alloc: Global,
+    object: &SharedObject,
+    shape: &Shape,
+    is_age_apart: bool,
+) -> Option<Response<Reply<H, I>>> {
+    match shape {
+        Shape::Whole => {
+            let share = object.share().ok()?;
+            let body = Portions::of_object(alloc, share);
+            let status = object.get().status();
+            object_response(alloc, status, body, object.get().head(), is_age_apart)
+        }
+        Shape::NotModified(fields) => {
+            let nothing = Portions::of_text(alloc, Vec::new(alloc));
+            object_response(alloc, 304, nothing, fields.as_slice(), is_age_apart)
+        }
+        Shape::Part { first, last, range } => {
+            let share = object.share().ok()?;
+            let body = Portions::of_part(alloc, share, *first, last.saturating_add(1));
+            let head = object.get().head();
+            let response = object_response(alloc, 206, body, head, is_age_apart);
+            with_field(alloc, response, b"content-range", range.as_slice())
+        }
+        Shape::Unsatisfiable(range) => {
+            let response = Some(bare(alloc, 416));
+            with_field(alloc, response, b"content-range", range.as_slice())
+        }
+    }
+}
+
+// The response with this status and body, and the fields of an object. Returns `None` if out of memory, or if there are too many
+// fields.
+fn object_response<H: Answers, I: Drop>(
+    alloc: Global,
+    status: u16,
+    body: Portions,
+    fields: &[(Vec<u8>, Vec<u8>)],
+    is_age_apart: bool,
+) -> Option<Response<Reply<H, I>>> {
+    let mut response = Response::new(alloc, Reply::of(body));
+    *response.status_mut() = status_of(status);
+    let done = add_kept_fields(alloc, response.headers_mut(), fields, is_age_apart);
+    if_done(response, done)
+}
+
+// Adds the fields of an object, with room for Age and Cache-Status as well. Returns `None` as `add_object_fields` does.
+fn add_kept_fields(
+    alloc: Global,
+    headers: &mut HeaderMap,
+    fields: &[(Vec<u8>, Vec<u8>)],
+    is_age_apart: bool,
+) -> Option<()> {
+    headers.reserve(fields.len().saturating_add(2)).ok()?;
+    add_object_fields(alloc, headers, fields, is_age_apart)
+}
+
+// The response with an answer that is passed on. Returns `None` as `relayed_response` does.
+fn passed_response<H: Answers, I: Drop>(
+    alloc: Global,
+    answer: Box<PassedAnswer>,
+) -> Option<Response<Reply<H, I>>> {
+    let PassedAnswer {
+        head,
+        pieces,
+        via,
+        told,
+    } = Box::into_inner(answer);
+    let response = relayed_response(alloc, head, pieces);
+    let passed = with_field(alloc, response, b"via", via.as_slice());
+    with_field(alloc, passed, b"cache-status", told.as_slice())
+}
+
+// The response with an answer that is passed on: its fields that are not only for its connection (RFC 9110, section 7.6.1). Returns `None`
+// if out of memory, if there are too many fields, or if Connection names too many.
+fn relayed_response<H: Answers, I: Drop>(
+    alloc: Global,
+    head: PassedHead,
+    pieces: mpsc::Receiver<Piece>,
+) -> Option<Response<Reply<H, I>>> {
+    let PassedHead {
+        status,
+        head,
+        length,
+        wanted,
+    } = head;
+    let fields = end_to_end(alloc, &head);
+    drop(head);
+    let Ok(fields) = fields else {
+        drop(wanted);
+        drop(pieces);
+        return None;
+    };
+    let reply = if status == 205 {
+        drop(wanted);
+        drop(pieces);
+        // It has no content, however it is framed (RFC 9110, section 15.3.6).
+        Reply::of(Portions::of_text(alloc, Vec::new(alloc)))
+    } else {
+        Reply::of_passed(alloc, pieces, length, Some(wanted))?
+    };
+    response_with(alloc, status, reply, fields.as_slice())
+}
+
+// The response with this status, body and fields. Returns `None` as `add_object_fields` does.
+fn response_with<H: Answers, I: Drop>(
+    alloc: Global,
+    status: u16,
+    reply: Reply<H, I>,
+    fields: &[(Vec<u8>, Vec<u8>)],
+) -> Option<Response<Reply<H, I>>> {
+    let mut response = Response::new(alloc, reply);
+    *response.status_mut() = status_of(status);
+    let done = add_object_fields(alloc, response.headers_mut(), fields, false);
+    if_done(response, done)
+}
+
+// The response with an answer that is still collected, and this Cache-Status. Returns `None` if out of memory, or if there are too many
+// fields.
+fn early_response<H: Answers, I: Drop>(
+    alloc: Global,
+    early: Box<Early>,
+    told: Vec<u8>,
+) -> Option<Response<Reply<H, I>>> {
+    let Early {
+        fields,
+        length,
+        pieces,
+    } = Box::into_inner(early);
+    let reply = Reply::of_passed(alloc, pieces, Some(length), None)?;
+    let response = response_with(alloc, 200, reply, fields.as_slice());
+    with_own_fields(alloc, response, None, told)
+}
+
+// The response with the administration's page. Returns `None` if out of memory.
+fn page_response<H: Answers, I: Drop>(
+    alloc: Global,
+    text: Vec<u8>,
+) -> Option<Response<Reply<H, I>>> {
+    let mut response = text_response(alloc, 200, text, b"text/html; charset=utf-8")?;
+    let done = add_page_fields(alloc, response.headers_mut());
+    if_done(response, done)
+}
+
+// Adds the fields of the administration's page, beside its media type. Returns `None` as `add_field` does.
+fn add_page_fields(alloc: Global, headers: &mut HeaderMap) -> Option<()> {
+    let fields: [(&[u8], &[u8]); 4] = [
+        (b"content-security-policy", POLICY.as_bytes()),
+        (b"x-content-type-options", b"nosniff"),
+        (b"cache-control", b"no-store"),
+        (b"referrer-policy", b"no-referrer"),
+    ];
+    for (name, value) in fields {
+        add_field(alloc, headers, name, value)?;
+    }
+    Some(())
+}
+
+// The response with this text of this media type. Returns `None` if out of memory.
+fn text_response<H: Answers, I: Drop>(
+    alloc: Global,
+    status: u16,
+    text: Vec<u8>,
+    kind: &[u8],
+) -> Option<Response<Reply<H, I>>> {
+    let is_empty = text.is_empty();
+    let mut response = Response::new(alloc, Reply::of(Portions::of_text(alloc, text)));
+    *response.status_mut() = status_of(status);
+    if is_empty {
+        return Some(response);
+    }
+    with_field(alloc, Some(response), b"content-type", kind)
+}
