@@ -2,25 +2,31 @@
 ghost use Rattle.std.specs.Prelude.{◌≡◌, IfSome};
 ghost use Rattle.node_book.specs.Book.{count_of};
 
-use crate::desks::book_of;
-use crate::events::{QUERY, arrival, node_of};
-use filter_slots::{Moment, Socket};
+use crate::desks::{book_of, desk_of, submit};
+use crate::events::{node_of, query};
 use node_book::{BookFault, Booked, Desk, Report, Seat};
 use node_core::Out;
 use std::alloc::Global;
 use std::marker::Brand;
+use std::sync::Wait;
 use std::sync::ledger::{Blank, Ledger};
-use std::sync::{Arc, Wait};
 
 /// The numbers of queries after which a volume of this capacity in octets is full, of the first four.
 fn full_after(alloc: Global, octets: u32) -> Option<Vec<u64>> {
     let mut booked = Booked::within(alloc, node_of(alloc)?, 100, octets).ok()?;
+    let full = full_in(alloc, &mut booked);
+    drop(booked);
+    full
+}
+
+/// The same of a new book.
+fn full_in(alloc: Global, booked: &mut Booked) -> Option<Vec<u64>> {
     let mut full = Vec::new(alloc);
     for count in 1..5u64 {
         if booked.is_full() {
             drop(booked.turn(alloc));
         }
-        is_taken(alloc, &mut booked, count)?;
+        is_taken(alloc, booked, count)?;
         if booked.is_full() {
             full.push(count).ok()?;
         }
@@ -30,24 +36,32 @@ fn full_after(alloc: Global, octets: u32) -> Option<Vec<u64>> {
 
 fn is_taken(alloc: Global, booked: &mut Booked, millis: u64) -> Option<()> {
     let mut out = Out::new(alloc).ok()?;
-    let query = arrival(alloc, Socket::Icp, QUERY, Moment::new(millis)?)?;
-    booked
-        .take(alloc, Arc::new(alloc, query).ok()?, &mut out)
-        .ok()?;
+    drop(booked.take(alloc, query(alloc, millis)?, &mut out).ok()?);
     Some(())
+}
+
+/// A capacity in octets, and the numbers of queries after which a volume is full.
+type Filled = (u32, &'static [u64]);
+
+const FILLED: [Filled; 4] = [
+    (1, &[1, 2, 3, 4]),
+    (34, &[1, 2, 3, 4]),
+    (68, &[2, 4]),
+    (69, &[3]),
+];
+
+/// Whether a volume is full after these queries.
+fn is_full_after(alloc: Global, row: &Filled) -> bool {
+    match full_after(alloc, row.0) {
+        Some(full) => full.as_slice() == row.1,
+        None => false,
+    }
 }
 
 #[test]
 fn a_volume_ends_by_its_octets(rt: HostRuntime) {
-    let rows: [(u32, &[u64]); 4] = [
-        (1, &[1, 2, 3, 4]),
-        (34, &[1, 2, 3, 4]),
-        (68, &[2, 4]),
-        (69, &[3]),
-    ];
-    for (octets, wanted) in rows {
-        let full = full_after(rt.alloc(), octets);
-        assert!(rt; full.is_some_and(|full| full.as_slice() == wanted));
+    for row in &FILLED {
+        assert!(rt; is_full_after(rt.alloc(), row));
     }
 }
 
@@ -62,7 +76,7 @@ fn a_book_without_octets_is_refused(rt: HostRuntime) {
 }
 
 /// Submits so many queries through a seat.
-fn query<L: Ledger, R: Wait>(
+fn submit_queries<L: Ledger, R: Wait>(
     rt: &R,
     alloc: Global,
     desk: &Desk<L>,
@@ -71,12 +85,21 @@ fn query<L: Ledger, R: Wait>(
 ) -> Option<()> {
     let mut out = Out::new(alloc).ok()?;
     for i in 0..count {
-        out.clear();
-        let query = arrival(alloc, Socket::Icp, QUERY, Moment::new(i + 1)?)?;
-        let event = Arc::new(alloc, query).ok()?;
-        desk.submit(rt, alloc, seat, event, &mut out).ok()?;
+        submit(rt, alloc, desk, seat, query(alloc, i + 1)?, &mut out)?;
     }
     Some(())
+}
+
+/// The number of receipts that the first seat keeps of three queries.
+fn kept_of_three<L: Ledger, R: Wait>(
+    rt: &R,
+    alloc: Global,
+    desk: &Desk<L>,
+    seats: &mut Vec<Seat<L>>,
+) -> Option<usize> {
+    let seat = seats.first_mut()?;
+    submit_queries(rt, alloc, desk, seat, 3)?;
+    Some(seat.len())
 }
 
 /// The number of receipts that a seat with this room keeps of three queries.
@@ -86,16 +109,38 @@ fn kept<L: Ledger, R: Wait>(rt: &R, alloc: Global, blank: Blank, room: u32) -> O
     requires one { blank.parts ≡ 1 }
 {
     let (desk, mut seats) = Desk::<L>::open_with(alloc, blank, book_of(alloc, 100)?, 1, room).ok()?;
-    let mut seat = seats.pop()?;
-    query(rt, alloc, &desk, &mut seat, 3)?;
-    Some(seat.len())
+    let kept = kept_of_three(rt, alloc, &desk, &mut seats);
+    drop(seats);
+    drop(desk);
+    kept
 }
+
+/// How many octets of contents a seat keeps receipts of, and how many receipts these are of three queries.
+const ROOMS: [(u32, usize); 6] = [(0, 0), (33, 0), (34, 1), (101, 2), (102, 3), (1_000, 3)];
 
 #[test]
 fn receipts_give_way_by_their_octets(rt: HostRuntime) {
-    for (room, count) in [(0, 0), (33, 0), (34, 1), (101, 2), (102, 3), (1_000, 3)] {
-        assert!(rt; kept::<Brand, _>(&rt, rt.alloc(), Blank::new(1), room) == Some(count));
+    for (room, count) in &ROOMS {
+        assert!(rt; kept::<Brand, _>(&rt, rt.alloc(), Blank::new(1), *room) == Some(*count));
     }
+}
+
+/// What two audits at the first seat leave of the receipts of 20 queries.
+fn left_by_audits<L: Ledger, R: Wait>(
+    rt: &R,
+    alloc: Global,
+    desk: &Desk<L>,
+    seats: &mut Vec<Seat<L>>,
+) -> Option<[usize; 2]> {
+    let seat = seats.first_mut()?;
+    submit_queries(rt, alloc, desk, seat, 20)?;
+    let first = desk.audit(rt, seat);
+    let left = seat.len();
+    let second = desk.audit(rt, seat);
+    if first.is_some() || second.is_some() {
+        return None;
+    }
+    Some([left, seat.len()])
 }
 
 /// What two audits leave of the receipts of 20 queries, and the report of the desk.
@@ -104,19 +149,10 @@ fn audited<L: Ledger, R: Wait>(rt: &R, alloc: Global, blank: Blank) -> Option<([
     requires parts { blank.parts ≡ L.parts }
     requires one { blank.parts ≡ 1 }
 {
-    let (desk, mut seats) = Desk::<L>::open(alloc, blank, book_of(alloc, 100)?, 1).ok()?;
-    let mut seat = seats.pop()?;
-    query(rt, alloc, &desk, &mut seat, 20)?;
-    let first = desk.audit(rt, &mut seat);
-    let left = seat.len();
-    let second = desk.audit(rt, &mut seat);
-    let left = [left, seat.len()];
-    seats.push(seat).ok()?;
-    let report = desk.settle(seats).ok()?;
-    if first.is_some() || second.is_some() {
-        return None;
-    }
-    Some((left, report))
+    let (desk, mut seats) = desk_of::<L>(alloc, blank, 100, 1)?;
+    let left = left_by_audits(rt, alloc, &desk, &mut seats);
+    let report = desk.settle(seats).ok();
+    Some((left?, report?))
 }
 
 #[test]

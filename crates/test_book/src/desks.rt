@@ -5,7 +5,7 @@ ghost use Rattle.node_book.specs.Book.{count_of};
 use crate::events::node_of;
 use crate::loads::{Load, event_of};
 use node_book::{Booked, Desk, OpenFault, Report, Seat, SettleFault};
-use node_core::Out;
+use node_core::{Event, Out};
 use std::alloc::Global;
 use std::marker::Brand;
 use std::sync::ledger::{Blank, Ledger};
@@ -15,7 +15,6 @@ use std::thread;
 use std::thread::Threads;
 
 /// A test case: each of `seats` seats submits `each` events to a book with this volume capacity.
-#[derive(Clone, Copy)]
 pub(crate) struct Row {
     pub(crate) seats: u64,
     pub(crate) volume: usize,
@@ -80,7 +79,38 @@ pub(crate) fn book_of(alloc: Global, volume: usize) -> Option<Booked>
     Booked::new(alloc, node_of(alloc)?, volume).ok()
 }
 
-/// Submits events through a seat and returns the seat.
+/// Submits an event through a seat. `out` then has its actions alone.
+pub(crate) fn submit<L: Ledger, R: Wait>(
+    rt: &R,
+    alloc: Global,
+    desk: &Desk<L>,
+    seat: &mut Seat<L>,
+    event: Arc<Event>,
+    out: &mut Out,
+) -> Option<()> {
+    out.clear();
+    desk.submit(rt, alloc, seat, event, out).ok()?;
+    Some(())
+}
+
+/// Submits events through a seat.
+fn submit_all<L: Ledger, R: Wait>(
+    rt: &R,
+    alloc: Global,
+    desk: &Desk<L>,
+    seat: &mut Seat<L>,
+    load: Load,
+    each: u32,
+) -> Option<()> {
+    let mut out = Out::new(alloc).ok()?;
+    for i in 0..each {
+        let event = event_of(alloc, load, seat.place(), i)?;
+        submit(rt, alloc, desk, seat, event, &mut out)?;
+    }
+    Some(())
+}
+
+/// The same, and returns the seat.
 fn call<L: Ledger, R: Wait>(
     rt: &R,
     alloc: Global,
@@ -89,11 +119,10 @@ fn call<L: Ledger, R: Wait>(
     load: Load,
     each: u32,
 ) -> Option<Seat<L>> {
-    let mut out = Out::new(alloc).ok()?;
-    for i in 0..each {
-        out.clear();
-        let event = Arc::new(alloc, event_of(alloc, load, seat.place(), i)?).ok()?;
-        desk.submit(rt, alloc, &mut seat, event, &mut out).ok()?;
+    let is_done = submit_all(rt, alloc, desk, &mut seat, load, each);
+    if is_done.is_none() {
+        drop(seat);
+        return None;
     }
     Some(seat)
 }
@@ -123,11 +152,28 @@ pub(crate) fn worked<L: Ledger + Send + Sync, R: Threads + Wait + Sync>(
 ) -> Option<Vec<Seat<L>>> {
     let (load, each) = (row.load, row.each);
     let done = thread::map_vec(rt, seats, &|seat| call(rt, alloc, desk, seat, load, each)).ok()?;
+    all_of(alloc, done)
+}
+
+/// The seats, if none is missing.
+fn all_of<L: Ledger>(alloc: Global, done: Vec<Option<Seat<L>>>) -> Option<Vec<Seat<L>>> {
     let mut back = Vec::new(alloc);
     for seat in done {
         back.push(seat?).ok()?;
     }
     Some(back)
+}
+
+/// The report of a desk that is settled with its seats, if there are any.
+pub(crate) fn settled_with<L: Ledger>(
+    desk: Desk<L>,
+    seats: Option<Vec<Seat<L>>>,
+) -> Option<Report> {
+    let Some(seats) = seats else {
+        drop(desk);
+        return None;
+    };
+    desk.settle(seats).ok()
 }
 
 /// The report of a desk that is settled after its threads have ended.
@@ -142,8 +188,8 @@ fn settled<L: Ledger + Send + Sync, R: Threads + Wait + Sync>(
     requires one_each { blank.parts ≡ row.now.seats }
 {
     let (desk, seats) = desk_of::<L>(alloc, blank, row.volume, row.seats)?;
-    let seats = worked(rt, alloc, &desk, seats, row)?;
-    desk.settle(seats).ok()
+    let seats = worked(rt, alloc, &desk, seats, row);
+    settled_with(desk, seats)
 }
 
 #[test]
@@ -162,7 +208,7 @@ fn missing<L: Ledger>(alloc: Global, blank: Blank) -> Option<Result<Report, Sett
     requires two { blank.parts ≡ 2 }
 {
     let (desk, mut seats) = desk_of::<L>(alloc, blank, 8, 2)?;
-    let _seat = seats.pop();
+    drop(seats.pop());
     Some(desk.settle(seats))
 }
 

@@ -64,6 +64,18 @@ pub(crate) fn arrival(alloc: Global, socket: Socket, octets: &[u8], now: Moment)
     Some(Event::Datagram { datagram, now })
 }
 
+/// A timer event at this millisecond.
+pub(crate) fn timer(alloc: Global, millis: u64) -> Option<Arc<Event>> {
+    let now = Moment::new(millis)?;
+    Arc::new(alloc, Event::Timer { now }).ok()
+}
+
+/// A neighbour's query at this millisecond.
+pub(crate) fn query(alloc: Global, millis: u64) -> Option<Arc<Event>> {
+    let query = arrival(alloc, Socket::Icp, QUERY, Moment::new(millis)?)?;
+    Arc::new(alloc, query).ok()
+}
+
 /// A client's request for `http://a/`.
 pub(crate) fn request(alloc: Global, client: u64, mode: Mode, now: Moment) -> Option<Event> {
     let key = CacheKey::new(alloc, b"http://a/".to_vec(alloc).ok()?).ok()?;

@@ -5,7 +5,7 @@
 ghost use Rattle.std.specs.Prelude.{◌≡◌};
 
 use crate::desks::book_of;
-use crate::events::{QUERY, datagram_of};
+use crate::events::{QUERY, datagram_of, timer};
 use filter_slots::{Judged, Moment, Socket};
 use node_book::{Desk, Seat};
 use node_core::{Event, Out, Outcome};
@@ -57,12 +57,6 @@ impl Signs {
     }
 }
 
-/// A timer event at this millisecond.
-fn timer(alloc: Global, millis: u64) -> Option<Arc<Event>> {
-    let now = Moment::new(millis)?;
-    Arc::new(alloc, Event::Timer { now }).ok()
-}
-
 /// The head of an object that takes long to let go of.
 fn fields(alloc: Global) -> Option<Vec<(Vec<u8>, Vec<u8>)>> {
     let mut fields = Vec::new(alloc);
@@ -75,12 +69,13 @@ fn fields(alloc: Global) -> Option<Vec<(Vec<u8>, Vec<u8>)>> {
 
 /// An event that takes long to let go of: an object for a fetch that nobody waits for.
 fn large(alloc: Global) -> Option<Arc<Event>> {
+    let now = Moment::new(1)?;
     let object = Object::new(200, fields(alloc)?, Vec::new(alloc), 0, 60);
     let fetched = Event::Fetched {
         fetch: 1,
         attempt: 0,
         result: Outcome::Object(SharedObject::new(alloc, object).ok()?),
-        now: Moment::new(1)?,
+        now,
     };
     Arc::new(alloc, fetched).ok()
 }
@@ -106,27 +101,42 @@ fn submit_judged<L: Ledger, R: Wait>(
     seat: &mut Seat<L>,
 ) -> Option<()> {
     let judged = Judged::new(datagram_of(alloc, Socket::Icp, QUERY)?, None, None);
-    let now = Moment::new(1)?;
-    let mut out = Out::new(alloc).ok()?;
-    desk.submit_judged(rt, alloc, seat, &judged, now, &mut out)
-        .ok()?;
-    Some(())
+    let is_taken = submit_as(rt, alloc, desk, seat, &judged);
+    drop(judged);
+    is_taken
 }
 
-/// Fills a volume that has one event: with a first event, one that takes long to let go of, and a last one. Returns the first and
-/// the last.
-fn filled<L: Ledger, R: Wait>(
+/// Submits a judged query.
+fn submit_as<L: Ledger, R: Wait>(
     rt: &R,
     alloc: Global,
     desk: &Desk<L>,
     seat: &mut Seat<L>,
-) -> Option<[Arc<Event>; 2]> {
-    let first = timer(alloc, 1)?;
-    let last = timer(alloc, 1)?;
-    submit(rt, alloc, desk, seat, Arc::try_clone(&first).ok()?)?;
+    judged: &Judged,
+) -> Option<()> {
+    let now = Moment::new(1)?;
+    let mut out = Out::new(alloc).ok()?;
+    desk.submit_judged(rt, alloc, seat, judged, now, &mut out)
+        .ok()?;
+    Some(())
+}
+
+/// The first and the last event of a volume.
+fn ends_of(alloc: Global) -> Option<[Arc<Event>; 2]> {
+    Some([timer(alloc, 1)?, timer(alloc, 1)?])
+}
+
+/// Fills a volume that has one event: with the first event, one that takes long to let go of, and the last one.
+fn fill<L: Ledger, R: Wait>(
+    rt: &R,
+    alloc: Global,
+    desk: &Desk<L>,
+    seat: &mut Seat<L>,
+    ends: &[Arc<Event>; 2],
+) -> Option<()> {
+    submit(rt, alloc, desk, seat, Arc::try_clone(&ends[0]).ok()?)?;
     submit(rt, alloc, desk, seat, large(alloc)?)?;
-    submit(rt, alloc, desk, seat, Arc::try_clone(&last).ok()?)?;
-    Some([first, last])
+    submit(rt, alloc, desk, seat, Arc::try_clone(&ends[1]).ok()?)
 }
 
 /// The references to both events.
@@ -192,6 +202,31 @@ fn watch<L: Ledger, R: Wait>(
 }
 
 /// Fills a volume and turns it while a second thread asks. Returns whether a question was answered in time.
+fn is_free_between<L: Ledger + Send + Sync, R: Threads + Wait + Clock + Sync>(
+    rt: &R,
+    alloc: Global,
+    desk: &Desk<L>,
+    seat: &mut Seat<L>,
+    call: Call,
+    ends: &[Arc<Event>; 2],
+) -> Option<bool> {
+    fill(rt, alloc, desk, seat, ends)?;
+    let held = references(ends);
+    let signs = Signs::new();
+    let (is_free, turned) = thread::join(
+        rt,
+        || watch(rt, desk, ends, held, &signs),
+        || turn(rt, alloc, desk, seat, call, &signs),
+    );
+    drop(signs);
+    turned?;
+    match references(ends).checked_add(2) == Some(held) {
+        true => Some(is_free),
+        false => None,
+    }
+}
+
+/// The same with new events.
 fn is_free_once<L: Ledger + Send + Sync, R: Threads + Wait + Clock + Sync>(
     rt: &R,
     alloc: Global,
@@ -199,29 +234,21 @@ fn is_free_once<L: Ledger + Send + Sync, R: Threads + Wait + Clock + Sync>(
     seat: &mut Seat<L>,
     call: Call,
 ) -> Option<bool> {
-    let ends = filled(rt, alloc, desk, seat)?;
-    let held = references(&ends);
-    let signs = Signs::new();
-    let (is_free, turned) = thread::join(
-        rt,
-        || watch(rt, desk, &ends, held, &signs),
-        || turn(rt, alloc, desk, seat, call, &signs),
-    );
-    turned?;
-    match references(&ends).checked_add(2) == Some(held) {
-        true => Some(is_free),
-        false => None,
-    }
+    let ends = ends_of(alloc)?;
+    let is_free = is_free_between(rt, alloc, desk, seat, call, &ends);
+    drop(ends);
+    is_free
 }
 
-/// The same for as many volumes as it takes.
+/// The same for as many volumes as it takes, at the first seat.
 fn is_free<L: Ledger + Send + Sync, R: Threads + Wait + Clock + Sync>(
     rt: &R,
     alloc: Global,
     desk: &Desk<L>,
-    seat: &mut Seat<L>,
+    seats: &mut Vec<Seat<L>>,
     call: Call,
 ) -> Option<bool> {
+    let seat = seats.first_mut()?;
     submit(rt, alloc, desk, seat, timer(alloc, 1)?)?;
     for _ in 0..ROUNDS {
         if is_free_once(rt, alloc, desk, seat, call)? {
@@ -249,14 +276,19 @@ fn told<L: Ledger + Send + Sync, R: Threads + Wait + Clock + Sync>(
         1,
         ROOM,
     ).ok()?;
-    let mut seat = seats.pop()?;
-    is_free(rt, alloc, &desk, &mut seat, call)
+    let is_free = is_free(rt, alloc, &desk, &mut seats, call);
+    drop(seats);
+    drop(desk);
+    is_free
 }
+
+/// Both calls that turn a volume.
+const CALLS: [Call; 2] = [Call::Submit, Call::SubmitJudged];
 
 #[test]
 fn a_volume_is_let_go_of_once_the_lock_is_free(rt: HostRuntime) {
-    for call in [Call::Submit, Call::SubmitJudged] {
-        let told = told::<Brand, _>(&rt, rt.alloc(), Blank::new(1), call);
+    for call in &CALLS {
+        let told = told::<Brand, _>(&rt, rt.alloc(), Blank::new(1), *call);
         assert!(rt; told == Some(true));
     }
 }

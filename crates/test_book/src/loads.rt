@@ -1,6 +1,6 @@
 //! The events that the threads at the seats of a desk submit.
 
-use crate::events::{QUERY, arrival, fetched, request, swap};
+use crate::events::{QUERY, arrival, fetched, request, swap, timer};
 use bpf_check::Checked;
 use filter_slots::{Moment, Slot, Socket};
 use node_core::{Event, Mode, Outcome};
@@ -11,18 +11,17 @@ use std::sync::Arc;
 const NOP: &[u8] = b"\x00\x0e\x00\x00\x00\x08\x00\x02\x00\x00\x00\x07\x00\x02";
 
 /// The kinds of events to submit.
-#[derive(Clone, Copy, PartialEq, Eq)]
+#[derive(Clone, Copy)]
 pub(crate) enum Load {
     Timers,
     Mixed,
 }
 
 /// The event at index `i` of those that a seat's thread submits.
-pub(crate) fn event_of(alloc: Global, load: Load, place: u64, i: u32) -> Option<Event> {
-    let now = Moment::new(i as u64)?;
+pub(crate) fn event_of(alloc: Global, load: Load, place: u64, i: u32) -> Option<Arc<Event>> {
     match load {
-        Load::Timers => Some(Event::Timer { now }),
-        Load::Mixed => mixed(alloc, place, i, now),
+        Load::Timers => timer(alloc, i as u64),
+        Load::Mixed => Arc::new(alloc, mixed(alloc, place, i, Moment::new(i as u64)?)?).ok(),
     }
 }
 

@@ -41,10 +41,17 @@ fn missed_by(alloc: Global, node: &mut Node, event: &Event, queries: u32) -> Opt
 
 /// How many of this many queries a new node answers with a MISS.
 fn missed(alloc: Global, queries: u32) -> Option<u32> {
-    let event = query(alloc)?;
     let mut node = node_of(alloc)?;
-    let count = missed_by(alloc, &mut node, &event, queries);
+    let count = missed_of(alloc, &mut node, queries);
     drop(node);
+    count
+}
+
+/// The same for this node.
+fn missed_of(alloc: Global, node: &mut Node, queries: u32) -> Option<u32> {
+    let event = query(alloc)?;
+    let count = missed_by(alloc, node, &event, queries);
+    drop(event);
     count
 }
 
@@ -63,20 +70,39 @@ fn queries(alloc: Global, count: u32) -> Option<Vec<Event>> {
     Some(events)
 }
 
-/// The actions of a new node for each of this many queries.
-fn outs_of(alloc: Global, count: u32) -> Option<Vec<Out>> {
+/// The actions of a node for each of this many queries.
+fn outs_by(alloc: Global, node: &mut Node, count: u32) -> Option<Vec<Out>> {
     let events = queries(alloc, count)?;
+    let outs = run_events(alloc, node, &events).ok();
+    drop(events);
+    outs
+}
+
+/// The same of a new node.
+fn outs_of(alloc: Global, count: u32) -> Option<Vec<Out>> {
     let mut node = node_of(alloc)?;
-    let outs = run_events(alloc, &mut node, &events).ok();
+    let outs = outs_by(alloc, &mut node, count);
     drop(node);
     outs
+}
+
+/// Whether the only action of each event is to send a MISS.
+fn are_missed(outs: &[Out]) -> bool {
+    for out in outs {
+        if !is_missed(out) {
+            return false;
+        }
+    }
+    true
 }
 
 #[test]
 fn a_long_list_is_taken(rt: HostRuntime) -> Result<(), Fail> {
     let outs = outs_of(rt.alloc(), 1_000).ok_or("the list is taken")?;
-    assert!(rt; outs.len() == 1_000);
-    assert!(rt; outs.iter().all(|out| is_missed(out)));
+    let (count, are_missed) = (outs.len(), are_missed(&outs));
+    drop(outs);
+    assert!(rt; count == 1_000);
+    assert!(rt; are_missed);
     Ok(())
 }
 
@@ -95,9 +121,16 @@ fn status_of(out: &Out) -> Option<u16> {
 
 /// The status that a client's request is answered with at once. `None` if there is none, or on allocation failure.
 fn told(alloc: Global, node: &mut Node, client: u64, mode: Mode) -> Option<u16> {
-    let mut out = Out::new(alloc).ok()?;
     let event = request(alloc, client, mode, Moment::new(5)?)?;
-    node.step(alloc, &event, &mut out).ok()?;
+    let status = status_at(alloc, node, &event);
+    drop(event);
+    status
+}
+
+/// The same of the request that is this event.
+fn status_at(alloc: Global, node: &mut Node, event: &Event) -> Option<u16> {
+    let mut out = Out::new(alloc).ok()?;
+    node.step(alloc, event, &mut out).ok()?;
     status_of(&out)
 }
 
@@ -127,13 +160,25 @@ fn clients_join_and_are_turned_away(rt: HostRuntime) {
     assert!(rt; turned_away(rt.alloc()) == Some([true, true, true]));
 }
 
+/// A query that was judged by a filter rejecting it.
+fn rejected(alloc: Global) -> Option<Judged> {
+    let filter = limit(alloc, 0)?;
+    Some(Judged::new(datagram_of(alloc, Socket::Icp, QUERY)?, Some(filter), None))
+}
+
 /// Whether a query that was judged by a filter rejecting it is answered with a MISS.
 fn is_missed_when_judged(alloc: Global, node: &mut Node) -> Option<bool> {
-    let datagram = datagram_of(alloc, Socket::Icp, QUERY)?;
-    let judged = Judged::new(datagram, Some(limit(alloc, 0)?), None);
+    let judged = rejected(alloc)?;
+    let is_missed = is_missed_as(alloc, node, &judged);
+    drop(judged);
+    is_missed
+}
+
+/// Whether a judged query is answered with a MISS.
+fn is_missed_as(alloc: Global, node: &mut Node, judged: &Judged) -> Option<bool> {
+    let now = Moment::new(5)?;
     let mut out = Out::new(alloc).ok()?;
-    node.step_judged(alloc, &judged, Moment::new(5)?, &mut out)
-        .ok()?;
+    node.step_judged(alloc, judged, now, &mut out).ok()?;
     Some(is_missed(&out))
 }
 

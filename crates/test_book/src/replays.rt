@@ -23,18 +23,23 @@ fn events_of(alloc: Global, entries: &[Entry]) -> Option<Vec<Event>> {
 
 /// Whether the tallies of these actions are those of the entries.
 fn are_tallies(outs: &[Out], entries: &[Entry]) -> bool {
-    let same = outs
-        .iter()
-        .zip(entries)
-        .all(|(out, entry)| out.tally() == entry.tally);
-    same && outs.len() == entries.len()
+    for (out, entry) in outs.iter().zip(entries) {
+        if out.tally() != entry.tally {
+            return false;
+        }
+    }
+    outs.len() == entries.len()
 }
 
 /// Whether a node that replays the events of these entries by `run_events` gets their tallies.
 fn is_replayed(alloc: Global, node: &mut Node, entries: &[Entry]) -> Option<bool> {
     let events = events_of(alloc, entries)?;
-    let outs = run_events(alloc, node, &events).ok()?;
-    Some(are_tallies(outs.as_slice(), entries))
+    let outs = run_events(alloc, node, &events).ok();
+    drop(events);
+    let outs = outs?;
+    let are_tallies = are_tallies(&outs, entries);
+    drop(outs);
+    Some(are_tallies)
 }
 
 /// Whether a node that replays the events of all entries, fifty at a time, gets their tallies.
@@ -67,8 +72,20 @@ fn replayed<L: Ledger + Send + Sync, R: Threads + Wait + Sync>(
     requires one_each { blank.parts ≡ row.now.seats }
 {
     let (desk, seats) = desk_of::<L>(alloc, blank, row.volume, row.seats)?;
-    let seats = worked(rt, alloc, &desk, seats, row)?;
-    let ledgered = desk.close();
+    let seats = worked(rt, alloc, &desk, seats, row);
+    replayed_and_settled(alloc, desk.close(), seats)
+}
+
+/// The same of the book of a closed desk, if there are any seats.
+fn replayed_and_settled<L: Ledger>(
+    alloc: Global,
+    ledgered: Ledgered<L>,
+    seats: Option<Vec<Seat<L>>>,
+) -> Option<(bool, Report)> {
+    let Some(seats) = seats else {
+        drop(ledgered);
+        return None;
+    };
     let is_same = all_replayed(alloc, ledgered.booked().entries());
     let report = ledgered.settle(seats).ok();
     Some((is_same?, report?))
@@ -88,6 +105,7 @@ const LONGEST: Row = Row {
 
 #[test]
 fn one_thread_gives_every_tally(rt: HostRuntime) {
-    let told = replayed::<Brand, _>(&rt, rt.alloc(), Blank::new(LONGEST.seats), &LONGEST);
-    assert!(rt; told == Some((true, LONGEST.wanted)));
+    let row = &LONGEST;
+    let told = replayed::<Brand, _>(&rt, rt.alloc(), Blank::new(row.seats), row);
+    assert!(rt; told == Some((true, row.wanted)));
 }

@@ -2,7 +2,7 @@
 //! clerks, and to a book that is turned.
 ghost use Rattle.std.specs.Prelude.{◌≡◌};
 
-use crate::desks::{book_of, desk_of};
+use crate::desks::{book_of, desk_of, settled_with};
 use crate::events::{QUERY, arrival, fetched, node_of, request};
 use filter_slots::{Moment, Socket};
 use node_book::{
@@ -138,11 +138,25 @@ fn turns_told<C: Clerk>(alloc: Global, first: &mut C, second: &mut C) -> bool {
     well
 }
 
+/// Whether a clerk knows this key of a fetch, or none.
+fn knows<C: Clerk>(
+    alloc: Global,
+    clerk: &mut C,
+    fetch: u32,
+    wanted: Option<&[u8]>,
+) -> Option<bool> {
+    let key = clerk.key_of(alloc, fetch).ok()?;
+    let is_known = match &key {
+        Some(key) => wanted == Some(key.as_slice()),
+        None => wanted == None,
+    };
+    drop(key);
+    Some(is_known)
+}
+
 /// Whether a clerk knows the key of the second fetch, and none of the first, which has ended.
 fn knows_second<C: Clerk>(alloc: Global, clerk: &mut C) -> Option<bool> {
-    let key = clerk.key_of(alloc, 2).ok()??;
-    let none = clerk.key_of(alloc, 1).ok()?;
-    Some(key.as_slice() == b"http://a/".as_slice() && none.is_none())
+    Some(knows(alloc, clerk, 2, Some(b"http://a/"))? && knows(alloc, clerk, 1, None)?)
 }
 
 /// Both seats in a list.
@@ -185,11 +199,21 @@ fn told<L: Ledger, R: Wait>(rt: &R, alloc: Global, blank: Blank) -> Option<Repor
     requires parts { blank.parts ≡ L.parts }
     requires two { blank.parts ≡ 2 }
 {
-    let (desk, mut seats) = desk_of::<L>(alloc, blank, 4, 2)?;
+    let (desk, seats) = desk_of::<L>(alloc, blank, 4, 2)?;
+    let seats = both_at_work(rt, alloc, &desk, seats);
+    settled_with(desk, seats)
+}
+
+/// Lets clerks at both seats of a desk submit the events of the list, and returns the seats.
+fn both_at_work<L: Ledger, R: Wait>(
+    rt: &R,
+    alloc: Global,
+    desk: &Desk<L>,
+    mut seats: Vec<Seat<L>>,
+) -> Option<Vec<Seat<L>>> {
     let other = seats.pop()?;
     let one = seats.pop()?;
-    let seats = clerks(rt, alloc, &desk, one, other)?;
-    desk.settle(seats).ok()
+    clerks(rt, alloc, desk, one, other)
 }
 
 #[test]
@@ -208,7 +232,11 @@ fn taken(alloc: Global, booked: &mut Booked, i: usize) -> Option<Result<(u64, Sa
     let event = Arc::new(alloc, story(alloc, i)?).ok()?;
     let mut out = Out::new(alloc).ok()?;
     Some(match booked.take(alloc, event, &mut out) {
-        Ok(receipt) => Ok((receipt.number, in_short(&out))),
+        Ok(receipt) => {
+            let number = receipt.number;
+            drop(receipt);
+            Ok((number, in_short(&out)))
+        }
         Err(fault) => Err(fault),
     })
 }

@@ -73,13 +73,17 @@ fn greeting(alloc: Global) -> Option<SharedObject> {
     SharedObject::new(alloc, Object::new(200, Vec::new(alloc), body, 0, 60)).ok()
 }
 
+/// A header field.
+fn field(alloc: Global, name: &[u8], value: &[u8]) -> Option<(Vec<u8>, Vec<u8>)> {
+    Some((name.to_vec(alloc).ok()?, value.to_vec(alloc).ok()?))
+}
+
 /// Two header fields, the second with an empty value.
 fn two_fields(alloc: Global) -> Option<Vec<(Vec<u8>, Vec<u8>)>> {
-    let name = b"content-type".to_vec(alloc).ok()?;
-    let value = b"text/plain".to_vec(alloc).ok()?;
     let mut head = Vec::new(alloc);
-    head.push((name, value)).ok()?;
-    head.push((b"x".to_vec(alloc).ok()?, Vec::new(alloc))).ok()?;
+    head.push(field(alloc, b"content-type", b"text/plain")?)
+        .ok()?;
+    head.push(field(alloc, b"x", b"")?).ok()?;
     Some(head)
 }
 
@@ -148,7 +152,6 @@ fn actions_of(alloc: Global, plans: &[Plan]) -> Option<Vec<Action>> {
 }
 
 /// A test case: the actions of an event, and their tally (the number of each kind, and the digest in hexadecimal).
-#[derive(Clone, Copy)]
 struct Row {
     plans: &'static [Plan],
     counts: [u64; 5],
@@ -273,6 +276,7 @@ const ROWS: [Row; 12] = [
 fn is_as_wanted(alloc: Global, row: &Row) -> Option<bool> {
     let actions = actions_of(alloc, row.plans)?;
     let tally = Tally::of(actions.as_slice());
+    drop(actions);
     let counts = [
         tally.sends,
         tally.fetches,

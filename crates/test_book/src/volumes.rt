@@ -2,7 +2,7 @@
 ghost use Rattle.std.specs.Prelude.{◌≡◌};
 
 use crate::desks::desk_of;
-use filter_slots::Moment;
+use crate::events::timer;
 use node_book::{Ledgered, Seat, Spent};
 use node_core::{Event, Out};
 use std::alloc::Global;
@@ -10,42 +10,61 @@ use std::marker::Brand;
 use std::sync::Arc;
 use std::sync::ledger::{Blank, Ledger};
 
-/// A timer event at this millisecond.
-fn timer(alloc: Global, millis: u64) -> Option<Arc<Event>> {
-    let now = Moment::new(millis)?;
-    Arc::new(alloc, Event::Timer { now }).ok()
-}
-
-/// Submits an event. Returns what the submission leaves over.
-fn left_by<L: Ledger>(
+/// Submits an event. `spent` then has what the submission leaves over.
+fn submit<L: Ledger>(
     alloc: Global,
     ledgered: &mut Ledgered<L>,
     seat: &mut Seat<L>,
     event: &Arc<Event>,
-) -> Option<Spent> {
-    let mut spent = Spent::new();
+    spent: &mut Spent,
+) -> Option<()> {
     let mut out = Out::new(alloc).ok()?;
     let event = Arc::try_clone(event).ok()?;
-    ledgered
-        .submit(alloc, seat, event, &mut out, &mut spent)
-        .ok()?;
-    Some(spent)
+    ledgered.submit(alloc, seat, event, &mut out, spent).ok()?;
+    Some(())
 }
 
-/// The references to an event of a full volume: before the event that turns it, after that event, and once the caller has let go
-/// of what the turn left over.
-fn references<L: Ledger>(
+/// Submits an event. Returns the references to the first one: with what the submission leaves over, and once that is let go of.
+fn references_after<L: Ledger>(
     alloc: Global,
     ledgered: &mut Ledgered<L>,
     seat: &mut Seat<L>,
-) -> Option<[usize; 3]> {
-    let event = timer(alloc, 1)?;
-    drop(left_by(alloc, ledgered, seat, &event)?);
-    let before = Arc::strong_count(&event);
-    let spent = left_by(alloc, ledgered, seat, &timer(alloc, 2)?)?;
-    let turned = Arc::strong_count(&event);
+    event: &Arc<Event>,
+    first: &Arc<Event>,
+) -> Option<[usize; 2]> {
+    let mut spent = Spent::new();
+    let is_taken = submit(alloc, ledgered, seat, event, &mut spent);
+    let with_spent = Arc::strong_count(first);
     drop(spent);
-    Some([before, turned, Arc::strong_count(&event)])
+    is_taken?;
+    Some([with_spent, Arc::strong_count(first)])
+}
+
+/// The references to the first of two events, that of a full volume: before the second event turns it, after that, and once the
+/// caller has let go of what the turn left over.
+fn references_to<L: Ledger>(
+    alloc: Global,
+    ledgered: &mut Ledgered<L>,
+    seat: &mut Seat<L>,
+    events: &[Arc<Event>; 2],
+) -> Option<[usize; 3]> {
+    let [first, second] = events;
+    let [_, before] = references_after(alloc, ledgered, seat, first, first)?;
+    let [turned, after] = references_after(alloc, ledgered, seat, second, first)?;
+    Some([before, turned, after])
+}
+
+/// The same for new events and the first seat.
+fn references<L: Ledger>(
+    alloc: Global,
+    ledgered: &mut Ledgered<L>,
+    seats: &mut Vec<Seat<L>>,
+) -> Option<[usize; 3]> {
+    let seat = seats.first_mut()?;
+    let events = [timer(alloc, 1)?, timer(alloc, 2)?];
+    let references = references_to(alloc, ledgered, seat, &events);
+    drop(events);
+    references
 }
 
 /// The same for the book of a new desk, whose volumes have one event each.
@@ -55,9 +74,11 @@ fn told<L: Ledger>(alloc: Global, blank: Blank) -> Option<[usize; 3]>
     requires one { blank.parts ≡ 1 }
 {
     let (desk, mut seats) = desk_of::<L>(alloc, blank, 1, 1)?;
-    let mut seat = seats.pop()?;
     let mut ledgered = desk.close();
-    references(alloc, &mut ledgered, &mut seat)
+    let references = references(alloc, &mut ledgered, &mut seats);
+    drop(ledgered);
+    drop(seats);
+    references
 }
 
 #[test]

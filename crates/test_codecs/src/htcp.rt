@@ -1,5 +1,6 @@
 //! HTCP messages: reading, writing, signing, verifying, truncated messages.
 
+use crate::rows::{Question, all_hold};
 use htcp_packet::{
     Detail, EncodeFault, Form, HtcpAuth, HtcpBody, HtcpFault, HtcpView, Sign, Specifier, decode,
     encode, sign, verify,
@@ -18,17 +19,26 @@ const SIGNED: &str =
 // From 10.0.0.9:4827 to 10.0.0.1:4827.
 const ENDS: [u8; 12] = [10, 0, 0, 9, 0x12, 0xdb, 10, 0, 0, 1, 0x12, 0xdb];
 
-fn shape_of(octets: &[u8]) -> Option<Shape> {
-    let view = decode(octets).ok()?;
+/// The octets of a text in hexadecimal.
+fn octets_of(alloc: Global, text: &str) -> Result<Vec<u8>, Fail> {
+    Ok(hex::decode(alloc, text)?)
+}
+
+/// The message of these octets.
+fn message(octets: &[u8]) -> Result<HtcpView<'_>, Fail> {
+    Ok(decode(octets).ok().ok_or("a message")?)
+}
+
+fn shape_of(view: &HtcpView<'_>) -> Shape {
     let form = Form::of(view.opcode, view.response, view.f1, view.rr);
-    Some((
+    (
         view.opcode,
         view.response,
         view.f1,
         view.rr,
         view.trans,
         form,
-    ))
+    )
 }
 
 /// A message's opcode, RESPONSE, F1, RR and TRANS-ID, and the form of its OP-DATA.
@@ -83,41 +93,47 @@ fn is_written(alloc: Global, view: &HtcpView<'_>, octets: &[u8]) -> Result<bool,
     Ok(written.as_slice() == octets)
 }
 
-/// Whether the octets decode to a message of this shape, which is encoded as the same octets.
-fn is_read_and_written(alloc: Global, text: &str, shape: Shape) -> Result<bool, Fail> {
-    let octets = hex::decode(alloc, text)?;
-    let view = decode(&octets).ok().ok_or("a message")?;
-    Ok(is_written(alloc, &view, &octets)? && shape_of(&octets) == Some(shape))
+/// The octets of a row decode to a message of its shape, which is encoded as the same octets.
+struct ReadAndWritten;
+
+impl Question<(&'static str, Shape)> for ReadAndWritten {
+    fn holds(&self, alloc: Global, row: &(&'static str, Shape)) -> Result<bool, Fail> {
+        let octets = octets_of(alloc, row.0)?;
+        let view = message(&octets)?;
+        Ok(is_written(alloc, &view, &octets)? && shape_of(&view) == row.1)
+    }
 }
 
 #[test]
 fn messages_are_read_and_written(rt: HostRuntime) -> Result<(), Fail> {
-    for (text, shape) in MESSAGES {
-        assert!(rt;
-            is_read_and_written(rt.alloc(), *text, *shape)?,
-            "{}",
-            *text
-        );
-    }
-    Ok(())
+    all_hold(rt.alloc(), MESSAGES, &ReadAndWritten)
 }
 
 /// A TST request with the method GET, for `http://a:80/` with HTTP/1.1.
 const TEXTS: &str =
     "002d000000271002000000090003474554000c687474703a2f2f613a38302f0008485454502f312e3100000002";
 
-/// The strings of a SPECIFIER.
-#[test]
-fn texts(rt: HostRuntime) -> Result<(), Fail> {
-    let octets = hex::decode(rt.alloc(), TEXTS)?;
-    let view = decode(&octets).ok().ok_or("a message")?;
+/// Whether a message has a SPECIFIER with these strings.
+fn has_texts(octets: &[u8], method: &[u8], uri: &[u8], version: &[u8]) -> Result<bool, Fail> {
+    let view = message(octets)?;
     let HtcpBody::Specifier(specifier) = view.body else {
         return Err(Fail::from("a specifier"));
     };
-    assert!(rt; specifier.method == b"GET".as_slice());
-    assert!(rt; specifier.uri == b"http://a:80/".as_slice());
-    assert!(rt; specifier.version == b"HTTP/1.1".as_slice());
-    assert!(rt; specifier.headers.is_empty());
+    Ok(
+        specifier.method == method
+            && specifier.uri == uri
+            && specifier.version == version
+            && specifier.headers.is_empty(),
+    )
+}
+
+/// The strings of a SPECIFIER.
+#[test]
+fn texts(rt: HostRuntime) -> Result<(), Fail> {
+    let octets = octets_of(rt.alloc(), TEXTS)?;
+    let has_texts = has_texts(&octets, b"GET", b"http://a:80/", b"HTTP/1.1");
+    drop(octets);
+    assert!(rt; has_texts?);
     Ok(())
 }
 
@@ -129,10 +145,10 @@ const PADDED: &str = "00130000000b00fe00000007aabbcc0002ffff";
 
 /// Whether the second text decodes to the same message as the first, with this DATA, and is encoded as the first.
 fn is_padded(alloc: Global, plain: &str, padded: &str, data: &str) -> Result<bool, Fail> {
-    let plain = hex::decode(alloc, plain)?;
-    let padded = hex::decode(alloc, padded)?;
-    let first = decode(&plain).ok().ok_or("a message")?;
-    let second = decode(&padded).ok().ok_or("a message")?;
+    let plain = octets_of(alloc, plain)?;
+    let padded = octets_of(alloc, padded)?;
+    let first = message(&plain)?;
+    let second = message(&padded)?;
     let is_same = first == second && hex::encode(alloc, second.raw)?.as_str() == data;
     Ok(is_same && is_written(alloc, &second, &plain)?)
 }
@@ -146,9 +162,9 @@ fn padding(rt: HostRuntime) -> Result<(), Fail> {
 
 /// Whether two texts decode to the same message.
 fn are_same(alloc: Global, first: &str, second: &str) -> Result<bool, Fail> {
-    let first = hex::decode(alloc, first)?;
-    let second = hex::decode(alloc, second)?;
-    Ok(decode(&first).ok().ok_or("a message")? == decode(&second).ok().ok_or("a message")?)
+    let first = octets_of(alloc, first)?;
+    let second = octets_of(alloc, second)?;
+    Ok(message(&first)? == message(&second)?)
 }
 
 #[test]
@@ -160,8 +176,8 @@ fn other_messages_are_others(rt: HostRuntime) -> Result<(), Fail> {
 
 #[test]
 fn no_opcode_above_15_is_written(rt: HostRuntime) -> Result<(), Fail> {
-    let plain = hex::decode(rt.alloc(), PLAIN)?;
-    let view = decode(&plain).ok().ok_or("a message")?;
+    let plain = octets_of(rt.alloc(), PLAIN)?;
+    let view = message(&plain)?;
     let odd = HtcpView { opcode: 16, ..view };
     assert!(rt; !odd.is_writable());
     Ok(())
@@ -185,19 +201,40 @@ fn read_of_cut(n: usize) -> Result<HtcpAuth<'static>, HtcpFault> {
     }
 }
 
+/// The signature of a message.
+fn auth_of(octets: &[u8]) -> Result<HtcpAuth<'_>, HtcpFault> {
+    let view = decode(octets)?;
+    Ok(view.auth)
+}
+
+/// Whether a message that is truncated, with its length in the header as it was, has the fault of each length.
+fn are_faulty(octets: &[u8; 42]) -> bool {
+    for n in 0..42 {
+        if decode(&octets[..n]).err() != Some(fault_of_cut(n)) {
+            return false;
+        }
+    }
+    true
+}
+
+/// Whether a message that is truncated, with its length in the header set to what is left, is read as it should be.
+fn are_read(octets: &mut [u8; 42]) -> bool {
+    for n in 4..42 {
+        octets[1] = n as u8;
+        if auth_of(&octets[..n]) != read_of_cut(n) {
+            return false;
+        }
+    }
+    true
+}
+
 /// A datagram truncated to n octets, with its length in the header as it was, and set to n.
 #[test]
 fn cut_short(rt: HostRuntime) -> Result<(), Fail> {
     let mut octets = [0u8; 42];
     hex::decode_to_slice(TEST, &mut octets)?;
-    for n in 0..42 {
-        assert!(rt; decode(&octets[..n]).err() == Some(fault_of_cut(n)), "{n}");
-    }
-    for n in 4..42 {
-        octets[1] = n as u8;
-        let read = decode(&octets[..n]).map(|view| view.auth);
-        assert!(rt; read == read_of_cut(n), "{n}");
-    }
+    assert!(rt; are_faulty(&octets));
+    assert!(rt; are_read(&mut octets));
     Ok(())
 }
 
@@ -212,13 +249,19 @@ const FAULTS: &[(&str, HtcpFault)] = &[
     ("000e000000080002000000070001", HtcpFault::Auth),
 ];
 
+/// The octets of a row have its fault.
+struct IsFaulty;
+
+impl Question<(&'static str, HtcpFault)> for IsFaulty {
+    fn holds(&self, alloc: Global, row: &(&'static str, HtcpFault)) -> Result<bool, Fail> {
+        let octets = octets_of(alloc, row.0)?;
+        Ok(decode(&octets).err() == Some(row.1))
+    }
+}
+
 #[test]
 fn faults(rt: HostRuntime) -> Result<(), Fail> {
-    for (text, fault) in FAULTS {
-        let octets = hex::decode(rt.alloc(), *text)?;
-        assert!(rt; decode(&octets).err() == Some(*fault), "{}", *text);
-    }
-    Ok(())
+    all_hold(rt.alloc(), FAULTS, &IsFaulty)
 }
 
 /// Each body without a signature, and signed as above. The codes were computed by Python's hmac.
@@ -271,26 +314,26 @@ fn signed(alloc: Global, view: &HtcpView<'_>) -> Result<String, Fail> {
         return Err(Fail::from("not writable"));
     }
     let written = sign(alloc, view, &ENDS, b"key", b"Jefe", 100)?;
-    let again = decode(&written).ok().ok_or("a message")?;
-    if verify(&again, &ENDS, b"Jefe", 100) != Sign::Good {
+    if verify(&message(&written)?, &ENDS, b"Jefe", 100) != Sign::Good {
         return Err(Fail::from("a bad signature"));
     }
     Ok(hex::encode(alloc, &written)?)
 }
 
-/// Whether a message is encoded as it was decoded, and signed as `wanted`.
-fn is_signed(alloc: Global, plain: &str, wanted: &str) -> Result<bool, Fail> {
-    let octets = hex::decode(alloc, plain)?;
-    let view = decode(&octets).ok().ok_or("a message")?;
-    Ok(is_written(alloc, &view, &octets)? && signed(alloc, &view)?.as_str() == wanted)
+/// A message is encoded as it was decoded, and signed as in its row.
+struct IsSigned;
+
+impl Question<(&'static str, &'static str)> for IsSigned {
+    fn holds(&self, alloc: Global, row: &(&'static str, &'static str)) -> Result<bool, Fail> {
+        let octets = octets_of(alloc, row.0)?;
+        let view = message(&octets)?;
+        Ok(is_written(alloc, &view, &octets)? && signed(alloc, &view)?.as_str() == row.1)
+    }
 }
 
 #[test]
 fn each_body_is_written(rt: HostRuntime) -> Result<(), Fail> {
-    for (plain, signed) in BODIES {
-        assert!(rt; is_signed(rt.alloc(), *plain, *signed)?, "{}", *plain);
-    }
-    Ok(())
+    all_hold(rt.alloc(), BODIES, &IsSigned)
 }
 
 /// The endpoints and the second with which a message is verified, and the result.
@@ -307,37 +350,55 @@ const VERIFIED: &[Verified] = &[
     (ELSEWHERE, 159, Sign::Bad),
 ];
 
+/// A message is verified with its secret as in a row, and never with another.
+#[derive(Drop)]
+struct VerifiedAs<'a> {
+    view: HtcpView<'a>,
+}
+
+impl Question<Verified> for VerifiedAs<'_> {
+    fn holds(&self, _alloc: Global, row: &Verified) -> Result<bool, Fail> {
+        let (ends, seconds, says) = row;
+        let with_secret = verify(&self.view, ends, b"Jefe", *seconds);
+        let with_other = verify(&self.view, ends, b"jefe", *seconds);
+        Ok(with_secret == *says && with_other == Sign::Bad)
+    }
+}
+
+/// Whether all rows hold of the message of these octets.
+fn are_verified(alloc: Global, octets: &[u8]) -> Result<(), Fail> {
+    let view = message(octets)?;
+    all_hold(alloc, VERIFIED, &VerifiedAs { view })
+}
+
 #[test]
 fn signatures(rt: HostRuntime) -> Result<(), Fail> {
-    let octets = hex::decode(rt.alloc(), SIGNED)?;
-    let view = decode(&octets).ok().ok_or("a message")?;
-    for (ends, seconds, says) in VERIFIED {
-        assert!(rt;
-            verify(&view, ends, b"Jefe", *seconds) == *says,
-            "{}",
-            *seconds
-        );
-        assert!(rt;
-            verify(&view, ends, b"jefe", *seconds) == Sign::Bad,
-            "{}",
-            *seconds
-        );
-    }
-    Ok(())
+    let octets = octets_of(rt.alloc(), SIGNED)?;
+    let told = are_verified(rt.alloc(), &octets);
+    drop(octets);
+    told
+}
+
+/// Whether a message without a signature is read as such, and is signed as the other.
+fn is_signed_as(alloc: Global, octets: &[u8], signed_text: &str) -> Result<bool, Fail> {
+    let view = message(octets)?;
+    let is_absent = verify(&view, &ENDS, b"Jefe", 100) == Sign::Absent;
+    Ok(view.is_writable() && signed(alloc, &view)?.as_str() == signed_text && is_absent)
 }
 
 #[test]
 fn no_signature_is_absent(rt: HostRuntime) -> Result<(), Fail> {
-    let octets = hex::decode(rt.alloc(), TEST)?;
-    let view = decode(&octets).ok().ok_or("a message")?;
-    assert!(rt; verify(&view, &ENDS, b"Jefe", 100) == Sign::Absent);
-    assert!(rt; view.is_writable());
-    assert!(rt; signed(rt.alloc(), &view)?.as_str() == SIGNED);
+    let octets = octets_of(rt.alloc(), TEST)?;
+    let is_signed = is_signed_as(rt.alloc(), &octets, SIGNED);
+    drop(octets);
+    assert!(rt; is_signed?);
     Ok(())
 }
 
 /// The length of the first string of a DETAIL, whether the message can be encoded, and whether it can be signed.
-const LENGTHS: &[(usize, bool, bool)] = &[
+type Length = (usize, bool, bool);
+
+const LENGTHS: &[Length] = &[
     (65_458, true, true),
     (65_459, true, false),
     (65_487, true, false),
@@ -376,15 +437,31 @@ fn fault_unless(fits: bool) -> Option<EncodeFault> {
     }
 }
 
+/// A message with a string of a row's length can be encoded and signed as the row says.
+#[derive(Drop)]
+struct FitsAs<'a> {
+    view: HtcpView<'a>,
+}
+
+impl Question<Length> for FitsAs<'_> {
+    fn holds(&self, alloc: Global, row: &Length) -> Result<bool, Fail> {
+        let (len, fits, fits_signed) = *row;
+        let text = vec![in alloc; 0u8; len]?;
+        let refusals = refusals(alloc, self.view, &text)?;
+        Ok(refusals == (fault_unless(fits), fault_unless(fits_signed)))
+    }
+}
+
+/// Whether all rows hold of the message of these octets.
+fn are_too_long(alloc: Global, octets: &[u8]) -> Result<(), Fail> {
+    let view = message(octets)?;
+    all_hold(alloc, LENGTHS, &FitsAs { view })
+}
+
 #[test]
 fn too_long(rt: HostRuntime) -> Result<(), Fail> {
-    let text = [0u8; 65_535];
-    let octets = hex::decode(rt.alloc(), "00140000000e1001000000090000000000000002")?;
-    let view = decode(&octets).ok().ok_or("a message")?;
-    for (len, fits, fits_signed) in LENGTHS {
-        let (front, _) = text.split_at(*len);
-        let wanted = (fault_unless(*fits), fault_unless(*fits_signed));
-        assert!(rt; refusals(rt.alloc(), view, front)? == wanted, "{}", *len);
-    }
-    Ok(())
+    let octets = octets_of(rt.alloc(), "00140000000e1001000000090000000000000002")?;
+    let told = are_too_long(rt.alloc(), &octets);
+    drop(octets);
+    told
 }

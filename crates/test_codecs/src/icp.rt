@@ -1,9 +1,10 @@
 //! ICP messages: reading, writing, truncated messages and messages that are too long.
 
-ghost use Rattle.std.specs.Prelude.{IfSome};
+ghost use Rattle.std.specs.Prelude.{IfOk, IfSome};
 ghost use Rattle.icp_packet.specs.Message.{FitsOpcode};
 ghost use Rattle.icp_packet.specs.View.{shown_body};
 
+use crate::rows::{Question, all_hold};
 use icp_packet::{EncodeFault, IcpBody, IcpFault, IcpView, Opcode, decode, encode};
 use std::alloc::Global;
 use std::test::Fail;
@@ -70,24 +71,34 @@ fn is_written(alloc: Global, view: &IcpView<'_>, octets: &[u8]) -> Result<bool, 
     Ok(again.as_slice() == octets)
 }
 
-// Whether octets decode to what the row says, and are encoded as the same octets.
-fn is_read(alloc: Global, row: &Row) -> Result<bool, Fail> {
-    let (octets, op, sender, body) = *row;
-    let view = decode(octets).ok().ok_or("a message")?;
-    let is_same = (view.op, view.number, view.sender) == (op, 1, sender) && view.body == body;
-    Ok(is_same && is_written(alloc, &view, octets)?)
+// The message of these octets.
+fn read(octets: &[u8]) -> Result<IcpView<'_>, Fail>
+    ensures { IfOk result (λ view. FitsOpcode view.op (shown_body view.body)) }
+{
+    Ok(decode(octets).ok().ok_or("a message")?)
+}
+
+// Octets decode to what the row says, and are encoded as the same octets.
+struct IsRead;
+
+impl Question<Row> for IsRead {
+    fn holds(&self, alloc: Global, row: &Row) -> Result<bool, Fail> {
+        let (octets, op, sender, body) = *row;
+        let view = read(octets)?;
+        let is_same = (view.op, view.number, view.sender) == (op, 1, sender) && view.body == body;
+        Ok(is_same && is_written(alloc, &view, octets)?)
+    }
 }
 
 #[test]
 fn messages_are_read_and_written_again(rt: HostRuntime) -> Result<(), Fail> {
-    for row in &ROWS {
-        assert!(rt; is_read(rt.alloc(), row)?);
-    }
-    Ok(())
+    all_hold(rt.alloc(), &ROWS, &IsRead)
 }
 
 // Each opcode with its number, and a payload that may follow its header.
-const EACH_OPCODE: [(u8, Opcode, &[u8]); 11] = [
+type Coded = (u8, Opcode, &'static [u8]);
+
+const EACH_OPCODE: [Coded; 11] = [
     (1, Opcode::Query, b"\x0a\0\0\x07http://a/\0"),
     (2, Opcode::Hit, b"http://a/\0"),
     (3, Opcode::Miss, b"http://a/\0"),
@@ -112,26 +123,29 @@ fn message(alloc: Global, code: u8, payload: &[u8]) -> Result<Vec<u8>, Fail> {
     Ok(octets)
 }
 
-// Whether such a message decodes with each field of its header, and is encoded as the same octets.
-fn has_its_header(alloc: Global, row: &(u8, Opcode, &[u8])) -> Result<bool, Fail> {
-    let (code, op, payload) = *row;
-    let octets = message(alloc, code, payload)?;
-    let view = decode(&octets).ok().ok_or("a message")?;
-    let is_first = (view.op, view.number, view.options) == (op, 258, 0x8000_0003);
-    let is_second = (view.option_data, view.sender) == (0x0004_0005, [10, 0, 0, 9]);
-    Ok(is_first && is_second && is_written(alloc, &view, &octets)?)
+// Such a message decodes with each field of its header, and is encoded as the same octets.
+struct HasItsHeader;
+
+impl Question<Coded> for HasItsHeader {
+    fn holds(&self, alloc: Global, row: &Coded) -> Result<bool, Fail> {
+        let (code, op, payload) = *row;
+        let octets = message(alloc, code, payload)?;
+        let view = read(&octets)?;
+        let is_first = (view.op, view.number, view.options) == (op, 258, 0x8000_0003);
+        let is_second = (view.option_data, view.sender) == (0x0004_0005, [10, 0, 0, 9]);
+        Ok(is_first && is_second && is_written(alloc, &view, &octets)?)
+    }
 }
 
 #[test]
 fn each_opcode_is_read_and_written(rt: HostRuntime) -> Result<(), Fail> {
-    for row in &EACH_OPCODE {
-        assert!(rt; has_its_header(rt.alloc(), row)?);
-    }
-    Ok(())
+    all_hold(rt.alloc(), &EACH_OPCODE, &HasItsHeader)
 }
 
 // The index and the new value of an octet of the QUERY, and the fault of the result.
-const FAULTS: [(usize, u8, IcpFault); 6] = [
+type Faulty = (usize, u8, IcpFault);
+
+const FAULTS: [Faulty; 6] = [
     (0, 0, IcpFault::Opcode),
     (0, 24, IcpFault::Opcode),
     (1, 3, IcpFault::Version),
@@ -149,26 +163,52 @@ fn fault_with<const N: usize>(message: [u8; N], place: usize, octet: u8) -> Opti
     decode(&octets).err()
 }
 
-#[test]
-fn faults(rt: HostRuntime) {
-    for (place, octet, fault) in &FAULTS {
-        assert!(rt; fault_with(QUERY, *place, *octet) == Some(*fault));
-    }
-    for size in [0, 1, 3] {
-        assert!(rt; fault_with(HIT_OBJECT, 31, size) == Some(IcpFault::Object));
+// The QUERY with the octet of a row has its fault.
+struct IsFaulty;
+
+impl Question<Faulty> for IsFaulty {
+    fn holds(&self, _alloc: Global, row: &Faulty) -> Result<bool, Fail> {
+        Ok(fault_with(QUERY, row.0, row.1) == Some(row.2))
     }
 }
 
-// A QUERY truncated to n octets, with its length in the header as it was, and set to n.
+// Sizes of the object that are not its own.
+const WRONG_SIZES: [u8; 3] = [0, 1, 3];
+
+// The HIT_OBJ with the size of a row has a fault in its object.
+struct IsWrongSize;
+
+impl Question<u8> for IsWrongSize {
+    fn holds(&self, _alloc: Global, row: &u8) -> Result<bool, Fail> {
+        Ok(fault_with(HIT_OBJECT, 31, *row) == Some(IcpFault::Object))
+    }
+}
+
 #[test]
-fn cut_short(rt: HostRuntime) {
+fn faults(rt: HostRuntime) -> Result<(), Fail> {
+    all_hold(rt.alloc(), &FAULTS, &IsFaulty)?;
+    all_hold(rt.alloc(), &WRONG_SIZES, &IsWrongSize)
+}
+
+// Whether a QUERY truncated to each length has the fault of that length, with its length in the header as it was, and set to it.
+fn are_faulty() -> bool {
     let mut octets = QUERY;
     for len in 0..34 {
         let short = (len < 20).then_some(IcpFault::Short);
-        assert!(rt; decode(&QUERY[..len]).err() == short.or(Some(IcpFault::Length)));
+        if decode(&QUERY[..len]).err() != short.or(Some(IcpFault::Length)) {
+            return false;
+        }
         octets[3] = len as u8;
-        assert!(rt; decode(&octets[..len]).err() == short.or(Some(IcpFault::Url)));
+        if decode(&octets[..len]).err() != short.or(Some(IcpFault::Url)) {
+            return false;
+        }
     }
+    true
+}
+
+#[test]
+fn cut_short(rt: HostRuntime) {
+    assert!(rt; are_faulty());
 }
 
 #[test]
@@ -182,7 +222,10 @@ fn one_octet_too_many(rt: HostRuntime) {
 fn length_for(alloc: Global, octets: usize) -> Result<Result<usize, EncodeFault>, Fail> {
     let url = vec![in alloc; 97u8; octets]?;
     let view = query_for(&url).ok_or("a text")?;
-    Ok(encode(alloc, &view).map(|message| message.len()))
+    match encode(alloc, &view) {
+        Ok(message) => Ok(Ok(message.len())),
+        Err(fault) => Ok(Err(fault)),
+    }
 }
 
 #[test]

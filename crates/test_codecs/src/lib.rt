@@ -14,6 +14,8 @@ mod programs;
 #[cfg(test)]
 mod rounds;
 #[cfg(test)]
+mod rows;
+#[cfg(test)]
 mod slots;
 #[cfg(test)]
 mod stores;

@@ -1,7 +1,9 @@
 //! Verdicts of programs on the packets of two datagrams, and programs that the checker refuses.
 
-use bpf_check::{CheckFault, Insn, check};
+use crate::rows::{Question, all_hold};
+use bpf_check::{CheckFault, Checked, Insn, check};
 use bpf_run::{End, Packet, Verdict, judge};
+use std::alloc::Global;
 use std::test::Fail;
 
 const FROM: End = End {
@@ -30,8 +32,8 @@ const MISS: [u8; 30] = [
 pub(crate) type Listing = &'static [(u16, u8, u8, u32)];
 
 // The instructions of a listing.
-pub(crate) fn insns_of(rt: &HostRuntime, listing: Listing) -> Result<Vec<Insn>, Fail> {
-    let mut insns = Vec::new(rt.alloc());
+pub(crate) fn insns_of(alloc: Global, listing: Listing) -> Result<Vec<Insn>, Fail> {
+    let mut insns = Vec::new(alloc);
     for (code, jt, jf, k) in listing {
         insns.push(Insn {
             code: *code,
@@ -45,15 +47,29 @@ pub(crate) fn insns_of(rt: &HostRuntime, listing: Listing) -> Result<Vec<Insn>, 
 
 // The result of a program on a payload: the value and the number of steps.
 fn verdict(insns: Vec<Insn>, payload: &[u8]) -> Result<(u32, u16), Fail> {
-    let program = check(insns).map_err(|_| "refused")?;
+    let program = program_of(insns)?;
+    let verdict = verdict_of(&program, payload);
+    drop(program);
+    verdict
+}
+
+// A program that the checker accepts.
+pub(crate) fn program_of(insns: Vec<Insn>) -> Result<Checked, Fail> {
+    Ok(check(insns).ok().ok_or("refused")?)
+}
+
+// The result of a checked program on a payload.
+fn verdict_of(program: &Checked, payload: &[u8]) -> Result<(u32, u16), Fail> {
     let packet = Packet::new(FROM, TO, payload).ok_or("too long")?;
-    let Verdict { value, steps } = judge(&program, &packet);
+    let Verdict { value, steps } = judge(program, &packet);
     Ok((value, steps))
 }
 
 // The fault that the checker finds in a program.
 fn fault(insns: Vec<Insn>) -> Option<CheckFault> {
-    check(insns).err().map(|refused| refused.0)
+    let (fault, insns) = check(insns).err()?;
+    drop(insns);
+    Some(fault)
 }
 
 // Accepts ICP queries: `ldb [28]`, `jeq #1`, `ret #65535`, `ret #0`.
@@ -112,19 +128,20 @@ const PROGRAMS: &[(Listing, (u32, u16))] = &[
     (&[(0xb1, 0, 0, 0), (0x50, 0, 0, 8), (0x16, 0, 0, 0)], (1, 3)),
 ];
 
+// A program has the value and the number of steps of its row on the QUERY.
+struct Judges;
+
+impl Question<(Listing, (u32, u16))> for Judges {
+    fn holds(&self, alloc: Global, row: &(Listing, (u32, u16))) -> Result<bool, Fail> {
+        Ok(verdict(insns_of(alloc, row.0)?, &QUERY)? == row.1)
+    }
+}
+
 #[test]
 fn verdicts(rt: HostRuntime) -> Result<(), Fail> {
-    assert!(rt; verdict(insns_of(&rt, QUERIES)?, &QUERY)? == (65_535, 3));
-    assert!(rt; verdict(insns_of(&rt, QUERIES)?, &MISS)? == (0, 3));
-    for (listing, want) in PROGRAMS {
-        assert!(rt;
-            verdict(insns_of(&rt, *listing)?, &QUERY)? == *want,
-            "{} {}",
-            want.0,
-            want.1
-        );
-    }
-    Ok(())
+    assert!(rt; verdict(insns_of(rt.alloc(), QUERIES)?, &QUERY)? == (65_535, 3));
+    assert!(rt; verdict(insns_of(rt.alloc(), QUERIES)?, &MISS)? == (0, 3));
+    all_hold(rt.alloc(), PROGRAMS, &Judges)
 }
 
 const REFUSED: &[(Listing, CheckFault)] = &[
@@ -152,12 +169,18 @@ const REFUSED: &[(Listing, CheckFault)] = &[
     (&[(6, 0, 0, 0), (7, 0, 0, 0)], CheckFault::NoReturn),
 ];
 
+// The checker finds the fault of a row in its program.
+struct Refuses;
+
+impl Question<(Listing, CheckFault)> for Refuses {
+    fn holds(&self, alloc: Global, row: &(Listing, CheckFault)) -> Result<bool, Fail> {
+        Ok(fault(insns_of(alloc, row.0)?) == Some(row.1))
+    }
+}
+
 #[test]
 fn refusals(rt: HostRuntime) -> Result<(), Fail> {
-    for (listing, want) in REFUSED {
-        assert!(rt; fault(insns_of(&rt, *listing)?) == Some(*want));
-    }
-    Ok(())
+    all_hold(rt.alloc(), REFUSED, &Refuses)
 }
 
 // `ld #0`.
@@ -177,8 +200,8 @@ const RETURN: Insn = Insn {
 };
 
 // `count` instructions: loads of a constant, and `ret #1` at the end.
-fn of_length(rt: &HostRuntime, count: usize) -> Result<Vec<Insn>, Fail> {
-    let mut insns = Vec::new(rt.alloc());
+fn of_length(alloc: Global, count: usize) -> Result<Vec<Insn>, Fail> {
+    let mut insns = Vec::new(alloc);
     for _ in 1..count {
         insns.push(LOAD)?;
     }
@@ -193,11 +216,18 @@ const LENGTHS: [(usize, Option<CheckFault>); 4] = [
     (4097, Some(CheckFault::TooLong)),
 ];
 
+// A program of so many instructions has the fault of its row.
+struct OfLength;
+
+impl Question<(usize, Option<CheckFault>)> for OfLength {
+    fn holds(&self, alloc: Global, row: &(usize, Option<CheckFault>)) -> Result<bool, Fail> {
+        Ok(fault(of_length(alloc, row.0)?) == row.1)
+    }
+}
+
 #[test]
 fn lengths(rt: HostRuntime) -> Result<(), Fail> {
-    for (count, want) in &LENGTHS {
-        assert!(rt; fault(of_length(&rt, *count)?) == *want);
-    }
-    assert!(rt; verdict(of_length(&rt, 4096)?, &QUERY)? == (1, 4096));
+    all_hold(rt.alloc(), &LENGTHS, &OfLength)?;
+    assert!(rt; verdict(of_length(rt.alloc(), 4096)?, &QUERY)? == (1, 4096));
     Ok(())
 }

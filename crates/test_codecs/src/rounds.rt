@@ -3,9 +3,11 @@
 ghost use Rattle.std.specs.Prelude.{◌≡◌, true};
 ghost use Rattle.peer_select.specs.Poll.{matches};
 
+use crate::rows::{Question, all_hold};
 use neighbours::{End, Moment, Neighbour, Role, Socket, Table};
 use peer_select::{Kind, Round, Source};
 use std::alloc::{AllocError, Global};
+use std::test::Fail;
 
 fn neighbour(kind: Role, last: u8, weight: u32) -> Neighbour {
     Neighbour {
@@ -27,7 +29,9 @@ fn table(alloc: Global) -> Result<Table, AllocError> {
     list.push(neighbour(Role::Parent, 2, 1))?;
     list.push(neighbour(Role::Parent, 3, 2))?;
     list.push(neighbour(Role::Sibling, 4, 1))?;
-    Table::new(alloc, list, Vec::new(alloc)).map_err(|_| AllocError)
+    Table::new(alloc, list, Vec::new(alloc))
+        .ok()
+        .ok_or(AllocError)
 }
 
 // Peer n replies after 40, 70 or 100 ms, given in eighths of a millisecond.
@@ -71,52 +75,81 @@ fn sources(
     ]
 }
 
-#[test]
-fn sources_in_every_order(rt: HostRuntime) -> Result<(), AllocError> {
-    use Kind::{Hit, Miss, Refused};
-    let orders = [
-        [0, 1, 2],
-        [1, 0, 2],
-        [0, 2, 1],
-        [1, 2, 0],
-        [2, 0, 1],
-        [2, 1, 0],
-    ];
-    // A HIT from the third peer decides the round, and later replies don't count.
-    let cases: [([Kind; 3], [[usize; 4]; 6], [[usize; 4]; 6]); 3] = [
-        (
-            [Miss, Miss, Hit],
-            [
-                [2, 1, 7, 9],
-                [2, 1, 7, 9],
-                [2, 0, 7, 9],
-                [2, 1, 7, 9],
-                [2, 7, 9, 9],
-                [2, 7, 9, 9],
-            ],
-            [
-                [2, 1, 0, 9],
-                [2, 1, 0, 9],
-                [2, 0, 1, 9],
-                [2, 1, 0, 9],
-                [2, 0, 1, 9],
-                [2, 0, 1, 9],
-            ],
-        ),
-        ([Miss, Miss, Miss], [[1, 7, 9, 9]; 6], [[1, 0, 9, 9]; 6]),
-        ([Miss, Refused, Miss], [[0, 7, 9, 9]; 6], [[0, 9, 9, 9]; 6]),
-    ];
-    let table = table(rt.alloc())?;
-    let Some(now) = Moment::new(1000) else {
-        return Ok(());
-    };
-    for (kinds, with_origin, without) in cases {
+const ORDERS: [[usize; 3]; 6] = [
+    [0, 1, 2],
+    [1, 0, 2],
+    [0, 2, 1],
+    [1, 2, 0],
+    [2, 0, 1],
+    [2, 1, 0],
+];
+
+// What the peers reply, and the sources for each order of these replies: with the origin, and without it.
+type Replies = ([Kind; 3], [[usize; 4]; 6], [[usize; 4]; 6]);
+
+// A HIT from the third peer decides the round, and later replies don't count.
+const REPLIES: [Replies; 3] = [
+    (
+        [Kind::Miss, Kind::Miss, Kind::Hit],
+        [
+            [2, 1, 7, 9],
+            [2, 1, 7, 9],
+            [2, 0, 7, 9],
+            [2, 1, 7, 9],
+            [2, 7, 9, 9],
+            [2, 7, 9, 9],
+        ],
+        [
+            [2, 1, 0, 9],
+            [2, 1, 0, 9],
+            [2, 0, 1, 9],
+            [2, 1, 0, 9],
+            [2, 0, 1, 9],
+            [2, 0, 1, 9],
+        ],
+    ),
+    (
+        [Kind::Miss, Kind::Miss, Kind::Miss],
+        [[1, 7, 9, 9]; 6],
+        [[1, 0, 9, 9]; 6],
+    ),
+    (
+        [Kind::Miss, Kind::Refused, Kind::Miss],
+        [[0, 7, 9, 9]; 6],
+        [[0, 9, 9, 9]; 6],
+    ),
+];
+
+// The sources of a round are those of a row, for each order of its replies.
+#[derive(Drop)]
+struct ChosenFrom<'a> {
+    table: &'a Table,
+    now: Moment,
+}
+
+impl ChosenFrom<'_> {
+    // Whether they are these, for each order.
+    fn are(&self, kinds: [Kind; 3], origin: bool, wanted: &[[usize; 4]; 6]) -> bool {
         for i in 0..6 {
-            let got = sources(&table, now, orders[i], kinds, true);
-            assert!(rt; got == with_origin[i], "{kinds:?} {i}");
-            let got = sources(&table, now, orders[i], kinds, false);
-            assert!(rt; got == without[i], "{kinds:?} {i}");
+            if sources(self.table, self.now, ORDERS[i], kinds, origin) != wanted[i] {
+                return false;
+            }
         }
+        true
     }
-    Ok(())
+}
+
+impl Question<Replies> for ChosenFrom<'_> {
+    fn holds(&self, _alloc: Global, row: &Replies) -> Result<bool, Fail> {
+        Ok(self.are(row.0, true, &row.1) && self.are(row.0, false, &row.2))
+    }
+}
+
+#[test]
+fn sources_in_every_order(rt: HostRuntime) -> Result<(), Fail> {
+    let now = Moment::new(1000).ok_or("a moment")?;
+    let table = table(rt.alloc())?;
+    let told = all_hold(rt.alloc(), &REPLIES, &ChosenFrom { table: &table, now });
+    drop(table);
+    told
 }

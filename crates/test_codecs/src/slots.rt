@@ -1,8 +1,10 @@
 //! Filter slots: verdicts on one datagram under each program, and slots that are filled, shared and cleared.
 
-use crate::programs::{Listing, insns_of};
-use bpf_check::{Insn, check};
+use crate::programs::{Listing, insns_of, program_of};
+use crate::rows::{Question, all_hold};
+use bpf_check::Insn;
 use filter_slots::{Checked, Datagram, End, Judged, NoSlot, Slot, Slots, Socket, Verdict, cut};
+use std::alloc::Global;
 use std::sync::Arc;
 use std::test::Fail;
 
@@ -26,33 +28,54 @@ const QUERY: [u8; 34] = [
 ];
 
 // The program with these instructions.
-fn program(rt: &HostRuntime, listing: Listing) -> Result<Arc<Checked>, Fail> {
-    let program = check(insns_of(rt, listing)?).map_err(|_| "refused")?;
-    Ok(Arc::new(rt.alloc(), program)?)
+fn program(alloc: Global, listing: Listing) -> Result<Arc<Checked>, Fail> {
+    Ok(Arc::new(alloc, program_of(insns_of(alloc, listing)?)?)?)
 }
 
 // The program `ret #k`.
-fn limit(rt: &HostRuntime, k: u32) -> Result<Arc<Checked>, Fail> {
+fn limit(alloc: Global, k: u32) -> Result<Arc<Checked>, Fail> {
     let insns = [Insn {
         code: 6,
         jt: 0,
         jf: 0,
         k,
-    }]
-    .to_vec(rt.alloc())?;
-    let program = check(insns).map_err(|_| "refused")?;
-    Ok(Arc::new(rt.alloc(), program)?)
+    }];
+    Ok(Arc::new(alloc, program_of(insns.to_vec(alloc)?)?)?)
+}
+
+// Installs a program, and lets go of the one that was replaced.
+fn put(slots: &mut Slots, slot: Slot, program: Arc<Checked>) -> Result<(), Fail> {
+    drop(slots.install(slot, program)?);
+    Ok(())
 }
 
 // A datagram received on this socket from this endpoint.
-fn datagram(rt: &HostRuntime, socket: Socket, from: End, octets: &[u8]) -> Result<Datagram, Fail> {
-    let payload = octets.to_vec(rt.alloc())?;
-    Ok(Datagram::new(socket, from, TO, payload).map_err(|_| "too long")?)
+fn datagram(alloc: Global, socket: Socket, from: End, octets: &[u8]) -> Result<Datagram, Fail> {
+    let payload = octets.to_vec(alloc)?;
+    Ok(
+        Datagram::new(socket, from, TO, payload)
+            .ok()
+            .ok_or("too long")?,
+    )
 }
 
 // The QUERY, received on this socket.
-fn query(rt: &HostRuntime, socket: Socket) -> Result<Datagram, Fail> {
-    datagram(rt, socket, FROM, &QUERY)
+fn query(alloc: Global, socket: Socket) -> Result<Datagram, Fail> {
+    datagram(alloc, socket, FROM, &QUERY)
+}
+
+// The verdict on a datagram received on this socket from this endpoint.
+fn forced(
+    alloc: Global,
+    slots: &Slots,
+    socket: Socket,
+    from: End,
+    octets: &[u8],
+) -> Result<Verdict, Fail> {
+    let datagram = datagram(alloc, socket, from, octets)?;
+    let forced = slots.force(&datagram);
+    drop(datagram);
+    Ok(forced)
 }
 
 // Slots for the sockets, without neighbours.
@@ -73,60 +96,82 @@ const LIMITS: [(u32, usize); 7] = [
 
 // Whether a limit that is installed in the ICP slot is the verdict, and leaves this many octets.
 fn leaves(
-    rt: &HostRuntime,
+    alloc: Global,
     slots: &mut Slots,
     datagram: &Datagram,
     k: u32,
     left: usize,
 ) -> Result<bool, Fail> {
-    slots.install(ICP, limit(rt, k)?)?;
+    put(slots, ICP, limit(alloc, k)?)?;
     let forced = slots.force(datagram);
     let kept = cut(datagram, forced.value);
     let is_front = kept.len() == left && QUERY.as_slice().starts_with(kept);
     Ok(forced == Verdict { value: k, steps: 1 } && is_front)
 }
 
+// Whether this holds of all limits, one after another.
+fn all_leave(alloc: Global, slots: &mut Slots, datagram: &Datagram) -> Result<bool, Fail> {
+    for (k, left) in &LIMITS {
+        if !leaves(alloc, slots, datagram, *k, *left)? {
+            return Ok(false);
+        }
+    }
+    Ok(true)
+}
+
+// Whether an empty slot leaves the QUERY whole.
+fn is_left_whole(slots: &Slots, datagram: &Datagram) -> bool {
+    let empty = slots.force(datagram);
+    (empty.value, empty.steps) == (4_294_967_295, 0)
+        && cut(datagram, empty.value) == QUERY.as_slice()
+}
+
+// Whether both hold of new slots.
+fn are_cut(alloc: Global, datagram: &Datagram) -> Result<bool, Fail> {
+    let mut slots = sockets()?;
+    let is_whole = is_left_whole(&slots, datagram);
+    let all_leave = all_leave(alloc, &mut slots, datagram);
+    drop(slots);
+    Ok(all_leave? && is_whole)
+}
+
 #[test]
 fn verdicts_and_cuts(rt: HostRuntime) -> Result<(), Fail> {
-    let datagram = query(&rt, Socket::Icp)?;
-    let mut slots = sockets()?;
-    let empty = slots.force(&datagram);
-    assert!(rt; (empty.value, empty.steps) == (4_294_967_295, 0));
-    assert!(rt; cut(&datagram, empty.value) == QUERY.as_slice());
-    for (k, left) in &LIMITS {
-        assert!(rt; leaves(&rt, &mut slots, &datagram, *k, *left)?, "{}", *k);
-    }
+    let datagram = query(rt.alloc(), Socket::Icp)?;
+    let are_cut = are_cut(rt.alloc(), &datagram);
+    drop(datagram);
+    assert!(rt; are_cut?);
     Ok(())
 }
 
 // Installs a limit in the ICP slot, and returns the limit that was replaced.
-fn limit_before(rt: &HostRuntime, slots: &mut Slots, k: u32) -> Result<Option<u32>, Fail> {
-    Ok(limit_of(slots.install(ICP, limit(rt, k)?)?))
+fn limit_before(alloc: Global, slots: &mut Slots, k: u32) -> Result<Option<u32>, Fail> {
+    Ok(limit_of(slots.install(ICP, limit(alloc, k)?)?))
 }
 
 // Whether the ICP slot returns the limit 40 when 0 is installed, returns 0 when it is cleared, and is empty then.
-fn is_emptied(rt: &HostRuntime, slots: &mut Slots) -> Result<bool, Fail> {
-    let first = limit_before(rt, slots, 0)?;
+fn is_emptied(alloc: Global, slots: &mut Slots) -> Result<bool, Fail> {
+    let first = limit_before(alloc, slots, 0)?;
     let second = limit_of(slots.clear(ICP)?);
     Ok((first, second) == (Some(40), Some(0)) && slots.installed(ICP).is_none())
 }
 
 // Whether the ICP slot holds the one instruction of the limit 40.
-fn has_forty(rt: &HostRuntime, slots: &Slots) -> Result<bool, Fail> {
+fn has_forty(alloc: Global, slots: &Slots) -> Result<bool, Fail> {
     let kept = slots.installed(ICP).ok_or("the shared program")?;
-    Ok(kept.insns().len() == 1 && verdicts(rt, slots)? == (40, WHOLE))
+    Ok(kept.insns().len() == 1 && verdicts(alloc, slots)? == (40, WHOLE))
 }
 
 // Whether slots are cleared while their copy keeps its program.
-fn are_apart(rt: &HostRuntime, slots: &mut Slots, copy: &Slots) -> Result<bool, Fail> {
-    Ok(is_emptied(rt, slots)? && has_forty(rt, copy)?)
+fn are_apart(alloc: Global, slots: &mut Slots, copy: &Slots) -> Result<bool, Fail> {
+    Ok(is_emptied(alloc, slots)? && has_forty(alloc, copy)?)
 }
 
 // Whether the first program finds the ICP slot empty, and is still in a copy after the slots have lost it.
-fn is_shared(rt: &HostRuntime, slots: &mut Slots) -> Result<bool, Fail> {
-    let first = limit_before(rt, slots, 40)?;
+fn is_shared(alloc: Global, slots: &mut Slots) -> Result<bool, Fail> {
+    let first = limit_before(alloc, slots, 40)?;
     let copy = slots.copy()?;
-    let are_apart = are_apart(rt, slots, &copy);
+    let are_apart = are_apart(alloc, slots, &copy);
     drop(copy);
     Ok(are_apart? && first == None)
 }
@@ -134,7 +179,7 @@ fn is_shared(rt: &HostRuntime, slots: &mut Slots) -> Result<bool, Fail> {
 #[test]
 fn slots_are_shared_and_emptied(rt: HostRuntime) -> Result<(), Fail> {
     let mut slots = sockets()?;
-    let is_shared = is_shared(&rt, &mut slots);
+    let is_shared = is_shared(rt.alloc(), &mut slots);
     drop(slots);
     assert!(rt; is_shared?);
     Ok(())
@@ -159,82 +204,102 @@ const STEPS: [Row; 7] = [
 
 // The limit of a program that was installed.
 fn limit_of(program: Option<Arc<Checked>>) -> Option<u32> {
-    match program {
-        None => None,
-        Some(program) => Some(program.insns()[0].k),
-    }
+    let program = program?;
+    let limit = program.insns()[0].k;
+    drop(program);
+    Some(limit)
 }
 
 // The verdicts on the QUERY by the ICP socket and the HTCP socket.
-fn verdicts(rt: &HostRuntime, slots: &Slots) -> Result<(u32, u32), Fail> {
-    let icp = slots.force(&query(rt, Socket::Icp)?).value;
-    let htcp = slots.force(&query(rt, Socket::Htcp)?).value;
+fn verdicts(alloc: Global, slots: &Slots) -> Result<(u32, u32), Fail> {
+    let icp = forced(alloc, slots, Socket::Icp, FROM, &QUERY)?.value;
+    let htcp = forced(alloc, slots, Socket::Htcp, FROM, &QUERY)?.value;
     Ok((icp, htcp))
 }
 
 // The limit that the slot of a step returns.
-fn given(rt: &HostRuntime, slots: &mut Slots, step: &Row) -> Result<Option<u32>, Fail> {
+fn given(alloc: Global, slots: &mut Slots, step: &Row) -> Result<Option<u32>, Fail> {
     let slot = Slot::Socket(step.0);
     let program = match step.1 {
         None => slots.clear(slot)?,
-        Some(k) => slots.install(slot, limit(rt, k)?)?,
+        Some(k) => slots.install(slot, limit(alloc, k)?)?,
     };
     Ok(limit_of(program))
 }
 
 // Whether a step returns the expected limit, then the slots give the step's verdicts, and the earlier copy the last ones.
 fn is_step(
-    rt: &HostRuntime,
+    alloc: Global,
     slots: &mut Slots,
     copy: &Slots,
     last: (u32, u32),
     step: &Row,
 ) -> Result<bool, Fail> {
-    let is_given = given(rt, slots, step)? == step.2;
-    Ok(is_given && verdicts(rt, slots)? == (step.3, step.4) && verdicts(rt, copy)? == last)
+    let is_given = given(alloc, slots, step)? == step.2;
+    Ok(is_given && verdicts(alloc, slots)? == (step.3, step.4) && verdicts(alloc, copy)? == last)
 }
 
 // The same with a copy made before the step.
-fn is_done(
-    rt: &HostRuntime,
-    slots: &mut Slots,
-    last: (u32, u32),
-    step: &Row,
-) -> Result<bool, Fail> {
+fn is_done(alloc: Global, slots: &mut Slots, last: (u32, u32), step: &Row) -> Result<bool, Fail> {
     let copy = slots.copy()?;
-    let is_step = is_step(rt, slots, &copy, last, step);
+    let is_step = is_step(alloc, slots, &copy, last, step);
     drop(copy);
     is_step
+}
+
+// Whether all steps are done, one after another.
+fn all_done(alloc: Global, slots: &mut Slots) -> Result<bool, Fail> {
+    let mut last = (WHOLE, WHOLE);
+    for step in &STEPS {
+        if !is_done(alloc, slots, last, step)? {
+            return Ok(false);
+        }
+        last = (step.3, step.4);
+    }
+    Ok(true)
 }
 
 #[test]
 fn slots_are_independent(rt: HostRuntime) -> Result<(), Fail> {
     let mut slots = sockets()?;
-    let mut last = (WHOLE, WHOLE);
-    for step in &STEPS {
-        assert!(rt;
-            is_done(&rt, &mut slots, last, step)?,
-            "{} {}",
-            step.3,
-            step.4
-        );
-        last = (step.3, step.4);
-    }
+    let all_done = all_done(rt.alloc(), &mut slots);
+    drop(slots);
+    assert!(rt; all_done?);
     Ok(())
+}
+
+// How many octets a payload has that is refused, of this many octets.
+fn refused_of(alloc: Global, size: usize) -> Result<Option<usize>, Fail> {
+    let payload = vec![in alloc; 7u8; size]?;
+    Ok(length_of(Datagram::new(Socket::Icp, FROM, TO, payload).err()))
+}
+
+// The length of octets, if there are any.
+fn length_of(octets: Option<Vec<u8>>) -> Option<usize> {
+    let octets = octets?;
+    Some(octets.len())
+}
+
+// Both ends of the QUERY, in octets.
+fn ends_of_query(alloc: Global) -> Result<[u8; 12], Fail> {
+    let query = query(alloc, Socket::Icp)?;
+    let ends = query.ends();
+    drop(query);
+    Ok(ends)
 }
 
 #[test]
 fn ends_and_length(rt: HostRuntime) -> Result<(), Fail> {
-    let ends = query(&rt, Socket::Icp)?.ends();
+    let ends = ends_of_query(rt.alloc())?;
     assert!(rt; ends == [10, 0, 0, 9, 0x0c, 0x3a, 192, 0, 2, 1, 0x12, 0xdb]);
-    let payload = [7; 65_508].to_vec(rt.alloc())?;
-    let refused = Datagram::new(Socket::Icp, FROM, TO, payload).err();
-    assert!(rt; refused.map(|octets| octets.len()) == Some(65_508));
+    assert!(rt; refused_of(rt.alloc(), 65_508)? == Some(65_508));
     Ok(())
 }
 
 // The limit of the program by which a datagram is judged, the limit installed afterwards, and the verdict in force.
-const JUDGED: [(Option<u32>, Option<u32>, u32); 5] = [
+type InForce = (Option<u32>, Option<u32>, u32);
+
+const JUDGED: [InForce; 5] = [
     (None, None, WHOLE),
     (Some(40), Some(40), 40),
     (Some(40), Some(0), 0),
@@ -243,36 +308,60 @@ const JUDGED: [(Option<u32>, Option<u32>, u32); 5] = [
 ];
 
 // The program of a limit, if there is one.
-fn limit_if(rt: &HostRuntime, k: Option<u32>) -> Result<Option<Arc<Checked>>, Fail> {
+fn limit_if(alloc: Global, k: Option<u32>) -> Result<Option<Arc<Checked>>, Fail> {
     match k {
         None => Ok(None),
-        Some(k) => Ok(Some(limit(rt, k)?)),
+        Some(k) => Ok(Some(limit(alloc, k)?)),
     }
 }
 
 // The QUERY on the ICP socket, judged by the limits of the socket and the sender.
-fn judged_by(rt: &HostRuntime, socket: Option<u32>, sender: Option<u32>) -> Result<Judged, Fail> {
-    let datagram = Arc::new(rt.alloc(), query(rt, Socket::Icp)?)?;
-    Ok(Judged::new(datagram, limit_if(rt, socket)?, limit_if(rt, sender)?))
+fn judged_by(alloc: Global, socket: Option<u32>, sender: Option<u32>) -> Result<Judged, Fail> {
+    let first = limit_if(alloc, socket)?;
+    let second = limit_if(alloc, sender)?;
+    Ok(Judged::new(arrived(alloc)?, first, second))
 }
 
-// The verdict in force after this limit is installed in the ICP slot, or the slot is cleared.
-fn in_force(rt: &HostRuntime, put: Option<u32>, judged: &Judged) -> Result<u32, Fail> {
-    let mut slots = sockets()?;
-    if let Some(k) = put {
-        slots.install(ICP, limit(rt, k)?)?;
+// The QUERY on the ICP socket.
+fn arrived(alloc: Global) -> Result<Arc<Datagram>, Fail> {
+    Ok(Arc::new(alloc, query(alloc, Socket::Icp)?)?)
+}
+
+// Installs this limit, or none.
+fn put_if(alloc: Global, slots: &mut Slots, slot: Slot, k: Option<u32>) -> Result<(), Fail> {
+    match k {
+        None => Ok(()),
+        Some(k) => put(slots, slot, limit(alloc, k)?),
     }
-    Ok(slots.force_judged(judged).value)
+}
+
+// The verdict in force after this limit is installed in the ICP slot, or in an empty slot.
+fn in_force(alloc: Global, limit: Option<u32>, judged: &Judged) -> Result<u32, Fail> {
+    let mut slots = sockets()?;
+    let is_put = put_if(alloc, &mut slots, ICP, limit);
+    let forced = slots.force_judged(judged).value;
+    drop(slots);
+    is_put?;
+    Ok(forced)
+}
+
+// The verdict on the QUERY and the one in force after that are those of a row.
+struct StaysInForce;
+
+impl Question<InForce> for StaysInForce {
+    fn holds(&self, alloc: Global, row: &InForce) -> Result<bool, Fail> {
+        let (held, limit, verdict) = *row;
+        let judged = judged_by(alloc, held, None)?;
+        let first = judged.verdict().value;
+        let forced = in_force(alloc, limit, &judged);
+        drop(judged);
+        Ok((first, forced?) == (held.unwrap_or(WHOLE), verdict))
+    }
 }
 
 #[test]
 fn judged_datagrams(rt: HostRuntime) -> Result<(), Fail> {
-    for (held, put, verdict) in &JUDGED {
-        let judged = judged_by(&rt, *held, None)?;
-        assert!(rt; judged.verdict().value == held.unwrap_or(WHOLE));
-        assert!(rt; in_force(&rt, *put, &judged)? == *verdict);
-    }
-    Ok(())
+    all_hold(rt.alloc(), &JUDGED, &StaysInForce)
 }
 
 // A sender that is not a neighbour.
@@ -328,39 +417,69 @@ const TWICE: [Twice; 8] = [
 ];
 
 // Slots with these programs, and one neighbour.
-fn slots_of(rt: &HostRuntime, icp: Listing, neighbour: Listing) -> Result<Slots, Fail> {
+fn slots_of(alloc: Global, icp: Listing, neighbour: Listing) -> Result<Slots, Fail> {
     let neighbours = [(Socket::Icp, FROM)];
     let mut slots = Slots::new(&neighbours).ok_or("slots")?;
+    let are_put = put_both(alloc, &mut slots, icp, neighbour);
+    kept_if(slots, are_put)
+}
+
+// Installs the programs of the ICP socket and of the neighbour, where they have instructions.
+fn put_both(
+    alloc: Global,
+    slots: &mut Slots,
+    icp: Listing,
+    neighbour: Listing,
+) -> Result<(), Fail> {
     if !icp.is_empty() {
-        slots.install(ICP, program(rt, icp)?)?;
+        put(slots, ICP, program(alloc, icp)?)?;
     }
     if !neighbour.is_empty() {
-        slots.install(Slot::Neighbour(0), program(rt, neighbour)?)?;
-    }
-    Ok(slots)
-}
-
-// Whether the verdict and the steps of both filters are those of a row. On the other socket the datagram has an unknown sender
-// and no program applies.
-fn is_judged_twice(rt: &HostRuntime, row: &Twice) -> Result<bool, Fail> {
-    let (icp, neighbour, from, octets, value, steps) = *row;
-    let slots = slots_of(rt, icp, neighbour)?;
-    let forced = slots.force(&datagram(rt, Socket::Icp, from, octets)?);
-    let other = slots.force(&datagram(rt, Socket::Htcp, from, octets)?);
-    Ok(forced == Verdict { value, steps } && other.value == WHOLE)
-}
-
-#[test]
-fn two_filters_judge(rt: HostRuntime) -> Result<(), Fail> {
-    for row in &TWICE {
-        assert!(rt; is_judged_twice(&rt, row)?, "{} {}", row.4, row.5);
+        put(slots, Slot::Neighbour(0), program(alloc, neighbour)?)?;
     }
     Ok(())
 }
 
+// The slots, where their programs could be installed.
+fn kept_if(slots: Slots, are_put: Result<(), Fail>) -> Result<Slots, Fail> {
+    match are_put {
+        Ok(()) => Ok(slots),
+        Err(fault) => {
+            drop(slots);
+            Err(fault)
+        }
+    }
+}
+
+// The verdict and the steps of both filters are those of a row. On the other socket the datagram has an unknown sender and no
+// program applies.
+struct JudgedTwice;
+
+impl Question<Twice> for JudgedTwice {
+    fn holds(&self, alloc: Global, row: &Twice) -> Result<bool, Fail> {
+        let slots = slots_of(alloc, row.0, row.1)?;
+        let is_judged = is_judged_twice(alloc, &slots, row);
+        drop(slots);
+        is_judged
+    }
+}
+
+// The same for slots with the programs of the row.
+fn is_judged_twice(alloc: Global, slots: &Slots, row: &Twice) -> Result<bool, Fail> {
+    let (_, _, from, octets, value, steps) = *row;
+    let icp = forced(alloc, slots, Socket::Icp, from, octets)?;
+    let htcp = forced(alloc, slots, Socket::Htcp, from, octets)?;
+    Ok(icp == Verdict { value, steps } && htcp.value == WHOLE)
+}
+
+#[test]
+fn two_filters_judge(rt: HostRuntime) -> Result<(), Fail> {
+    all_hold(rt.alloc(), &TWICE, &JudgedTwice)
+}
+
 // The limit of the neighbour's program by which a datagram is judged, the limit installed afterwards, and the verdict in force.
 // The socket's limit is 50 throughout.
-const JUDGED_AGAIN: [(Option<u32>, Option<u32>, u32); 6] = [
+const JUDGED_AGAIN: [InForce; 6] = [
     (None, None, 50),
     (Some(65_535), Some(0), 0),
     (Some(0), Some(65_535), 50),
@@ -370,98 +489,111 @@ const JUDGED_AGAIN: [(Option<u32>, Option<u32>, u32); 6] = [
 ];
 
 // Slots with the limit 50 for the ICP socket, and this limit for the neighbour, or none.
-fn slots_with(rt: &HostRuntime, put: Option<u32>) -> Result<Slots, Fail> {
-    let mut slots = slots_of(rt, TWENTY_TWO, NONE)?;
-    if let Some(program) = limit_if(rt, put)? {
-        slots.install(Slot::Neighbour(0), program)?;
-    }
-    Ok(slots)
+fn slots_with(alloc: Global, limit: Option<u32>) -> Result<Slots, Fail> {
+    let mut slots = slots_of(alloc, TWENTY_TWO, NONE)?;
+    let is_put = put_if(alloc, &mut slots, Slot::Neighbour(0), limit);
+    kept_if(slots, is_put)
 }
 
-// The verdict on the QUERY if it is judged now.
-fn verdict_now(rt: &HostRuntime, slots: &Slots) -> Result<u32, Fail> {
-    let arrived = Arc::new(rt.alloc(), query(rt, Socket::Icp)?)?;
-    Ok(slots.judge(arrived)?.verdict().value)
+// The verdict on a datagram if it is judged now: by itself, and as it is then found.
+fn verdicts_now(slots: &Slots, arrived: Arc<Datagram>) -> Result<[Verdict; 2], Fail> {
+    let judged = slots.judge(arrived)?;
+    let verdicts = [judged.verdict(), slots.force_judged(&judged)];
+    drop(judged);
+    Ok(verdicts)
 }
 
-// The verdict in force on the datagram judged before, and the verdict on one judged now.
-fn both_in_force(
-    rt: &HostRuntime,
-    held: Option<u32>,
-    put: Option<u32>,
-) -> Result<(u32, u32), Fail> {
-    let judged = judged_by(rt, Some(50), held)?;
-    let slots = slots_with(rt, put)?;
-    let now = verdict_now(rt, &slots);
-    let before = slots.force_judged(&judged).value;
+// The verdict in force on a datagram judged before, and the verdict on the QUERY if it is judged now, by the limit 50 and this one.
+fn both_in_force(alloc: Global, judged: &Judged, limit: Option<u32>) -> Result<(u32, u32), Fail> {
+    let arrived = arrived(alloc)?;
+    let slots = slots_with(alloc, limit)?;
+    let now = verdicts_now(&slots, arrived);
+    let before = slots.force_judged(judged).value;
     drop(slots);
-    Ok((before, now?))
+    let [now, _] = now?;
+    Ok((before, now.value))
+}
+
+// Both verdicts are that of a row.
+struct IsJudgedAgain;
+
+impl Question<InForce> for IsJudgedAgain {
+    fn holds(&self, alloc: Global, row: &InForce) -> Result<bool, Fail> {
+        let (held, limit, verdict) = *row;
+        let judged = judged_by(alloc, Some(50), held)?;
+        let both = both_in_force(alloc, &judged, limit);
+        drop(judged);
+        Ok(both? == (verdict, verdict))
+    }
 }
 
 #[test]
 fn either_program_is_compared(rt: HostRuntime) -> Result<(), Fail> {
-    for (held, put, verdict) in &JUDGED_AGAIN {
-        assert!(rt; both_in_force(&rt, *held, *put)? == (*verdict, *verdict));
-    }
-    Ok(())
+    all_hold(rt.alloc(), &JUDGED_AGAIN, &IsJudgedAgain)
 }
 
 // The verdict is the packet's length, the 28 octets of its header among them: `ld len`, `ret a`.
 const LENGTH: Listing = &[(0x80, 0, 0, 0), (0x16, 0, 0, 0)];
 
 // Lengths of payloads, from the shortest to the longest.
-const SIZES: [usize; 12] = [
+const SIZES: [u16; 12] = [
     0, 1, 512, 999, 1_000, 1_472, 4_096, 16_384, 32_768, 60_000, 60_001, 65_507,
 ];
 
-// The verdicts on a payload of this many octets: as it is judged in advance, and as it is then found.
-fn verdicts_of(rt: &HostRuntime, slots: &Slots, size: usize) -> Result<[Verdict; 2], Fail> {
-    let payload = vec![in rt.alloc(); 7u8; size]?;
-    let arrived = datagram(rt, Socket::Icp, FROM, payload.as_slice())?;
-    let judged = slots.judge(Arc::new(rt.alloc(), arrived)?)?;
-    Ok([judged.verdict(), slots.force_judged(&judged)])
+// A datagram with a payload of this many octets.
+fn sevens(alloc: Global, size: u16) -> Result<Datagram, Fail> {
+    let payload = vec![in alloc; 7u8; size as usize]?;
+    datagram(alloc, Socket::Icp, FROM, payload.as_slice())
 }
 
-// Whether both filters let through a payload of each length.
-fn are_judged(rt: &HostRuntime, slots: &Slots) -> Result<bool, Fail> {
-    for size in &SIZES {
+// Both filters let through a payload of a row's length.
+#[derive(Drop)]
+struct LetsThrough<'a> {
+    slots: &'a Slots,
+}
+
+impl Question<u16> for LetsThrough<'_> {
+    fn holds(&self, alloc: Global, row: &u16) -> Result<bool, Fail> {
         let wanted = Verdict {
-            value: 28 + *size as u32,
+            value: 28 + *row as u32,
             steps: 4,
         };
-        if verdicts_of(rt, slots, *size)? != [wanted, wanted] {
-            return Ok(false);
-        }
+        let arrived = Arc::new(alloc, sevens(alloc, *row)?)?;
+        Ok(verdicts_now(self.slots, arrived)? == [wanted, wanted])
     }
-    Ok(true)
 }
 
 #[test]
 fn payloads_of_all_lengths_are_judged(rt: HostRuntime) -> Result<(), Fail> {
-    let slots = slots_of(&rt, LENGTH, LENGTH)?;
-    let are_judged = are_judged(&rt, &slots);
+    let slots = slots_of(rt.alloc(), LENGTH, LENGTH)?;
+    let told = all_hold(rt.alloc(), &SIZES, &LetsThrough { slots: &slots });
     drop(slots);
-    assert!(rt; are_judged?);
-    Ok(())
+    told
 }
 
 // Whether a slot that doesn't exist accepts no program, returns none and holds none.
-fn is_nowhere(rt: &HostRuntime, slots: &mut Slots, slot: Slot) -> Result<bool, Fail> {
-    let is_put = slots.install(slot, limit(rt, 0)?).err() == Some(NoSlot);
+fn is_nowhere(alloc: Global, slots: &mut Slots, slot: Slot) -> Result<bool, Fail> {
+    let is_put = slots.install(slot, limit(alloc, 0)?).err() == Some(NoSlot);
     let is_cleared = slots.clear(slot).err() == Some(NoSlot);
     Ok(is_put && is_cleared && slots.installed(slot).is_none() && !slots.has(slot))
 }
 
 // Whether an existing slot of a neighbour is empty and judges nothing.
-fn is_empty(rt: &HostRuntime, slots: &mut Slots) -> Result<bool, Fail> {
-    let cleared = slots.clear(Slot::Neighbour(0))?;
-    Ok(cleared.is_none() && verdicts(rt, slots)? == (WHOLE, WHOLE))
+fn is_empty(alloc: Global, slots: &mut Slots) -> Result<bool, Fail> {
+    let cleared = limit_of(slots.clear(Slot::Neighbour(0))?);
+    Ok(cleared == None && verdicts(alloc, slots)? == (WHOLE, WHOLE))
 }
 
 #[test]
 fn missing_slots_are_told(rt: HostRuntime) -> Result<(), Fail> {
-    assert!(rt; is_nowhere(&rt, &mut slots_of(&rt, NONE, NONE)?, Slot::Neighbour(1))?);
-    assert!(rt; is_empty(&rt, &mut slots_of(&rt, NONE, NONE)?)?);
+    let mut slots = slots_of(rt.alloc(), NONE, NONE)?;
+    let is_nowhere = is_nowhere(rt.alloc(), &mut slots, Slot::Neighbour(1));
+    drop(slots);
+    assert!(rt; is_nowhere?);
+    let mut slots = slots_of(rt.alloc(), NONE, NONE)?;
+    let is_empty = is_empty(rt.alloc(), &mut slots);
+    drop(slots);
+    assert!(rt; is_empty?);
     Ok(())
 }
 
@@ -474,8 +606,8 @@ fn crowded(n: u16) -> End {
 }
 
 // The first `count` of these neighbours.
-fn crowd(rt: &HostRuntime, count: u16) -> Result<Vec<(Socket, End)>, Fail> {
-    let mut neighbours = Vec::new(rt.alloc());
+fn crowd(alloc: Global, count: u16) -> Result<Vec<(Socket, End)>, Fail> {
+    let mut neighbours = Vec::new(alloc);
     for n in 0..count {
         neighbours.push((Socket::Icp, crowded(n)))?;
     }
@@ -483,44 +615,63 @@ fn crowd(rt: &HostRuntime, count: u16) -> Result<Vec<(Socket, End)>, Fail> {
 }
 
 // Slots of 64 of these neighbours; the n-th has the limit 100 + n.
-fn crowded_slots(rt: &HostRuntime) -> Result<Slots, Fail> {
-    let neighbours = crowd(rt, 64)?;
-    let mut slots = Slots::new(&neighbours).ok_or("slots")?;
+fn crowded_slots(alloc: Global) -> Result<Slots, Fail> {
+    let neighbours = crowd(alloc, 64)?;
+    let slots = Slots::new(&neighbours);
+    drop(neighbours);
+    let mut slots = slots.ok_or("slots")?;
+    let are_put = put_limits(alloc, &mut slots);
+    kept_if(slots, are_put)
+}
+
+// Installs the limits of 64 neighbours.
+fn put_limits(alloc: Global, slots: &mut Slots) -> Result<(), Fail> {
     for n in 0..64u16 {
-        slots.install(Slot::Neighbour(n as usize), limit(rt, 100 + n as u32)?)?;
+        put(
+            slots,
+            Slot::Neighbour(n as usize),
+            limit(alloc, 100 + n as u32)?,
+        )?;
     }
-    Ok(slots)
+    Ok(())
 }
 
 // The verdict on the QUERY from the n-th of these neighbours.
-fn verdict_on(rt: &HostRuntime, slots: &Slots, n: u16) -> Result<u32, Fail> {
-    let one = datagram(rt, Socket::Icp, crowded(n), &QUERY)?;
-    Ok(slots.force(&one).value)
+fn verdict_on(alloc: Global, slots: &Slots, n: u16) -> Result<u32, Fail> {
+    Ok(forced(alloc, slots, Socket::Icp, crowded(n), &QUERY)?.value)
 }
 
 // Whether each of these neighbours has its own verdict, and any other sender that of an empty slot.
-fn are_told_apart(rt: &HostRuntime, slots: &Slots) -> Result<bool, Fail> {
+fn are_told_apart(alloc: Global, slots: &Slots) -> Result<bool, Fail> {
     for n in 0..64u16 {
-        if verdict_on(rt, slots, n)? != 100 + n as u32 {
+        if verdict_on(alloc, slots, n)? != 100 + n as u32 {
             return Ok(false);
         }
     }
-    Ok(verdict_on(rt, slots, 64)? == WHOLE)
+    Ok(verdict_on(alloc, slots, 64)? == WHOLE)
 }
 
 #[test]
 fn a_crowd_in_one_bucket_is_told_apart(rt: HostRuntime) -> Result<(), Fail> {
-    let slots = crowded_slots(&rt)?;
-    let are_told_apart = are_told_apart(&rt, &slots);
+    let slots = crowded_slots(rt.alloc())?;
+    let are_told_apart = are_told_apart(rt.alloc(), &slots);
     drop(slots);
     assert!(rt; are_told_apart?);
     Ok(())
 }
 
+// A copy of such slots, which are let go of.
+fn copied_slots(alloc: Global) -> Result<Slots, Fail> {
+    let slots = crowded_slots(alloc)?;
+    let copy = slots.copy();
+    drop(slots);
+    Ok(copy?)
+}
+
 #[test]
 fn a_copy_tells_a_crowd_apart(rt: HostRuntime) -> Result<(), Fail> {
-    let slots = crowded_slots(&rt)?.copy()?;
-    let are_told_apart = are_told_apart(&rt, &slots);
+    let slots = copied_slots(rt.alloc())?;
+    let are_told_apart = are_told_apart(rt.alloc(), &slots);
     drop(slots);
     assert!(rt; are_told_apart?);
     Ok(())
@@ -531,13 +682,21 @@ fn are_slots(neighbours: &[(Socket, End)]) -> bool {
     Slots::new(neighbours).is_some()
 }
 
+// Whether slots can be made of too many neighbours; of three and one of these ends on the other socket; of these and one of them
+// twice.
+fn are_taken(alloc: Global) -> Result<[bool; 3], Fail> {
+    let too_many = crowd(alloc, 65)?;
+    let are_many_taken = are_slots(&too_many);
+    drop(too_many);
+    let mut neighbours = crowd(alloc, 3)?;
+    neighbours.push((Socket::Htcp, crowded(1)))?;
+    let are_four_taken = are_slots(&neighbours);
+    neighbours.push((Socket::Icp, crowded(1)))?;
+    Ok([are_many_taken, are_four_taken, are_slots(&neighbours)])
+}
+
 #[test]
 fn crowds_and_doubles_are_refused(rt: HostRuntime) -> Result<(), Fail> {
-    assert!(rt; !are_slots(&crowd(&rt, 65)?));
-    let mut neighbours = crowd(&rt, 3)?;
-    neighbours.push((Socket::Htcp, crowded(1)))?;
-    assert!(rt; are_slots(&neighbours));
-    neighbours.push((Socket::Icp, crowded(1)))?;
-    assert!(rt; !are_slots(&neighbours));
+    assert!(rt; are_taken(rt.alloc())? == [false, true, false]);
     Ok(())
 }

@@ -21,11 +21,8 @@ fn key_of(alloc: Global, number: u32) -> Option<CacheKey> {
 /// An object that stays fresh for years.
 fn object_of(alloc: Global) -> Option<SharedObject> {
     let body = b"hi".to_vec(alloc).ok()?;
-    SharedObject::new(
-        alloc,
-        Object::new(200, Vec::new(alloc), body, 0, 1_000_000_000),
-    )
-    .ok()
+    let object = Object::new(200, Vec::new(alloc), body, 0, 1_000_000_000);
+    SharedObject::new(alloc, object).ok()
 }
 
 /// The moment that tells the entry with this number from all others.
@@ -35,25 +32,38 @@ fn moment_of(number: u32) -> Option<Moment> {
 
 /// Puts the pair with this number. `None` if it is refused.
 fn put(alloc: Global, store: &mut Store, object: &SharedObject, number: u32) -> Option<()> {
-    let object = object.share().ok()?;
     let at = moment_of(number)?;
-    store.put(key_of(alloc, number)?, Entry { object, at }).ok()
+    let key = key_of(alloc, number)?;
+    let object = object.share().ok()?;
+    store.put(key, Entry { object, at }).ok()
 }
 
 /// Puts the pairs with the numbers below this one, in order.
 fn fill(alloc: Global, store: &mut Store, count: u32) -> Option<()> {
     let object = object_of(alloc)?;
+    let are_put = put_all(alloc, store, &object, count);
+    drop(object);
+    are_put
+}
+
+/// The same for this object.
+fn put_all(alloc: Global, store: &mut Store, object: &SharedObject, count: u32) -> Option<()> {
     for number in 0..count {
-        put(alloc, store, &object, number)?;
+        put(alloc, store, object, number)?;
     }
     Some(())
 }
 
 /// Whether the store has the entry with this number under its key.
 fn holds(alloc: Global, store: &Store, number: u32) -> Option<bool> {
-    let key = key_of(alloc, number)?;
     let at = moment_of(number)?;
-    Some(store.peek(&key, at).is_some_and(|entry| entry.at == at))
+    let key = key_of(alloc, number)?;
+    let is_held = match store.peek(&key, at) {
+        Some(entry) => entry.at == at,
+        None => false,
+    };
+    drop(key);
+    Some(is_held)
 }
 
 /// How many of the numbers below this one the store holds.

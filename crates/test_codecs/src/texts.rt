@@ -1,5 +1,6 @@
 //! Tables of texts, with the programs or faults that they are read as.
 
+use crate::rows::{Question, all_hold};
 use bpf_asm::{assemble, to_text};
 use bpf_check::{Insn, check, read_listing};
 use std::alloc::Global;
@@ -145,75 +146,94 @@ const PRINTED: &[&str] = &[
     "23\n48 0 0 0\n84 0 0 240\n21 0 6 96\n48 0 0 6\n21 0 17 17\n40 0 0 40\n21 14 0 3130\n40 0 0 42\n21 12 13 3130\n48 0 0 0\n84 0 0 240\n21 0 10 64\n48 0 0 9\n21 0 8 17\n40 0 0 6\n69 6 0 8191\n177 0 0 0\n72 0 0 0\n21 2 0 3130\n72 0 0 2\n21 0 1 3130\n6 0 0 262144\n6 0 0 0\n",
 ];
 
+// The number and the line of a listing's fault, 0 if it has none.
 fn listing_fault(alloc: Global, text: &str) -> (u8, usize) {
-    match read_listing(alloc, text.as_bytes()) {
-        Ok(_) => (0, 0),
-        Err(fault) => (fault.number(), fault.line().unwrap_or(0)),
+    match read_listing(alloc, text.as_bytes()).err() {
+        Some(fault) => (fault.number(), fault.line().unwrap_or(0)),
+        None => (0, 0),
     }
 }
 
+// The same of an assembler text.
 fn text_fault(alloc: Global, text: &str) -> (u8, usize) {
-    match assemble(alloc, text.as_bytes()) {
-        Ok(_) => (0, 0),
-        Err(fault) => (fault.number(), fault.line().unwrap_or(0)),
+    match assemble(alloc, text.as_bytes()).err() {
+        Some(fault) => (fault.number(), fault.line().unwrap_or(0)),
+        None => (0, 0),
     }
 }
 
-// The text of a program, or `None` if the checker refuses it.
-fn text_of(alloc: Global, insns: Vec<Insn>) -> Option<String> {
-    let Ok(program) = check(insns) else {
-        return None;
-    };
-    to_text(alloc, &program).ok()
+// A text, and the number and the line of its fault.
+type Faulty = (&'static str, u8, usize);
+
+struct OfListing;
+
+impl Question<Faulty> for OfListing {
+    fn holds(&self, alloc: Global, row: &Faulty) -> Result<bool, Fail> {
+        Ok(listing_fault(alloc, row.0) == (row.1, row.2))
+    }
 }
 
-// Whether the program of the listing is written as this text, which is assembled to the same program.
-fn is_printed(alloc: Global, listing: &str, expected: Option<&str>) -> bool {
-    let (Ok(first), Ok(second)) = (
-        read_listing(alloc, listing.as_bytes()),
-        read_listing(alloc, listing.as_bytes()),
-    ) else {
-        return false;
-    };
-    let Some(text) = text_of(alloc, first) else {
-        return false;
-    };
-    let Ok(again) = assemble(alloc, text.as_str().as_bytes()) else {
-        return false;
-    };
-    again.as_slice() == second.as_slice() && text.as_str() == expected.unwrap_or(text.as_str())
+struct OfText;
+
+impl Question<Faulty> for OfText {
+    fn holds(&self, alloc: Global, row: &Faulty) -> Result<bool, Fail> {
+        Ok(text_fault(alloc, row.0) == (row.1, row.2))
+    }
 }
 
 #[test]
 fn faults_come_in_order(rt: HostRuntime) -> Result<(), Fail> {
-    for (text, number, line) in LISTINGS {
-        assert_eq!(rt; listing_fault(rt.alloc(), text), (*number, *line));
-    }
-    for (text, number, line) in TEXTS {
-        assert_eq!(rt; text_fault(rt.alloc(), text), (*number, *line));
-    }
-    Ok(())
+    all_hold(rt.alloc(), LISTINGS, &OfListing)?;
+    all_hold(rt.alloc(), TEXTS, &OfText)
+}
+
+// Whether a text is assembled to the program of a listing. `None` if one of them has a fault.
+fn is_assembled(alloc: Global, text: &str, listing: &str) -> Option<bool> {
+    let program = assemble(alloc, text.as_bytes()).ok()?;
+    let listed = read_listing(alloc, listing.as_bytes()).ok()?;
+    Some(program.as_slice() == listed.as_slice())
 }
 
 #[test]
-fn addresses_are_read(rt: HostRuntime) -> Result<(), Fail> {
-    let read = assemble(rt.alloc(), ADDRESSES.0.as_bytes())
-        .ok()
-        .ok_or("the text")?;
-    let expected = read_listing(rt.alloc(), ADDRESSES.1.as_bytes())
-        .ok()
-        .ok_or("the listing")?;
-    assert!(rt; read.as_slice() == expected.as_slice());
-    Ok(())
+fn addresses_are_read(rt: HostRuntime) {
+    assert!(rt; is_assembled(rt.alloc(), ADDRESSES.0, ADDRESSES.1) == Some(true));
+}
+
+// The text of a program, or `None` if the checker refuses it.
+fn text_of(alloc: Global, insns: Vec<Insn>) -> Option<String> {
+    let program = check(insns).ok()?;
+    let text = to_text(alloc, &program).ok();
+    drop(program);
+    text
+}
+
+// Whether the program of the listing is written as this text, which is assembled to the same program.
+fn is_printed(alloc: Global, listing: &str, expected: Option<&str>) -> Option<bool> {
+    let text = text_of(alloc, read_listing(alloc, listing.as_bytes()).ok()?)?;
+    let is_same = is_assembled(alloc, text.as_str(), listing)?;
+    Some(is_same && text.as_str() == expected.unwrap_or(text.as_str()))
+}
+
+// The program of a row is written as its text.
+struct PrintedAs;
+
+impl Question<(&'static str, &'static str)> for PrintedAs {
+    fn holds(&self, alloc: Global, row: &(&'static str, &'static str)) -> Result<bool, Fail> {
+        Ok(is_printed(alloc, row.1, Some(row.0)) == Some(true))
+    }
+}
+
+// The program of a listing is written as a text that is read as it.
+struct IsPrinted;
+
+impl Question<&'static str> for IsPrinted {
+    fn holds(&self, alloc: Global, row: &&'static str) -> Result<bool, Fail> {
+        Ok(is_printed(alloc, *row, None) == Some(true))
+    }
 }
 
 #[test]
 fn programs_are_printed_and_read(rt: HostRuntime) -> Result<(), Fail> {
-    for (text, listing) in PROGRAMS {
-        assert!(rt; is_printed(rt.alloc(), listing, Some(*text)));
-    }
-    for listing in PRINTED {
-        assert!(rt; is_printed(rt.alloc(), listing, None));
-    }
-    Ok(())
+    all_hold(rt.alloc(), PROGRAMS, &PrintedAs)?;
+    all_hold(rt.alloc(), PRINTED, &IsPrinted)
 }

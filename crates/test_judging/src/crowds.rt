@@ -107,8 +107,17 @@ fn work<L: Ledger, R: Wait>(
 ) -> Option<(u64, Seat<L>)> {
     let place = seat.place();
     let mut clerk = Seated::new(alloc, rt, desk, seat);
-    let sent = work_by(alloc, &mut clerk, place, crowd)?;
-    Some((sent, clerk.into_seat()))
+    let sent = work_by(alloc, &mut clerk, place, crowd);
+    with_seat(sent, clerk.into_seat())
+}
+
+/// A number, if there is one, and the seat.
+fn with_seat<L: Ledger>(sent: Option<u64>, seat: Seat<L>) -> Option<(u64, Seat<L>)> {
+    let Some(sent) = sent else {
+        drop(seat);
+        return None;
+    };
+    Some((sent, seat))
 }
 
 /// Runs a thread for each seat. Returns what each gives.
@@ -137,6 +146,29 @@ fn summed<L: Ledger>(
     Some((sent, back))
 }
 
+/// Runs a thread for each seat. Returns the total number of sends, and the seats.
+fn all_worked<L: Ledger + Send + Sync, R: Threads + Wait + Sync>(
+    rt: &R,
+    alloc: Global,
+    desk: &Desk<L>,
+    seats: Vec<Seat<L>>,
+    crowd: Crowd,
+) -> Option<(u64, Vec<Seat<L>>)> {
+    summed(alloc, each_worked(rt, alloc, desk, seats, crowd)?)
+}
+
+/// The number of sends, and the report of the desk that is settled with these seats, if there are any.
+fn settled_with<L: Ledger>(
+    desk: Desk<L>,
+    worked: Option<(u64, Vec<Seat<L>>)>,
+) -> Option<(u64, Report)> {
+    let Some((sent, seats)) = worked else {
+        drop(desk);
+        return None;
+    };
+    Some((sent, settled(desk, seats)?))
+}
+
 /// Runs the threads at a new desk and settles it. Returns the total number of sends, the ICP counters, the number of swaps and
 /// the report.
 fn told<L: Ledger + Send + Sync, R: Threads + Wait + Sync>(
@@ -150,15 +182,17 @@ fn told<L: Ledger + Send + Sync, R: Threads + Wait + Sync>(
     requires one_each { blank.parts ≡ 4 }
 {
     let (desk, seats) = desk_of::<L>(alloc, blank, crowd.volume, 4)?;
-    let each = each_worked(rt, alloc, &desk, seats, crowd)?;
-    let (sent, seats) = summed(alloc, each)?;
+    let worked = all_worked(rt, alloc, &desk, seats, crowd);
     let (icp, swaps) = (desk.stats(rt).icp, desk.swaps());
-    Some((sent, icp, swaps, settled(desk, seats)?))
+    let (sent, report) = settled_with(desk, worked)?;
+    Some((sent, icp, swaps, report))
 }
 
 /// Whether each datagram was judged and either rejected or answered, and the swaps and the report are as expected.
-fn adds_up(crowd: Crowd, told: (u64, Counters, u64, Report)) -> bool {
-    let (sent, icp, swaps, report) = told;
+fn adds_up(crowd: Crowd, told: Option<(u64, Counters, u64, Report)>) -> bool {
+    let Some((sent, icp, swaps, report)) = told else {
+        return false;
+    };
     let asked = SUBMITTERS * crowd.datagrams as u64;
     let is_whole = icp.cut == 0 && icp.malformed == 0;
     let is_split = icp.rejected.checked_add(sent) == Some(asked);
@@ -168,8 +202,8 @@ fn adds_up(crowd: Crowd, told: (u64, Counters, u64, Report)) -> bool {
 
 #[test]
 fn counters_add_up_while_filters_are_swapped(rt: HostRuntime) {
-    for crowd in CROWDS {
-        let told = told::<Brand, _>(&rt, rt.alloc(), Blank::new(4), crowd);
-        assert!(rt; told.is_some_and(|told| adds_up(crowd, told)));
+    for crowd in &CROWDS {
+        let told = told::<Brand, _>(&rt, rt.alloc(), Blank::new(4), *crowd);
+        assert!(rt; adds_up(*crowd, told));
     }
 }

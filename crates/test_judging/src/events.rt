@@ -99,11 +99,10 @@ pub(crate) fn program(alloc: Global, k: u32) -> Option<Arc<Checked>> {
 pub(crate) fn judged_by(alloc: Global, slot: Slot, k: Option<u32>) -> Option<Judged> {
     let datagram = query(alloc)?;
     let program = program_if(alloc, k)?;
-    let (first, second) = match slot {
-        Slot::Socket(_) => (program, None),
-        Slot::Neighbour(_) => (None, program),
-    };
-    Some(Judged::new(datagram, first, second))
+    match slot {
+        Slot::Socket(_) => Some(Judged::new(datagram, program, None)),
+        Slot::Neighbour(_) => Some(Judged::new(datagram, None, program)),
+    }
 }
 
 /// A filter that returns k for every packet, or no filter if `k` is `None`.

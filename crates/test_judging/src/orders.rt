@@ -10,7 +10,6 @@ use std::alloc::Global;
 use std::marker::Brand;
 use std::sync::Wait;
 use std::sync::ledger::{Blank, Ledger};
-use std::test::Fail;
 
 /// The verdict of the filter that judges the query, that of the filter in force when it is taken, and whether it is answered.
 /// `None` is no filter.
@@ -82,19 +81,22 @@ fn counted(in_force: Option<u32>) -> Counters {
 
 /// Submits a swap, then the query, which was judged before. Returns whether it is answered.
 fn answered<C: Clerk>(alloc: Global, clerk: &mut C, slot: Slot, row: &Row) -> Option<bool> {
-    let now = Moment::new(5)?;
     let judged = judged_by(alloc, slot, row.judged)?;
-    swap_in(alloc, clerk, slot, row.in_force)?;
-    is_answered(alloc, clerk, &judged, now)
+    let is_answered = is_answered(alloc, clerk, slot, row.in_force, &judged);
+    drop(judged);
+    is_answered
 }
 
-/// Submits the judged query. Returns whether it is answered.
+/// The same of this query.
 fn is_answered<C: Clerk>(
     alloc: Global,
     clerk: &mut C,
+    slot: Slot,
+    in_force: Option<u32>,
     judged: &Judged,
-    now: Moment,
 ) -> Option<bool> {
+    let now = Moment::new(5)?;
+    swap_in(alloc, clerk, slot, in_force)?;
     let mut out = Out::new(alloc).ok()?;
     match takes_judged(alloc, clerk, judged, now, &mut out) {
         true => is_answer(&out),
@@ -105,21 +107,28 @@ fn is_answered<C: Clerk>(
 /// Submits the judged query to a new node's clerk. Returns whether it is answered, and the counters.
 fn answered_alone(alloc: Global, slot: Slot, row: &Row) -> Option<(bool, Counters)> {
     let mut clerk = lone_of(alloc)?;
-    let is_answered = answered(alloc, &mut clerk, slot, row)?;
-    Some((is_answered, counted_by(&clerk)))
+    let is_answered = answered(alloc, &mut clerk, slot, row);
+    let icp = counted_by(&clerk);
+    drop(clerk);
+    Some((is_answered?, icp))
+}
+
+/// Whether the query is answered and counted as a row says, for each slot.
+fn holds_alone(alloc: Global, row: &Row) -> bool {
+    for slot in &SLOTS {
+        let told = answered_alone(alloc, *slot, row);
+        if told != Some((row.is_answered, counted(row.in_force))) {
+            return false;
+        }
+    }
+    true
 }
 
 #[test]
-fn a_node_by_itself_judges_again(rt: HostRuntime) -> Result<(), Fail> {
+fn a_node_by_itself_judges_again(rt: HostRuntime) {
     for row in &ROWS {
-        for slot in SLOTS {
-            let told = answered_alone(rt.alloc(), slot, row);
-            let (is_answered, icp) = told.ok_or("the query is taken")?;
-            assert!(rt; is_answered == row.is_answered);
-            assert!(rt; icp == counted(row.in_force));
-        }
+        assert!(rt; holds_alone(rt.alloc(), row));
     }
-    Ok(())
 }
 
 /// Submits the judged query at the last of the seats. Returns whether it is answered.
@@ -132,9 +141,9 @@ fn answered_at<L: Ledger, R: Wait>(
     row: &Row,
 ) -> Option<bool> {
     let mut clerk = Seated::new(alloc, rt, desk, seats.pop()?);
-    let is_answered = answered(alloc, &mut clerk, slot, row)?;
+    let is_answered = answered(alloc, &mut clerk, slot, row);
     seats.push(clerk.into_seat()).ok()?;
-    Some(is_answered)
+    is_answered
 }
 
 /// Submits the judged query at a new desk and settles it. Returns whether it is answered, the counters and the report.
@@ -150,25 +159,25 @@ fn told<L: Ledger, R: Wait>(
     requires one { blank.parts ≡ 1 }
 {
     let (desk, mut seats) = desk_of::<L>(alloc, blank, 4, 1)?;
-    let is_answered = answered_at(rt, alloc, &desk, &mut seats, slot, row)?;
+    let is_answered = answered_at(rt, alloc, &desk, &mut seats, slot, row);
     let icp = desk.stats(rt).icp;
-    Some((is_answered, icp, settled(desk, seats)?))
+    let report = settled(desk, seats)?;
+    Some((is_answered?, icp, report))
 }
 
 #[test]
-fn a_desk_judges_again(rt: HostRuntime) -> Result<(), Fail> {
+fn a_desk_judges_again(rt: HostRuntime) {
     let report = Report {
         count: 2,
         base: 0,
         matched: 2,
     };
     for row in &ROWS {
-        for slot in SLOTS {
-            let told = told::<Brand, _>(&rt, rt.alloc(), Blank::new(1), slot, row);
+        for slot in &SLOTS {
+            let told = told::<Brand, _>(&rt, rt.alloc(), Blank::new(1), *slot, row);
             assert!(rt; told == Some((row.is_answered, counted(row.in_force), report)));
         }
     }
-    Ok(())
 }
 
 /// Whether this is the event of the query's arrival at second 5.
@@ -181,16 +190,26 @@ fn keeps(alloc: Global, book: &mut Booked, judged: &Judged) -> Option<bool> {
     let now = at(5)?;
     let mut out = Out::new(alloc).ok()?;
     let receipt = booked(alloc, book, judged, now, &mut out).ok()?;
-    let is_same = is_arrival(alloc, &*receipt.event)?;
+    let is_same = is_arrival(alloc, &*receipt.event);
+    drop(receipt);
     let refused = booked(alloc, book, judged, now, &mut out).err();
-    Some(is_same && refused == Some(TakeFault::VolumeFull) && book.count() == 1)
+    Some(is_same? && refused == Some(TakeFault::VolumeFull) && book.count() == 1)
 }
 
 /// The same for a new book.
+fn kept_by_new(alloc: Global, judged: &Judged) -> Option<bool> {
+    let mut book = book_of(alloc, 1)?;
+    let is_kept = keeps(alloc, &mut book, judged);
+    drop(book);
+    is_kept
+}
+
+/// The same for the query, judged by a filter that accepts it.
 fn is_kept(alloc: Global) -> Option<bool> {
     let judged = judged_by(alloc, SLOTS[0], Some(65_535))?;
-    let mut book = book_of(alloc, 1)?;
-    keeps(alloc, &mut book, &judged)
+    let is_kept = kept_by_new(alloc, &judged);
+    drop(judged);
+    is_kept
 }
 
 #[test]

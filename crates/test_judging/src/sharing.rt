@@ -40,9 +40,9 @@ fn held_at<L: Ledger, R: Wait>(
     slot: Slot,
 ) -> Option<usize> {
     let mut clerk = Seated::new(alloc, rt, desk, seats.pop()?);
-    let held = held_by(alloc, &mut clerk, slot)?;
+    let held = held_by(alloc, &mut clerk, slot);
     seats.push(clerk.into_seat()).ok()?;
-    Some(held)
+    held
 }
 
 /// The same at a new desk, which is settled.
@@ -52,16 +52,16 @@ fn told<L: Ledger, R: Wait>(rt: &R, alloc: Global, blank: Blank, slot: Slot) -> 
     requires one { blank.parts ≡ 1 }
 {
     let (desk, mut seats) = desk_of::<L>(alloc, blank, 4, 1)?;
-    let held = held_at(rt, alloc, &desk, &mut seats, slot)?;
+    let held = held_at(rt, alloc, &desk, &mut seats, slot);
     settled(desk, seats)?;
-    Some(held)
+    held
 }
 
 #[test]
 fn a_judged_datagram_shares_the_installed_filter(rt: HostRuntime) {
-    for slot in SLOTS {
-        assert!(rt; held_alone(rt.alloc(), slot) == Some(1));
-        let told = told::<Brand, _>(&rt, rt.alloc(), Blank::new(1), slot);
+    for slot in &SLOTS {
+        assert!(rt; held_alone(rt.alloc(), *slot) == Some(1));
+        let told = told::<Brand, _>(&rt, rt.alloc(), Blank::new(1), *slot);
         assert!(rt; told == Some(1));
     }
 }

@@ -45,9 +45,11 @@ fn steps_but(place: usize, fault: WireFault) -> [Step; 5] {
 /// Pumps while one of five receives fails. Returns the error, and whether all earlier queries were judged and answered.
 fn loses(alloc: Global, row: &Row, fault: WireFault) -> Option<(Option<PumpFault>, bool)> {
     let mut wire = wire_of(alloc, &steps_but(row.place, fault), &[])?;
-    let (gives, judged) = pumped_alone(alloc, &mut wire, 5)?;
-    let stands = has_replied(&wire, row.replied) && judged == row.replied.len() as u64;
-    Some((gives.err(), stands))
+    let told = pumped_alone(alloc, &mut wire, 5);
+    let replied = has_replied(&wire, row.replied);
+    drop(wire);
+    let (gives, judged) = told?;
+    Some((gives.err(), replied && judged == row.replied.len() as u64))
 }
 
 #[test]
@@ -102,8 +104,10 @@ fn failing_at(place: usize) -> [bool; 5] {
 /// Pumps while one of five sends fails. Returns what `pump` gives, and whether all others were sent and that one wasn't retried.
 fn leaves_out(alloc: Global, row: &Row) -> Option<(Option<Pumped>, bool)> {
     let mut wire = wire_of(alloc, &FIVE, &failing_at(row.place))?;
-    let (gives, _) = pumped_alone(alloc, &mut wire, 5)?;
+    let told = pumped_alone(alloc, &mut wire, 5);
     let stands = has_replied(&wire, row.replied) && wire.faults() == 1;
+    drop(wire);
+    let (gives, _) = told?;
     Some((gives.ok(), stands))
 }
 

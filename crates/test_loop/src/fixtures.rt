@@ -78,20 +78,18 @@ fn network(first: u8) -> Network {
 
 /// The node's neighbours: one or none.
 fn neighbours_of(alloc: Global, site: Site) -> Option<Vec<Neighbour>> {
-    let mut neighbours = Vec::new(alloc);
-    if let Some((kind, end)) = site.silent {
-        neighbours
-            .push(Neighbour {
-                kind,
-                protocol: Socket::Icp,
-                end,
-                http_port: 3128,
-                weight: 1,
-                key: None,
-            })
-            .ok()?;
-    }
-    Some(neighbours)
+    let Some((kind, end)) = site.silent else {
+        return Some(Vec::new(alloc));
+    };
+    let silent = Neighbour {
+        kind,
+        protocol: Socket::Icp,
+        end,
+        http_port: 3128,
+        weight: 1,
+        key: None,
+    };
+    Vec::from_array(alloc, [silent]).ok()
 }
 
 /// The networks 10.0.0.0/8 and 127.0.0.0/8.

@@ -134,7 +134,9 @@ fn holds(alloc: Global, clerk: &mut Limited<Lone>, row: &Row) -> Option<bool> {
     let mut wire = wire_of(alloc, &FIVE, &[])?;
     let gives = pumped(alloc, &mut wire, clerk, 5);
     let one_more = wire.taken().checked_sub(1) == Some(row.replied.len());
-    Some(gives.err() == Some(row.gives) && one_more && has_replied(&wire, row.replied))
+    let replied = has_replied(&wire, row.replied);
+    drop(wire);
+    Some(gives.err() == Some(row.gives) && one_more && replied)
 }
 
 /// Whether a row holds for a new node's clerk, or `None` if an allocation fails.
@@ -160,7 +162,9 @@ fn a_clerk_takes_no_more(rt: HostRuntime) {
 /// Pumps an idle turn at 3000 and a query. Returns the error, if there is one.
 fn fault_after_idle(alloc: Global, clerk: &mut Limited<Lone>) -> Option<Option<PumpFault>> {
     let mut wire = wire_of(alloc, &[Step::Idle(3_000), Step::Query(0)], &[])?;
-    Some(pumped(alloc, &mut wire, clerk, 2).err())
+    let gives = pumped(alloc, &mut wire, clerk, 2);
+    drop(wire);
+    Some(gives.err())
 }
 
 /// Pumps an idle turn in which two fetches are due, while the clerk takes only `passes` actions. Returns the error, if there is

@@ -14,18 +14,17 @@ const CUT_OFF: Site = Site {
     origin: false,
 };
 
-/// A node at which clients 1 and 2 asked at 1000 for different URLs, after an idle turn at 2999.
-fn waiting(alloc: Global, site: Site) -> Option<Lone> {
-    let mut clerk = asked(alloc, site)?;
-    is_idle(alloc, &mut clerk, 2_999).then_some(clerk)
-}
-
 /// Pumps one idle turn. Returns whether that succeeds.
 fn is_idle(alloc: Global, clerk: &mut Lone, now: u64) -> bool {
     match wire_of(alloc, &[Step::Idle(now)], &[]) {
         Some(mut wire) => pumped(alloc, &mut wire, clerk, 1).is_ok(),
         None => false,
     }
+}
+
+/// Whether nothing is passed on in an idle turn at 2999.
+fn waits(alloc: Global, clerk: &mut Lone) -> bool {
+    is_idle(alloc, clerk, 2_999) && clerk.passed().is_empty()
 }
 
 /// Whether a fetch is pending and so has a key, or `None` if an allocation fails.
@@ -59,28 +58,36 @@ fn are_refusals(passed: &[Action]) -> bool {
     }
 }
 
+/// Whether both fetches are passed on in an idle turn at 3000, and not before, and are pending then.
+fn passes_fetches(alloc: Global, clerk: &mut Lone) -> bool {
+    waits(alloc, clerk)
+        && is_idle(alloc, clerk, 3_000)
+        && are_fetches(clerk.passed())
+        && has_key(alloc, clerk, 2) == Some(true)
+        && has_key(alloc, clerk, 3) == Some(false)
+}
+
 /// Rounds with a silent parent end in an idle turn 2,000 ms after they start; then the fetches are passed on.
 #[test]
 fn a_fetch_is_passed(rt: HostRuntime) -> Result<(), Fail> {
-    let alloc = rt.alloc();
-    let mut clerk = waiting(alloc, WAITS).ok_or("a clerk")?;
-    assert!(rt; clerk.passed().is_empty());
-    assert!(rt; is_idle(alloc, &mut clerk, 3_000));
-    assert!(rt; are_fetches(clerk.passed()));
-    assert!(rt; has_key(alloc, &mut clerk, 2) == Some(true));
-    assert!(rt; has_key(alloc, &mut clerk, 3) == Some(false));
+    let mut clerk = asked(rt.alloc(), WAITS).ok_or("a clerk")?;
+    let passes = passes_fetches(rt.alloc(), &mut clerk);
     drop(clerk);
+    assert!(rt; passes);
     Ok(())
+}
+
+/// Whether both clients are refused in an idle turn at 3000, and not before.
+fn passes_refusals(alloc: Global, clerk: &mut Lone) -> bool {
+    waits(alloc, clerk) && is_idle(alloc, clerk, 3_000) && are_refusals(clerk.passed())
 }
 
 /// If no source is left, each client's error answer is passed on.
 #[test]
 fn an_answer_is_passed(rt: HostRuntime) -> Result<(), Fail> {
-    let alloc = rt.alloc();
-    let mut clerk = waiting(alloc, CUT_OFF).ok_or("a clerk")?;
-    assert!(rt; clerk.passed().is_empty());
-    assert!(rt; is_idle(alloc, &mut clerk, 3_000));
-    assert!(rt; are_refusals(clerk.passed()));
+    let mut clerk = asked(rt.alloc(), CUT_OFF).ok_or("a clerk")?;
+    let passes = passes_refusals(rt.alloc(), &mut clerk);
     drop(clerk);
+    assert!(rt; passes);
     Ok(())
 }

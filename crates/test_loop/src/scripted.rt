@@ -103,8 +103,11 @@ const ROWS: [Row; 7] = [
 /// Whether a row holds, or `None` if an allocation fails.
 fn holds(alloc: Global, row: &Row) -> Option<bool> {
     let mut wire = wire_of(alloc, row.steps, row.failing)?;
-    let (gives, judged) = pumped_alone(alloc, &mut wire, row.turns)?;
-    Some(gives == row.gives && has_replied(&wire, row.replied) && judged == row.judged)
+    let told = pumped_alone(alloc, &mut wire, row.turns);
+    let replied = has_replied(&wire, row.replied);
+    drop(wire);
+    let (gives, judged) = told?;
+    Some(gives == row.gives && replied && judged == row.judged)
 }
 
 #[test]

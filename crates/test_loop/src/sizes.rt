@@ -13,9 +13,10 @@ const SIZES: [usize; 12] = [
 
 /// A datagram of this many octets, which are no message.
 fn arrival(alloc: Global, size: usize) -> Option<Received> {
+    let now = Moment::new(5)?;
     let payload = vec![in alloc; 0u8; size].ok()?;
     let datagram = Datagram::new(Socket::Icp, PEER, OWN, payload).ok()?;
-    Some(Received::Datagram(Arc::new(alloc, datagram).ok()?, Moment::new(5)?))
+    Some(Received::Datagram(Arc::new(alloc, datagram).ok()?, now))
 }
 
 /// A datagram of each length.
@@ -30,8 +31,9 @@ fn arrivals(alloc: Global) -> Option<Vec<Result<Received, WireFault>>> {
 /// What a loop of a turn for each datagram gives, and how many the node judged.
 fn taken(alloc: Global) -> Option<(Pumped, u64)> {
     let mut wire = MemoryWire::new(alloc, arrivals(alloc)?, Vec::new(alloc));
-    let (gives, judged) = pumped_alone(alloc, &mut wire, 12)?;
+    let told = pumped_alone(alloc, &mut wire, 12);
     drop(wire);
+    let (gives, judged) = told?;
     Some((gives.ok()?, judged))
 }
 
