@@ -4,6 +4,7 @@ pub mod Group
 pub mod Mirrors
 pub mod Origins
 pub mod Own
+pub mod Parts
 pub mod Passing
 pub mod Refresh
 pub mod SharedFields

@@ -136,8 +136,19 @@ fn rules(alloc: Global, value: &Value) -> Result<Vec<RefreshRule>, Fault>
     let mut rules = Vec::new(alloc);
     for i in 0..items.len() {
         let rule = rule(alloc, &items[i], Place::item("refresh", i))?;
-        rules.push(rule).map_err(AllocError::from)?;
+        rules = with_rule(rules, rule)?;
     }
+    Ok(rules)
+}
+
+// These rules and this one.
+fn with_rule(rules: Vec<RefreshRule>, rule: RefreshRule) -> Result<Vec<RefreshRule>, Fault>
+    requires others { All IsRule rules.items }
+    requires this { IsRule rule }
+    ensures { IfOk result (λ after. All IsRule after.items) }
+{
+    let mut rules = rules;
+    rules.push(rule).map_err(AllocError::from)?;
     Ok(rules)
 }
 

@@ -38,10 +38,18 @@ pub(crate) fn front_keys(alloc: Global, value: &Value) -> Result<FrontKeys, Faul
         address: address(alloc, value, top.key("address"))?,
         http_port: port(alloc, value, top.key("http_port"))?,
         admin_port: port(alloc, value, top.key("admin_port"))?,
-        name: String::from_str(alloc, visible(alloc, value, top.key("name"))?)?,
+        name: name(alloc, value, top.key("name"))?,
         admin_token: admin_token(alloc, value)?,
         six_clients: six_clients(alloc, value)?,
     })
+}
+
+// Parses the name in Via fields.
+fn name(alloc: Global, value: &Value, place: Place<'_>) -> Result<String, Fault>
+    ensures { IfOk result (λ name. IsVisible (string_bytes name)) }
+{
+    let name = visible(alloc, value, place)?;
+    Ok(String::from_str(alloc, name)?)
 }
 
 // Parses the administrator's token, if it is given. A fault does not show it.

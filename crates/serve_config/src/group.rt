@@ -64,7 +64,12 @@ fn secret(alloc: Global, text: &str, place: Place<'_>) -> Result<Octets, Fault>
 
 // Whether there is a key with this name.
 fn is_key(keys: &[Key], name: &[u8]) -> bool {
-    keys.iter().any(|key| key.name.as_slice() == name)
+    for key in keys {
+        if key.name.as_slice() == name {
+            return true;
+        }
+    }
+    false
 }
 
 /// The neighbours. Errors: a malformed neighbour, address 0.0.0.0 or a port 0, the same address and query port twice, the name of
@@ -77,28 +82,58 @@ pub(crate) fn neighbours(
     ensures { IfOk result (λ neighbours. All IsReachable neighbours.items) }
 {
     let items = items(value, "neighbours");
-    let mut neighbours = Vec::new(alloc);
-    for i in 0..items.len() {
-        let place = Place::item("neighbours", i);
-        let neighbour = neighbour(alloc, &items[i], place, keys)?;
-        if has_end(neighbours.as_slice(), neighbour.end) {
-            return Err(Fault::value(
-                alloc,
-                place.key("address"),
-                "an earlier neighbour has this address and query_port",
-            ));
-        }
-        neighbours.push(neighbour).map_err(AllocError::from)?;
-    }
+    let neighbours = each_neighbour(alloc, items, keys)?;
     if items.len() > 64 {
+        drop(neighbours);
         return Err(Fault::value(alloc, Place::whole().key("neighbours"), "over 64 of them"));
     }
     Ok(neighbours)
 }
 
+// Parses each neighbour.
+fn each_neighbour(alloc: Global, items: &[Value], keys: &[Key]) -> Result<Vec<Neighbour>, Fault>
+    ensures { IfOk result (λ neighbours. All IsReachable neighbours.items) }
+{
+    let mut neighbours = Vec::new(alloc);
+    for i in 0..items.len() {
+        let place = Place::item("neighbours", i);
+        let neighbour = neighbour(alloc, &items[i], place, keys)?;
+        neighbours = with_neighbour(alloc, neighbours, neighbour, place)?;
+    }
+    Ok(neighbours)
+}
+
+// These neighbours and this one. Errors: one of them has its address and query port, or out of memory.
+fn with_neighbour(
+    alloc: Global,
+    neighbours: Vec<Neighbour>,
+    neighbour: Neighbour,
+    place: Place<'_>,
+) -> Result<Vec<Neighbour>, Fault>
+    requires others { All IsReachable neighbours.items }
+    requires this { IsReachable neighbour }
+    ensures { IfOk result (λ after. All IsReachable after.items) }
+{
+    let mut neighbours = neighbours;
+    if has_end(neighbours.as_slice(), neighbour.end) {
+        return Err(Fault::value(
+            alloc,
+            place.key("address"),
+            "an earlier neighbour has this address and query_port",
+        ));
+    }
+    neighbours.push(neighbour).map_err(AllocError::from)?;
+    Ok(neighbours)
+}
+
 // Whether some neighbour has this address and query port.
 fn has_end(neighbours: &[Neighbour], end: End) -> bool {
-    neighbours.iter().any(|neighbour| neighbour.end == end)
+    for neighbour in neighbours {
+        if neighbour.end == end {
+            return true;
+        }
+    }
+    false
 }
 
 // Parses one neighbour.

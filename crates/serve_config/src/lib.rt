@@ -11,6 +11,7 @@ mod filters;
 mod freshness;
 mod front;
 mod group;
+mod keys;
 mod limits;
 mod logs;
 mod mirrors;

@@ -7,13 +7,18 @@ use crate::value::number;
 use serde_json::Value;
 use std::alloc::Global;
 
-/// What a configuration says about them.
+/// What a configuration says about the lengths of bodies and of the event log.
 #[derive(Clone, Copy)]
-pub(crate) struct LimitKeys {
+pub(crate) struct LengthKeys {
     pub(crate) body_limit: u32,
     pub(crate) volume: u32,
     pub(crate) receipt_octets: Option<u32>,
     pub(crate) book_octets: Option<u32>,
+}
+
+/// What a configuration says about how much the program takes on.
+#[derive(Clone, Copy)]
+pub(crate) struct LoadKeys {
     pub(crate) fetch_octets: Option<u32>,
     pub(crate) shelf_octets: Option<u32>,
     pub(crate) address_connections: Option<u32>,
@@ -21,22 +26,30 @@ pub(crate) struct LimitKeys {
     pub(crate) stop_after: u64,
 }
 
-/// Parses what a configuration says about them.
-pub(crate) fn limit_keys(alloc: Global, value: &Value) -> Result<LimitKeys, Fault>
+/// Parses what a configuration says about the lengths of bodies and of the event log.
+pub(crate) fn length_keys(alloc: Global, value: &Value) -> Result<LengthKeys, Fault>
     ensures body_limit { IfOk result (λ s. (1 ≤ s.body_limit) × (s.body_limit ≤ 1073741824)) }
     ensures volume { IfOk result (λ s. (1 ≤ s.volume) × (s.volume ≤ 1048576)) }
     ensures book_octets { IfOk result (λ s. IfSome s.book_octets (λ n. (1 ≤ n) × (n ≤ 1073741824))) }
+{
+    let top = Place::whole();
+    Ok(LengthKeys {
+        body_limit: number(alloc, value, top.key("body_limit"), 1, 1_073_741_824)? as u32,
+        volume: number(alloc, value, top.key("volume"), 1, 1_048_576)? as u32,
+        receipt_octets: optional(alloc, value, "receipt_octets", 0, 1_073_741_824)?,
+        book_octets: optional(alloc, value, "book_octets", 1, 1_073_741_824)?,
+    })
+}
+
+/// Parses what a configuration says about how much the program takes on.
+pub(crate) fn load_keys(alloc: Global, value: &Value) -> Result<LoadKeys, Fault>
     ensures fetch_octets { IfOk result (λ s. IfSome s.fetch_octets (λ n. (1 ≤ n) × (n ≤ 1073741824))) }
     ensures shelf_octets { IfOk result (λ s. IfSome s.shelf_octets (λ n. n ≤ 1073741824)) }
     ensures address_connections { IfOk result (λ s. IfSome s.address_connections (λ n. (1 ≤ n) × (n ≤ 4096))) }
     ensures client_threads { IfOk result (λ s. IfSome s.client_threads (λ n. (1 ≤ n) × (n ≤ 16))) }
 {
     let top = Place::whole();
-    Ok(LimitKeys {
-        body_limit: number(alloc, value, top.key("body_limit"), 1, 1_073_741_824)? as u32,
-        volume: number(alloc, value, top.key("volume"), 1, 1_048_576)? as u32,
-        receipt_octets: optional(alloc, value, "receipt_octets", 0, 1_073_741_824)?,
-        book_octets: optional(alloc, value, "book_octets", 1, 1_073_741_824)?,
+    Ok(LoadKeys {
         fetch_octets: optional(alloc, value, "fetch_octets", 1, 1_073_741_824)?,
         shelf_octets: optional(alloc, value, "shelf_octets", 0, 1_073_741_824)?,
         address_connections: optional(alloc, value, "address_connections", 1, 4096)?,

@@ -1,12 +1,11 @@
 //! What requests in origin form stand for.
 ghost use Rattle.std.specs.Prelude.{◌≡◌, All, IfOk, true};
-ghost use Rattle.std.specs.List.{list_all};
 ghost use Rattle.std.specs.String.{string_bytes};
 ghost use Rattle.serve_config.specs.Mirrors.{AreMirrors, IsMirror, is_folder, is_mirror_path, is_mirror_url};
-ghost use Rattle.serve_config.specs.Refresh.{is_visible};
 
 use crate::fault::Fault;
 use crate::place::Place;
+use crate::value::is_visible;
 use serde_json::{Map, Value};
 use std::alloc::{AllocError, Global};
 
@@ -108,12 +107,5 @@ fn is_mirror_url(text: &[u8]) -> bool
 fn is_folder(text: &[u8]) -> bool
     ensures { result ≡ is_folder text.now }
 {
-    text.ends_with(b"/") && are_visible(text) && text.len() <= MOST_OCTETS
-}
-
-// Whether each octet is visible ASCII.
-fn are_visible(text: &[u8]) -> bool
-    ensures { result ≡ list_all is_visible text.now }
-{
-    text.iter().all(|&octet| 33 <= octet && octet <= 126)
+    text.ends_with(b"/") && is_visible(text) && text.len() <= MOST_OCTETS
 }

@@ -5,7 +5,7 @@ ghost use Rattle.serve_config.specs.Origins.{AreNetworks, ArePorts, AreSixNetwor
 use crate::fault::Fault;
 use crate::place::Place;
 use crate::shape::items;
-use crate::value::{network, number_of, truth};
+use crate::value::{network, number_of, prefix_of, truth};
 use node_core::Network;
 use serde_json::Value;
 use std::alloc::{AllocError, Global};
@@ -74,17 +74,38 @@ fn denied(alloc: Global, value: &Value, has_six: bool) -> Result<Networks, Fault
     ensures six { IfOk result (λ networks. AreSixNetworks networks.six.items) }
 {
     let items = items(value, "deny_origins");
-    let mut four = Vec::new(alloc);
-    let mut six = Vec::new(alloc);
+    let mut networks = Networks {
+        four: Vec::new(alloc),
+        six: Vec::new(alloc),
+    };
     for i in 0..items.len() {
-        if has_six && let Some(network) = six_network(&items[i]) {
-            six.push(network).map_err(AllocError::from)?;
-        } else {
-            let network = network(alloc, &items[i], Place::item("deny_origins", i))?;
-            four.push(network).map_err(AllocError::from)?;
-        }
+        let place = Place::item("deny_origins", i);
+        networks = with_network(alloc, networks, &items[i], place, has_six)?;
     }
-    Ok(Networks { four, six })
+    Ok(networks)
+}
+
+// These networks and this one.
+fn with_network(
+    alloc: Global,
+    networks: Networks,
+    item: &Value,
+    place: Place<'_>,
+    has_six: bool,
+) -> Result<Networks, Fault>
+    requires four { AreNetworks networks.four.items }
+    requires six { AreSixNetworks networks.six.items }
+    ensures four { IfOk result (λ after. AreNetworks after.four.items) }
+    ensures six { IfOk result (λ after. AreSixNetworks after.six.items) }
+{
+    let mut networks = networks;
+    if has_six && let Some(network) = six_network(item) {
+        networks.six.push(network).map_err(AllocError::from)?;
+        return Ok(networks);
+    }
+    let network = network(alloc, item, place)?;
+    networks.four.push(network).map_err(AllocError::from)?;
+    Ok(networks)
 }
 
 /// Parses the text of a network of IPv6, such as `2001:db8::/32`; `None` if it is none.
@@ -93,10 +114,7 @@ pub(crate) fn six_network(value: &Value) -> Option<SixNetwork>
 {
     let (address, bits) = value.as_str()?.split_once('/')?;
     let address = address.parse::<Ipv6Addr>().ok()?.to_bits();
-    if !bits.bytes().all(|c| c.is_ascii_digit()) {
-        return None;
-    }
-    let prefix = bits.parse::<u8>().ok()?;
+    let prefix = prefix_of(bits)?;
     if prefix <= 128 {
         Some(SixNetwork { address, prefix })
     } else {

@@ -10,12 +10,19 @@ use crate::settings::Settings;
 use neighbours::{End, Neighbour};
 use std::alloc::Global;
 
-/// Checks that none of these neighbours is this cache itself. Errors: the first one that is, at the key of the port.
-pub(crate) fn check_apart(
-    alloc: Global,
-    settings: &Settings,
-    neighbours: &[Neighbour],
-) -> Result<(), Fault>
+/// Checks that none of the neighbours is this cache itself, and that this cache's own sockets can stand beside one another. Errors: a
+/// neighbour that is, before two sockets that can't.
+pub(crate) fn check_own(alloc: Global, settings: &Settings) -> Result<(), Fault>
+    ensures apart { IfOk result (λ u. list_any (is_self settings.now) settings.now.node.neighbours.items ≡ false) }
+    ensures ports { IfOk result (λ u. shares_port settings.now ≡ false) }
+{
+    check_apart(alloc, settings, settings.node.neighbours.as_slice())?;
+    check_ports(alloc, settings)?;
+    Ok(())
+}
+
+// Checks that none of these neighbours is this cache itself. Errors: the first one that is, at the key of the port.
+fn check_apart(alloc: Global, settings: &Settings, neighbours: &[Neighbour]) -> Result<(), Fault>
     ensures { IfOk result (λ u. list_any (is_self settings.now) neighbours.now ≡ false) }
 {
     for i in 0..neighbours.len() {
@@ -65,9 +72,9 @@ fn fetches_self(settings: &Settings, neighbour: &Neighbour) -> bool
         || (neighbour.end.addr == [127, 0, 0, 1] && neighbour.http_port == settings.admin_port)
 }
 
-/// Checks that this cache's own sockets can stand beside one another: not both query sockets at one port, and not clients and
-/// administration, which is at 127.0.0.1. Port 0 is whichever is free. Errors: the first two that can't, at the key of the latter.
-pub(crate) fn check_ports(alloc: Global, settings: &Settings) -> Result<(), Fault>
+// Checks that this cache's own sockets can stand beside one another: not both query sockets at one port, and not clients and
+// administration, which is at 127.0.0.1. Port 0 is whichever is free. Errors: the first two that can't, at the key of the latter.
+fn check_ports(alloc: Global, settings: &Settings) -> Result<(), Fault>
     ensures { IfOk result (λ u. shares_port settings.now ≡ false) }
 {
     if clashes(settings.node.icp.port, settings.node.htcp.port) {

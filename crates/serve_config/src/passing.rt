@@ -71,6 +71,12 @@ pub(crate) struct PassingKeys {
     pub(crate) methods: Vec<PassedMethod>,
     pub(crate) connect_ports: Vec<u16>,
     pub(crate) large: Large,
+    pub(crate) pace: PaceKeys,
+}
+
+/// What it says about how much is passed on at a time, and for how long.
+#[derive(Clone, Copy)]
+pub(crate) struct PaceKeys {
     pub(crate) streams: u32,
     pub(crate) tunnels: u32,
     pub(crate) fetch_seconds: u32,
@@ -83,16 +89,29 @@ pub(crate) fn passing_keys(alloc: Global, value: &Value) -> Result<PassingKeys, 
     ensures methods { IfOk result (λ s. AreMethods (view value.now) s.methods.items) }
     ensures connect_ports { IfOk result (λ s. AreConnectPorts s.connect_ports.items) }
     ensures large { IfOk result (λ s. large_said (view value.now) ≡ Some s.large) }
+    ensures streams { IfOk result (λ s. (1 ≤ s.pace.streams) × (s.pace.streams ≤ 4096)) }
+    ensures tunnels { IfOk result (λ s. (1 ≤ s.pace.tunnels) × (s.pace.tunnels ≤ 4096)) }
+    ensures fetch_seconds { IfOk result (λ s. (1 ≤ s.pace.fetch_seconds) × (s.pace.fetch_seconds ≤ 86400)) }
+    ensures fetch_idle { IfOk result (λ s. IfSome s.pace.fetch_idle (λ n. (1 ≤ n) × (n ≤ 86400))) }
+    ensures keep_alive { IfOk result (λ s. s.pace.keep_alive ≤ 3600) }
+{
+    Ok(PassingKeys {
+        methods: methods(alloc, value)?,
+        connect_ports: connect_ports(alloc, value)?,
+        large: large_of(alloc, value)?,
+        pace: pace_keys(alloc, value)?,
+    })
+}
+
+// Parses how much is passed on at a time, and for how long.
+fn pace_keys(alloc: Global, value: &Value) -> Result<PaceKeys, Fault>
     ensures streams { IfOk result (λ s. (1 ≤ s.streams) × (s.streams ≤ 4096)) }
     ensures tunnels { IfOk result (λ s. (1 ≤ s.tunnels) × (s.tunnels ≤ 4096)) }
     ensures fetch_seconds { IfOk result (λ s. (1 ≤ s.fetch_seconds) × (s.fetch_seconds ≤ 86400)) }
     ensures fetch_idle { IfOk result (λ s. IfSome s.fetch_idle (λ n. (1 ≤ n) × (n ≤ 86400))) }
     ensures keep_alive { IfOk result (λ s. s.keep_alive ≤ 3600) }
 {
-    Ok(PassingKeys {
-        methods: methods(alloc, value)?,
-        connect_ports: connect_ports(alloc, value)?,
-        large: large_of(alloc, value)?,
+    Ok(PaceKeys {
         streams: number_or(alloc, value, "streams", 4096, 256)?,
         tunnels: number_or(alloc, value, "tunnels", 4096, 1024)?,
         fetch_seconds: number_or(alloc, value, "fetch_seconds", 86_400, 30)?,

@@ -54,10 +54,31 @@ impl fmt::Display for Place<'_> {
         match self.item {
             None if key.is_empty() => write!(f, "configuration"),
             None => write!(f, "{key}"),
-            Some((list, Some(index))) if key.is_empty() => write!(f, "{list}[{index}]"),
-            Some((list, Some(index))) => write!(f, "{list}[{index}].{key}"),
-            Some((object, None)) if key.is_empty() => write!(f, "{object}"),
-            Some((object, None)) => write!(f, "{object}.{key}"),
+            Some((name, index)) => {
+                write_item(f, name, index)?;
+                write_key(f, key)
+            }
         }
+    }
+}
+
+// Prints the name of a list with the index of an item, or that of an object.
+fn write_item<W: fmt::Write>(
+    f: &mut fmt::Formatter<W>,
+    name: &str,
+    index: Option<usize>,
+) -> fmt::Result {
+    match index {
+        Some(index) => write!(f, "{name}[{index}]"),
+        None => write!(f, "{name}"),
+    }
+}
+
+// Prints a key of an item or an object, if there is one.
+fn write_key<W: fmt::Write>(f: &mut fmt::Formatter<W>, key: &str) -> fmt::Result {
+    if key.is_empty() {
+        Ok(())
+    } else {
+        write!(f, ".{key}")
     }
 }

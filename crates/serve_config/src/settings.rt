@@ -20,18 +20,15 @@ ghost use Rattle.serve_config.specs.Words.{form_said, freshness_said, level_said
 use crate::fault::Fault;
 use crate::filters::FilterFile;
 use crate::freshness::{Freshness, RefreshRule};
-use crate::front::front_keys;
-use crate::limits::limit_keys;
-use crate::logs::log_keys;
+use crate::keys::{BackKeys, Keys, keys_in};
 use crate::mirrors::MirrorPath;
-use crate::node::node_keys;
 use crate::origins::SixNetwork;
-use crate::own::{check_apart, check_ports};
-use crate::passing::{Large, PassedMethod};
+use crate::own::check_own;
+use crate::passing::{Large, PassedMethod, PassingKeys};
 use crate::shape::check;
 use crate::shared_fields::SharedField;
 use crate::six_clients::SixClients;
-use crate::web::{WebKeys, web_keys};
+use crate::web::{SiteKeys, WebKeys};
 use json_fault::{Expected, expected_at, offset_of};
 use node_core::{Config, Network};
 use serde_json::Value;
@@ -182,22 +179,34 @@ impl Settings {
         ensures ports { IfOk result (λ s. shares_port s ≡ false) }
     {
         let value = json(alloc, text)?;
-        check(alloc, &value)?;
-        let settings = parse_values(alloc, &value)?;
-        check_apart(alloc, &settings, settings.node.neighbours.as_slice())?;
-        check_ports(alloc, &settings)?;
-        Ok(settings)
+        let parsed = parse_values(alloc, &value);
+        drop(value);
+        let settings = parsed?;
+        match check_own(alloc, &settings) {
+            Ok(()) => Ok(settings),
+            Err(fault) => {
+                drop(settings);
+                Err(fault)
+            }
+        }
     }
 }
 
-impl fmt::Debug for Settings {
-    fn fmt<W: fmt::Write>(&self, f: &mut fmt::Formatter<W>) -> fmt::Result {
-        f.debug_struct("Settings")
+// Each prints some of the fields, in their order.
+impl Settings {
+    // How the proxy is reached.
+    fn show_front<W: fmt::Write>(&self, shown: &mut fmt::DebugStruct<'_, W>) {
+        shown
             .field("address", &self.address)
             .field("http_port", &self.http_port)
             .field("six_clients", &self.six_clients)
             .field("admin_port", &self.admin_port)
-            .field("name", &self.name)
+            .field("name", &self.name);
+    }
+
+    // The sizes and numbers that the program keeps within.
+    fn show_limits<W: fmt::Write>(&self, shown: &mut fmt::DebugStruct<'_, W>) {
+        shown
             .field("body_limit", &self.body_limit)
             .field("volume", &self.volume)
             .field("receipt_octets", &self.receipt_octets)
@@ -205,7 +214,12 @@ impl fmt::Debug for Settings {
             .field("fetch_octets", &self.fetch_octets)
             .field("shelf_octets", &self.shelf_octets)
             .field("address_connections", &self.address_connections)
-            .field("client_threads", &self.client_threads)
+            .field("client_threads", &self.client_threads);
+    }
+
+    // Which origins are fetched from, what is told, and for how long answers are fresh.
+    fn show_web<W: fmt::Write>(&self, shown: &mut fmt::DebugStruct<'_, W>) {
+        shown
             .field("deny_origins", &self.deny_origins)
             .field("origin_ports", &self.origin_ports)
             .field("origins6", &self.origins6)
@@ -214,7 +228,12 @@ impl fmt::Debug for Settings {
             .field("log_level", &self.log_level)
             .field("freshness", &self.freshness)
             .field("refresh", &self.refresh)
-            .field("serve_stale", &self.serve_stale)
+            .field("serve_stale", &self.serve_stale);
+    }
+
+    // What is passed on, and the fields of fetches for all clients.
+    fn show_passing<W: fmt::Write>(&self, shown: &mut fmt::DebugStruct<'_, W>) {
+        shown
             .field("mirrors", &self.mirrors)
             .field("methods", &self.methods)
             .field("connect_ports", &self.connect_ports)
@@ -224,7 +243,18 @@ impl fmt::Debug for Settings {
             .field("fetch_seconds", &self.fetch_seconds)
             .field("fetch_idle", &self.fetch_idle)
             .field("keep_alive", &self.keep_alive)
-            .field("shared_fields", &self.shared_fields)
+            .field("shared_fields", &self.shared_fields);
+    }
+}
+
+impl fmt::Debug for Settings {
+    fn fmt<W: fmt::Write>(&self, f: &mut fmt::Formatter<W>) -> fmt::Result {
+        let mut shown = f.debug_struct("Settings");
+        self.show_front(&mut shown);
+        self.show_limits(&mut shown);
+        self.show_web(&mut shown);
+        self.show_passing(&mut shown);
+        shown
             .field("filters", &self.filters)
             .field("stop_after", &self.stop_after)
             .field("node", &self.node)
@@ -232,7 +262,7 @@ impl fmt::Debug for Settings {
     }
 }
 
-// Parses the values of an object with all keys, each of the right kind.
+// Checks the keys of a configuration and the kinds of their values, and parses them.
 fn parse_values(alloc: Global, value: &Value) -> Result<Settings, Fault>
     ensures body_limit { IfOk result (λ s. (1 ≤ s.body_limit) × (s.body_limit ≤ 1073741824)) }
     ensures volume { IfOk result (λ s. (1 ≤ s.volume) × (s.volume ≤ 1048576)) }
@@ -269,17 +299,30 @@ fn parse_values(alloc: Global, value: &Value) -> Result<Settings, Fault>
     ensures secrets { IfOk result (λ s. All IsSecret s.node.keys.items) }
     ensures filters { IfOk result (λ s. AreFiles (length s.node.neighbours.items) (view value.now) s.filters.items) }
 {
-    let limits = limit_keys(alloc, value)?;
-    let front = front_keys(alloc, value)?;
-    let logs = log_keys(alloc, value)?;
-    let node = node_keys(alloc, value)?;
+    check(alloc, value)?;
+    let Keys {
+        lengths,
+        loads,
+        front,
+        logs,
+        back,
+    } = keys_in(alloc, value)?;
+    let BackKeys { node, web, site } = back;
     let WebKeys {
         origins,
         freshness,
         passing,
+    } = web;
+    let PassingKeys {
+        methods,
+        connect_ports,
+        large,
+        pace,
+    } = passing;
+    let SiteKeys {
         mirrors,
         shared_fields,
-    } = web_keys(alloc, value)?;
+    } = site;
     let address = front.address;
     Ok(Settings {
         address,
@@ -287,14 +330,14 @@ fn parse_values(alloc: Global, value: &Value) -> Result<Settings, Fault>
         six_clients: front.six_clients,
         admin_port: front.admin_port,
         name: front.name,
-        body_limit: limits.body_limit,
-        volume: limits.volume,
-        receipt_octets: limits.receipt_octets,
-        book_octets: limits.book_octets,
-        fetch_octets: limits.fetch_octets,
-        shelf_octets: limits.shelf_octets,
-        address_connections: limits.address_connections,
-        client_threads: limits.client_threads,
+        body_limit: lengths.body_limit,
+        volume: lengths.volume,
+        receipt_octets: lengths.receipt_octets,
+        book_octets: lengths.book_octets,
+        fetch_octets: loads.fetch_octets,
+        shelf_octets: loads.shelf_octets,
+        address_connections: loads.address_connections,
+        client_threads: loads.client_threads,
         deny_origins: origins.deny_origins,
         origin_ports: origins.origin_ports,
         origins6: origins.origins6,
@@ -306,17 +349,17 @@ fn parse_values(alloc: Global, value: &Value) -> Result<Settings, Fault>
         refresh: freshness.refresh,
         serve_stale: freshness.serve_stale,
         mirrors,
-        methods: passing.methods,
-        connect_ports: passing.connect_ports,
-        large: passing.large,
-        streams: passing.streams,
-        tunnels: passing.tunnels,
-        fetch_seconds: passing.fetch_seconds,
-        fetch_idle: passing.fetch_idle,
-        keep_alive: passing.keep_alive,
+        methods,
+        connect_ports,
+        large,
+        streams: pace.streams,
+        tunnels: pace.tunnels,
+        fetch_seconds: pace.fetch_seconds,
+        fetch_idle: pace.fetch_idle,
+        keep_alive: pace.keep_alive,
         shared_fields,
         filters: node.filters,
-        stop_after: limits.stop_after,
+        stop_after: loads.stop_after,
         node: node.config,
     })
 }
@@ -327,13 +370,19 @@ fn json(alloc: Global, text: &[u8]) -> Result<Value, Fault>
 {
     match Value::from_slice(alloc, text) {
         Ok(value) => Ok(value),
-        Err(error) if error.is_memory() => Err(Fault::Memory),
-        Err(error) => Err(syntax_fault(alloc, text, error)),
+        Err(error) => {
+            let fault = reading_fault(alloc, text, &error);
+            drop(error);
+            Err(fault)
+        }
     }
 }
 
-// Where a text is no JSON, and what would have been right there.
-fn syntax_fault(alloc: Global, text: &[u8], error: serde_json::Error) -> Fault {
+// Why a text could not be read as JSON: memory is short, or where it is none, and what would have been right there.
+fn reading_fault(alloc: Global, text: &[u8], error: &serde_json::Error) -> Fault {
+    if error.is_memory() {
+        return Fault::Memory;
+    }
     let (line, column) = (error.line(), error.column());
     let Ok(said) = format!(in alloc; "{error}") else {
         return Fault::Memory;

@@ -1,6 +1,7 @@
 //! Checks that a configuration has exactly the known keys, each with a value of the right kind.
 use crate::fault::Fault;
 use crate::place::Place;
+use crate::value::is_visible;
 use serde_json::{Map, Value};
 use std::alloc::Global;
 
@@ -70,6 +71,16 @@ const OPTIONAL: [Known; 29] = [
     ("allowed6", Kind::List),
 ];
 
+/// The lists whose items are no objects, and the kind of these.
+const LISTS: [Known; 6] = [
+    ("allowed", Kind::Text),
+    ("deny_origins", Kind::Text),
+    ("origin_ports", Kind::Number),
+    ("methods", Kind::Text),
+    ("connect_ports", Kind::Number),
+    ("allowed6", Kind::Text),
+];
+
 /// The keys of `filters`, each of which may be left out.
 const FILTERS: [Known; 3] = [
     ("icp", Kind::Text),
@@ -127,33 +138,20 @@ impl Kind {
 
 // Whether a value is an integer of any size. The JSON parser reads those beyond 64 bits as floats.
 fn is_whole(value: &Value) -> bool {
-    value.is_u64() || value.is_i64() || value.as_f64().is_some_and(|x| x >= 9.2e18 || x <= -9.2e18)
+    value.is_u64()
+        || value.is_i64()
+        || matches!(value.as_f64(), Some(x) if x >= 9.2e18 || x <= -9.2e18)
 }
 
 /// Checks the keys and kinds of a whole configuration. Errors: the first fault, of the top-level keys before those of the lists,
 /// then `filters`, and `refresh` last.
 pub(crate) fn check(alloc: Global, value: &Value) -> Result<(), Fault> {
     check_object(alloc, value, Place::whole(), &TOP, &OPTIONAL)?;
-    check_items(alloc, value, "allowed", Kind::Text)?;
-    check_items(alloc, value, "deny_origins", Kind::Text)?;
-    check_items(alloc, value, "origin_ports", Kind::Number)?;
-    check_items(alloc, value, "methods", Kind::Text)?;
-    check_items(alloc, value, "connect_ports", Kind::Number)?;
-    check_items(alloc, value, "allowed6", Kind::Text)?;
-    for (i, key) in items(value, "keys").iter().enumerate() {
-        check_object(alloc, key, Place::item("keys", i), &KEY, &[])?;
-    }
-    for (i, neighbour) in items(value, "neighbours").iter().enumerate() {
-        check_object(
-            alloc,
-            neighbour,
-            Place::item("neighbours", i),
-            &NEIGHBOUR,
-            &[],
-        )?;
-    }
+    check_lists(alloc, value)?;
+    check_objects(alloc, value, "keys", &KEY, &[])?;
+    check_objects(alloc, value, "neighbours", &NEIGHBOUR, &[])?;
     check_filters(alloc, value)?;
-    check_rules(alloc, value)
+    check_objects(alloc, value, "refresh", &RULE, &RULE_OPTIONAL)
 }
 
 // Checks the object at `filters`, if there is one. The keys of its neighbours are checked with their values.
@@ -172,11 +170,25 @@ fn check_filters(alloc: Global, value: &Value) -> Result<(), Fault> {
     Ok(())
 }
 
-// Checks the items of `refresh`, if there are any.
-fn check_rules(alloc: Global, value: &Value) -> Result<(), Fault> {
-    for (i, rule) in items(value, "refresh").iter().enumerate() {
-        let place = Place::item("refresh", i);
-        check_object(alloc, rule, place, &RULE, &RULE_OPTIONAL)?;
+// Checks that each item of the list at this key, if there is one, is an object with all the known keys and perhaps some of the optional
+// ones.
+fn check_objects(
+    alloc: Global,
+    value: &Value,
+    key: &str,
+    known: &[Known],
+    optional: &[Known],
+) -> Result<(), Fault> {
+    for (i, item) in items(value, key).iter().enumerate() {
+        check_object(alloc, item, Place::item(key, i), known, optional)?;
+    }
+    Ok(())
+}
+
+// Checks that each item of the lists with no objects is of their kind.
+fn check_lists(alloc: Global, value: &Value) -> Result<(), Fault> {
+    for (key, kind) in &LISTS {
+        check_items(alloc, value, *key, *kind)?;
     }
     Ok(())
 }
@@ -249,7 +261,7 @@ fn check_known(
 
 // The fault for an unknown key. The key is quoted if it is empty or has an octet other than visible ASCII.
 fn unknown(alloc: Global, place: Place<'_>, key: &str) -> Fault {
-    if !key.is_empty() && key.bytes().all(|c| 0x21 <= c && c <= 0x7e) {
+    if !key.is_empty() && is_visible(key.as_bytes()) {
         Fault::shape(alloc, place.key(key), "unknown")
     } else {
         Fault::unknown(alloc, place, key)
@@ -258,7 +270,12 @@ fn unknown(alloc: Global, place: Place<'_>, key: &str) -> Fault {
 
 // Whether a key is one of the known keys.
 fn is_known(key: &str, known: &[Known]) -> bool {
-    known.iter().any(|(word, _)| *word == key)
+    for (word, _) in known {
+        if *word == key {
+            return true;
+        }
+    }
+    false
 }
 
 // Checks that a value is present and of this kind.

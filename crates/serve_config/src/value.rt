@@ -93,7 +93,7 @@ fn out_of_range(alloc: Global, value: &Value, place: Place<'_>, least: u64, most
     };
     let is_below = match value.as_u64() {
         Some(n) => n < least,
-        None => value.as_f64().is_some_and(|x| x < 0.0),
+        None => matches!(value.as_f64(), Some(x) if x < 0.0),
     };
     if is_below {
         Fault::bound(alloc, place, text.as_str(), "below", least)
@@ -177,15 +177,20 @@ fn network_of(text: &str) -> Option<Network>
 {
     let (address, bits) = text.split_once('/')?;
     let addr = address.parse::<Ipv4Addr>().ok()?.octets();
-    if !bits.bytes().all(|c| c.is_ascii_digit()) {
-        return None;
-    }
-    let prefix = bits.parse::<u8>().ok()?;
+    let prefix = prefix_of(bits)?;
     if prefix <= 32 {
         Some(Network { addr, prefix })
     } else {
         None
     }
+}
+
+/// Parses how many bits all addresses of a network have, in decimal digits; `None` if it is no such number, or over 255.
+pub(crate) fn prefix_of(text: &str) -> Option<u8> {
+    if !text.bytes().all(|c| c.is_ascii_digit()) {
+        return None;
+    }
+    text.parse::<u8>().ok()
 }
 
 /// The non-empty string of visible ASCII at this key of an object.
@@ -206,8 +211,8 @@ pub(crate) fn visible<'a>(
     Ok(text)
 }
 
-// Whether all octets are visible ASCII.
-fn is_visible(text: &[u8]) -> bool
+/// Whether all octets are visible ASCII.
+pub(crate) fn is_visible(text: &[u8]) -> bool
     ensures { result ≡ list_all is_visible text.now }
 {
     text.iter().all(|&octet| 0x21 <= octet && octet <= 0x7e)
