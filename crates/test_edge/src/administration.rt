@@ -1,24 +1,37 @@
 //! Tests of the server for administration.
-use crate::clients::{exchange, has};
+use crate::clients::{has, has_all};
+use crate::houses::{Ends, House, new_ends};
 use crate::limits::serve_limits;
-use crate::servers::new_stops;
+use crate::rows::{Question, all_hold};
 use crossbeam_channel::unbounded;
 use filter_slots::Slot;
-use futures::channel::{mpsc, oneshot};
+use futures::channel::mpsc;
 use http_clients::serve_admin;
 use http_traffic::{Asked, CaptureFault, Figures, Panel, PutFault, StoreFault, StoreOrder};
 use std::alloc::{AllocError, AllocGlobal, Global};
+use std::net::Net;
+use std::random::RandomSource;
+use std::sync::Wait;
 use std::test::Fail;
 use std::thread;
-use std::time::Duration;
+use std::thread::Threads;
+use std::time::{Clock, Duration};
 
 // One filter, shared by both sockets and two neighbours, whose text is the one last installed.
-#[derive(Drop)]
 struct Board {
     alloc: Global,
     filter: Option<Vec<u8>>,
-    stop: Option<oneshot::Sender<()>>,
-    hurry: Option<oneshot::Sender<()>>,
+    ends: Ends,
+}
+
+impl Drop for Board {
+    fn drop(self) {
+        let Self {
+            alloc: _,
+            filter: _,
+            ends: _,
+        } = self;
+    }
 }
 
 impl Panel for Board {
@@ -72,17 +85,22 @@ impl Panel for Board {
     }
 
     fn store(&mut self, asked: &str, order: StoreOrder) -> Result<Vec<u8>, StoreFault> {
-        let shown: &[u8] = match asked {
-            "" => b"[]",
-            _ => asked.as_bytes(),
+        let shown: &[u8] = if asked.is_empty() {
+            b"[]"
+        } else {
+            asked.as_bytes()
         };
-        let line = shown.to_vec(self.alloc);
-        match (asked, order, line) {
-            (_, _, Err(_)) => Err(StoreFault::NoMemory),
-            ("?limit=0", _, Ok(line)) => Err(StoreFault::NoQuestion(line)),
-            ("/http:%2F%2Fnone%2F" | "/http:%2F%2Fb%2F", _, _) => Err(StoreFault::NotStored),
-            ("/http:%2F%2Fkept%2F", StoreOrder::Remove, Ok(line)) => Err(StoreFault::Kept(line)),
-            (_, _, Ok(line)) => Ok(line),
+        let Ok(line) = shown.to_vec(self.alloc) else {
+            return Err(StoreFault::NoMemory);
+        };
+        match (asked, order) {
+            ("?limit=0", _) => Err(StoreFault::NoQuestion(line)),
+            ("/http:%2F%2Fnone%2F" | "/http:%2F%2Fb%2F", _) => {
+                drop(line);
+                Err(StoreFault::NotStored)
+            }
+            ("/http:%2F%2Fkept%2F", StoreOrder::Remove) => Err(StoreFault::Kept(line)),
+            _ => Ok(line),
         }
     }
 
@@ -102,10 +120,10 @@ impl Panel for Board {
     }
 
     fn stop(&mut self) {
-        if let Some(stop) = self.stop.take() {
-            let _ = stop.send(());
-        } else if let Some(hurry) = self.hurry.take() {
-            let _ = hurry.send(());
+        if self.ends.stop.is_some() {
+            self.ends.send_stop();
+        } else {
+            self.ends.send_hurry();
         }
     }
 
@@ -127,13 +145,15 @@ impl Panel for Board {
 // A file of two pieces that is complete.
 fn two_pieces(alloc: Global) -> Result<mpsc::Receiver<Vec<u8>>, AllocError> {
     let (mut to, pieces) = mpsc::channel(alloc, 2)?;
-    let _ = to.try_send(b"ab".to_vec(alloc)?);
-    let _ = to.try_send(b"cde".to_vec(alloc)?);
+    drop(to.try_send(b"ab".to_vec(alloc)?));
+    drop(to.try_send(b"cde".to_vec(alloc)?));
     Ok(pieces)
 }
 
 // Requests in order, and the parts that each response must contain.
-const ADMINISTRATION: [(&[u8], [&[u8]; 2]); 57] = [
+type Case = (&'static [u8], [&'static [u8]; 2]);
+
+const CASES: [Case; 57] = [
     (
         b"GET /store HTTP/1.1\r\nHost: o\r\nConnection: close\r\n\r\n",
         [b"\r\ncontent-type: application/json\r\n", b"\r\n\r\n[]"],
@@ -413,35 +433,42 @@ const ADMINISTRATION: [(&[u8], [&[u8]; 2]); 57] = [
     ),
 ];
 
-#[test]
-fn administrators_are_answered(rt: HostRuntime) -> Result<(), Fail> {
+impl<R: Net> Question<Case, R> for House {
+    fn holds(&self, rt: &R, row: &Case) -> Result<bool, Fail> {
+        let (sent, wanted) = row;
+        let got = self.answer(rt, *sent)?;
+        let holds = has_all(got.as_slice(), wanted.as_slice());
+        drop(got);
+        Ok(holds)
+    }
+}
+
+// A server for administration, which ends once it was told so twice.
+fn start<R>(rt: R) -> Result<House, Fail>
+where
+    R: Threads + Wait + Clock + RandomSource + AllocGlobal + Net + Copy + Send + 'static,
+    R::Stream: Send + 'static,
+    R::Listener: Send + 'static,
+{
     let alloc = rt.alloc();
+    let (ends, stops) = new_ends(alloc)?;
     let (bound, told) = unbounded(alloc)?;
-    let (stop, hurry, stopped) = new_stops(alloc)?;
     let board = Board {
         alloc,
         filter: None,
-        stop: Some(stop),
-        hurry: Some(hurry),
+        ends,
     };
     let mut limits = serve_limits();
     limits.grace = Duration::from_secs(3_600);
-    let server = thread::spawn(
-        &rt,
-        move || serve_admin(rt, 0, board, bound, stopped, limits),
-    )?;
-    let address = told.recv(&rt)?;
-    for (sent, wanted) in ADMINISTRATION {
-        let got = exchange(&rt, alloc, address, sent)?;
-        for part in wanted {
-            if !has(got.as_slice(), part) {
-                eprintln!(rt; "missing {}", String::from_utf8_lossy(alloc, part)?)?;
-                eprintln!(rt; "in {}", String::from_utf8_lossy(alloc, got.as_slice())?)?;
-                panic!(rt; "missing");
-            }
-        }
-    }
+    let thread = thread::spawn(&rt, move || serve_admin(rt, 0, board, bound, stops, limits))?;
+    House::new(&rt, alloc, Ends::none(), told, thread)
+}
+
+#[test]
+fn administrators_are_answered(rt: HostRuntime) -> Result<(), Fail> {
+    let house = start(rt)?;
+    all_hold(&rt, &CASES, &house)?;
     // The last request has stopped it, and ended the grace.
-    server.join(&rt)?;
+    house.join(&rt)?;
     Ok(())
 }

@@ -1,17 +1,50 @@
 //! Tests of the budget of octets under way.
-use crate::fetches::{Kept, ask, end_of};
-use crate::limits::{fetch_limits, fetch_rules};
-use crate::origin;
-use futures::channel::mpsc::unbounded;
-use http_fetches::run_fetches;
-use http_traffic::FetchFault;
-use std::alloc::AllocGlobal;
-use std::net::{Net, SocketAddr, TcpListener};
+use crate::fetches::{ask, end_of, run_jobs};
+use crate::limits::fetch_rules;
+use crate::origin::{Origin, listen};
+use crate::rows::{Question, all_hold};
+use futures::channel::mpsc::{UnboundedSender, unbounded};
+use futures::channel::oneshot;
+use http_traffic::{FetchFault, Fetched, Job};
+use std::alloc::{AllocGlobal, Global};
+use std::io;
+use std::net::{Net, SocketAddr};
 use std::random::RandomSource;
 use std::sync::Wait;
 use std::test::Fail;
-use std::thread;
-use std::time::{Clock, Duration};
+use std::time::Clock;
+
+// Sends a job for each of these targets but the empty ones.
+fn ask_each<R: Clock>(
+    rt: &R,
+    alloc: Global,
+    jobs: &UnboundedSender<Job>,
+    server: SocketAddr,
+    targets: &[&str],
+    keeps: &mut Vec<oneshot::Sender<()>>,
+) -> io::Result<()> {
+    let mut fetch = 0u32;
+    for target in targets {
+        if !target.is_empty() {
+            keeps.push(ask(rt, alloc, jobs, Some(server), fetch, *target)?)?;
+            fetch = fetch.saturating_add(1);
+        }
+    }
+    Ok(())
+}
+
+// How many of these were fetched whole, and how many failed since they are too large.
+fn counts_of(all: &[Fetched]) -> (usize, usize) {
+    let (mut whole, mut large) = (0usize, 0usize);
+    for done in all {
+        match end_of(done) {
+            Some(Ok(_)) => whole = whole.saturating_add(1),
+            Some(Err(FetchFault::TooLarge)) => large = large.saturating_add(1),
+            _ => {}
+        }
+    }
+    (whole, large)
+}
 
 /// How many of these targets are fetched whole, and how many fail since they are too large, all at the same time, while so many
 /// octets may be under way.
@@ -20,61 +53,51 @@ fn ends_of<R>(
     server: SocketAddr,
     targets: &[&str],
     octets: usize,
-) -> Result<(usize, usize), Fail>
+) -> io::Result<(usize, usize)>
 where
     R: Wait + Clock + RandomSource + AllocGlobal + Net + Copy,
 {
     let alloc = rt.alloc();
+    let rules = fetch_rules(alloc, octets)?;
     let (jobs, work) = unbounded(alloc)?;
     let mut keeps = Vec::new(alloc);
-    let mut fetch = 0u32;
-    for target in targets {
-        keeps.push(ask(&rt, alloc, &jobs, Some(server), fetch, target)?)?;
-        fetch = fetch.saturating_add(1);
-    }
+    ask_each(&rt, alloc, &jobs, server, targets, &mut keeps)?;
     drop(jobs);
-    let mut seat = Kept {
-        all: Vec::new(alloc),
-    };
-    let rules = fetch_rules(alloc, octets)?;
-    run_fetches(
-        rt,
-        work,
-        &mut seat,
-        rules,
-        fetch_limits(100, Duration::from_secs(4)),
-    )?;
+    let kept = run_jobs(rt, work, rules, 100);
     drop(keeps);
-    let (mut whole, mut large) = (0usize, 0usize);
-    for done in &seat.all {
-        match end_of(done) {
-            Some(Ok(_)) => whole = whole.saturating_add(1),
-            Some(Err(FetchFault::TooLarge)) => large = large.saturating_add(1),
-            _ => {}
-        }
+    let kept = kept?;
+    let counts = counts_of(kept.all.as_slice());
+    drop(kept);
+    Ok(counts)
+}
+
+// Targets, how many octets may be under way, and how many are fetched whole and are too large then.
+type Budgeted = ([&'static str; 5], usize, (usize, usize));
+
+const BUDGETS: [Budgeted; 4] = [
+    (["/good", "/slow", "/good", "/many", "/slow"], 10, (5, 0)),
+    (["/chunked", "/close", "", "", ""], 10, (2, 0)),
+    (["/many", "/good", "/more", "", ""], 9, (1, 2)),
+    (["/chunked", "/close", "/good", "", ""], 4, (0, 3)),
+];
+
+impl<R> Question<Budgeted, R> for Origin
+where
+    R: Wait + Clock + RandomSource + AllocGlobal + Net + Copy,
+{
+    fn holds(&self, rt: &R, row: &Budgeted) -> Result<bool, Fail> {
+        let (targets, octets, wanted) = row;
+        Ok(ends_of(*rt, self.address, targets.as_slice(), *octets)? == *wanted)
     }
-    Ok((whole, large))
 }
 
 /// Where one body fits at a time, each waits for the one before it. A body that is larger than all that may be under way fails, and
 /// takes nothing from the others.
 #[test]
 fn a_budget_of_octets(rt: HostRuntime) -> Result<(), Fail> {
-    let alloc = rt.alloc();
-    let listener = TcpListener::bind(&rt, "127.0.0.1:0")?;
-    let server = listener.local_addr()?;
-    let origin = thread::spawn(&rt, move || origin::serve(rt, alloc, listener, 13))?;
-    let announced = ["/good", "/slow", "/good", "/many", "/slow"];
-    assert_eq!(rt; ends_of(rt, server, &announced, 10)?, (5, 0));
-    assert_eq!(rt; ends_of(rt, server, &["/chunked", "/close"], 10)?, (2, 0));
-    assert_eq!(rt;
-        ends_of(rt, server, &["/many", "/good", "/more"], 9)?,
-        (1, 2)
-    );
-    assert_eq!(rt;
-        ends_of(rt, server, &["/chunked", "/close", "/good"], 4)?,
-        (0, 3)
-    );
-    let _ = origin.join(&rt);
+    let listener = listen(&rt)?;
+    let origin = Origin::start(rt, rt.alloc(), listener, 13)?;
+    all_hold(&rt, &BUDGETS, &origin)?;
+    origin.join(&rt);
     Ok(())
 }

@@ -5,15 +5,15 @@ use std::io::{ErrorKind, Read, Write};
 use std::net::{Net, OpenStream, SocketAddr, TcpStream};
 use std::time::Duration;
 
-/// Sends octets to a server, and returns what it sends back until it closes or is silent for five seconds.
-pub(crate) fn exchange<R: Net>(
-    rt: &R,
-    alloc: Global,
-    server: SocketAddr,
-    octets: &[u8],
-) -> io::Result<Vec<u8>> {
-    let mut socket = TcpStream::connect(rt, server)?;
-    socket.set_read_timeout(Some(Duration::from_secs(5)))?;
+/// Connects to a server. Each read waits for so many seconds.
+pub(crate) fn connect<R: Net>(rt: &R, server: SocketAddr, seconds: u64) -> io::Result<R::Stream> {
+    let socket = TcpStream::connect(rt, server)?;
+    socket.set_read_timeout(Some(Duration::from_secs(seconds)))?;
+    Ok(socket)
+}
+
+// Sends octets, and returns what comes back until the server closes or is silent.
+fn answer_of<S: Read + Write>(alloc: Global, socket: &mut S, octets: &[u8]) -> io::Result<Vec<u8>> {
     socket.write_all(octets)?;
     let mut all = Vec::new(alloc);
     let mut piece = [0; 4096];
@@ -26,14 +26,21 @@ pub(crate) fn exchange<R: Net>(
     Ok(all)
 }
 
-/// Whether a server closes the connection after these octets, with at most ten seconds of silence.
-pub(crate) fn is_ended_after<R: Net>(
+/// Sends octets to a server, and returns what it sends back until it closes or is silent for five seconds.
+pub(crate) fn exchange<R: Net>(
     rt: &R,
+    alloc: Global,
     server: SocketAddr,
     octets: &[u8],
-) -> io::Result<bool> {
-    let mut socket = TcpStream::connect(rt, server)?;
-    socket.set_read_timeout(Some(Duration::from_secs(10)))?;
+) -> io::Result<Vec<u8>> {
+    let mut socket = connect(rt, server, 5)?;
+    let answer = answer_of(alloc, &mut socket, octets);
+    drop(socket);
+    answer
+}
+
+// Whether the server closes the connection after these octets.
+fn is_ended<S: Read + Write>(socket: &mut S, octets: &[u8]) -> io::Result<bool> {
     socket.write_all(octets)?;
     let mut piece = [0; 4096];
     for _ in 0..100 {
@@ -46,8 +53,20 @@ pub(crate) fn is_ended_after<R: Net>(
     Ok(false)
 }
 
+/// Whether a server closes the connection after these octets, with at most ten seconds of silence.
+pub(crate) fn is_ended_after<R: Net>(
+    rt: &R,
+    server: SocketAddr,
+    octets: &[u8],
+) -> io::Result<bool> {
+    let mut socket = connect(rt, server, 10)?;
+    let is_ended = is_ended(&mut socket, octets);
+    drop(socket);
+    is_ended
+}
+
 /// What a server does on a connection.
-#[derive(Clone, Copy, Debug, PartialEq, Eq)]
+#[derive(Clone, Copy, PartialEq)]
 pub(crate) enum Seen {
     /// It sends something.
     Answered,
@@ -76,5 +95,23 @@ where
 
 /// Whether `all` contains `octets`.
 pub(crate) fn has(all: &[u8], octets: &[u8]) -> bool {
-    octets.is_empty() || all.windows(octets.len()).any(|window| window == octets)
+    if octets.is_empty() {
+        return true;
+    }
+    for window in all.windows(octets.len()) {
+        if window == octets {
+            return true;
+        }
+    }
+    false
+}
+
+/// Whether `all` contains each of these parts.
+pub(crate) fn has_all(all: &[u8], parts: &[&[u8]]) -> bool {
+    for part in parts {
+        if !has(all, *part) {
+            return false;
+        }
+    }
+    true
 }

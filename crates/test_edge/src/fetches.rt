@@ -1,21 +1,29 @@
 //! Tests of fetches.
 use crate::limits::{AllBut, fetch_limits, fetch_rules};
-use crate::origin;
+use crate::origin::{Origin, listen, nowhere};
 use fetch_chain::Submit;
-use futures::channel::mpsc::{UnboundedSender, unbounded};
+use futures::channel::mpsc::{UnboundedReceiver, UnboundedSender, unbounded};
 use futures::channel::oneshot;
-use http_fetches::run_fetches;
+use http_fetches::{FetchRules, run_fetches};
 use http_traffic::{FetchEnd, FetchFault, Fetched, Job, Order, Server, Work};
-use std::alloc::Global;
-use std::net::{SocketAddr, TcpListener};
+use std::alloc::{AllocGlobal, Global};
+use std::net::{Net, SocketAddr};
+use std::random::RandomSource;
+use std::sync::Wait;
 use std::test::Fail;
+use std::thread::Threads;
 use std::time::{Clock, Duration, Instant};
 use std::{io, thread};
 
-// Keeps the results.
-#[derive(Drop)]
+/// Keeps the results.
 pub(crate) struct Kept {
     pub(crate) all: Vec<Fetched>,
+}
+
+impl Drop for Kept {
+    fn drop(self) {
+        let Self { all: _ } = self;
+    }
 }
 
 impl Submit<Fetched> for Kept {
@@ -24,22 +32,53 @@ impl Submit<Fetched> for Kept {
     }
 }
 
-// An order, and the sender that cancels its fetch when dropped.
+/// Runs the jobs of a channel until its senders are gone, with bodies of at most `octets`, and returns their results.
+pub(crate) fn run_jobs<R>(
+    rt: R,
+    work: UnboundedReceiver<Job>,
+    rules: FetchRules<AllBut>,
+    octets: usize,
+) -> io::Result<Kept>
+where
+    R: Wait + Clock + RandomSource + AllocGlobal + Net + Copy,
+{
+    let mut kept = Kept {
+        all: Vec::new(rt.alloc()),
+    };
+    let limits = fetch_limits(octets, Duration::from_secs(4));
+    match run_fetches(rt, work, &mut kept, rules, limits) {
+        Ok(()) => Ok(kept),
+        Err(fault) => {
+            drop(kept);
+            Err(fault)
+        }
+    }
+}
+
+// The moment five seconds from now.
+fn deadline<R: Clock>(rt: &R) -> io::Result<Instant> {
+    match Instant::now(rt)?.checked_add(Duration::from_secs(5)) {
+        Some(deadline) => Ok(deadline),
+        None => Err(io::Error::other("no time")),
+    }
+}
+
+/// An order, and the sender that cancels its fetch when dropped.
 pub(crate) fn order_of<R: Clock>(
     rt: &R,
     alloc: Global,
     fetch: u32,
     target: &str,
-) -> Result<(Order, oneshot::Sender<()>), Fail> {
+) -> io::Result<(Order, oneshot::Sender<()>)> {
+    let deadline = deadline(rt)?;
+    let host = String::from_str(alloc, "origin")?;
+    let target = String::from_str(alloc, target)?;
     let (keep, wanted) = oneshot::channel(alloc)?;
-    let Some(deadline) = Instant::now(rt)?.checked_add(Duration::from_secs(5)) else {
-        return Err(io::Error::other("no time").into());
-    };
     let order = Order {
         fetch,
         attempt: 0,
-        host: String::from_str(alloc, "origin")?,
-        target: String::from_str(alloc, target)?,
+        host,
+        target,
         fields: Vec::new(alloc),
         is_origin: true,
         is_early: false,
@@ -50,16 +89,42 @@ pub(crate) fn order_of<R: Clock>(
 }
 
 // The server at this address, or one whose name has none.
-fn server_of(alloc: Global, server: Option<SocketAddr>) -> Result<Server, Fail> {
-    let (found, sought) = oneshot::channel(alloc)?;
-    drop(found);
-    Ok(match server {
-        Some(server) => Server::At(server),
-        None => Server::Sought(sought),
-    })
+fn server_of(alloc: Global, server: Option<SocketAddr>) -> io::Result<Server> {
+    match server {
+        Some(server) => Ok(Server::At(server)),
+        None => {
+            let (found, sought) = oneshot::channel(alloc)?;
+            drop(found);
+            Ok(Server::Sought(sought))
+        }
+    }
 }
 
-// Sends a job. Dropping the sender that is returned cancels its fetch.
+/// Sends a job. Returns whether there is a thread that takes it.
+pub(crate) fn send_job(jobs: &UnboundedSender<Job>, job: Job) -> bool {
+    let sent = jobs.unbounded_send(job);
+    let is_sent = sent.is_ok();
+    drop(sent);
+    is_sent
+}
+
+// Sends an order to a server. Dropping the sender that is returned cancels its fetch.
+fn send_order(
+    jobs: &UnboundedSender<Job>,
+    server: Server,
+    order: Order,
+    keep: oneshot::Sender<()>,
+) -> io::Result<oneshot::Sender<()>> {
+    let work = Work::Fetch(order);
+    if send_job(jobs, Job { server, work }) {
+        Ok(keep)
+    } else {
+        drop(keep);
+        Err(io::Error::other("no thread"))
+    }
+}
+
+/// Sends a job. Dropping the sender that is returned cancels its fetch.
 pub(crate) fn ask<R: Clock>(
     rt: &R,
     alloc: Global,
@@ -67,14 +132,16 @@ pub(crate) fn ask<R: Clock>(
     server: Option<SocketAddr>,
     fetch: u32,
     target: &str,
-) -> Result<oneshot::Sender<()>, Fail> {
+) -> io::Result<oneshot::Sender<()>> {
     let (order, keep) = order_of(rt, alloc, fetch, target)?;
-    let server = server_of(alloc, server)?;
-    let work = Work::Fetch(order);
-    if jobs.unbounded_send(Job { server, work }).is_err() {
-        return Err(io::Error::other("no thread").into());
+    match server_of(alloc, server) {
+        Ok(server) => send_order(jobs, server, order, keep),
+        Err(fault) => {
+            drop(keep);
+            drop(order);
+            Err(fault)
+        }
     }
-    Ok(keep)
 }
 
 // The status and body of a fetch, or why it failed.
@@ -101,31 +168,55 @@ const CASES: [(&str, End<'static>); 17] = [
     ("/mail", Err(FetchFault::NotHttp)),
 ];
 
-// An address where no server listens: a port that was bound and closed again.
-fn nowhere(rt: &HostRuntime) -> io::Result<SocketAddr> {
-    TcpListener::bind(rt, "127.0.0.1:0")?.local_addr()
-}
-
-// Sends one job per case, one that is cancelled, and two that reach no server. Returns the senders that keep the others going.
-fn ask_all(
-    rt: &HostRuntime,
+// Sends one job per case, and two that reach no server, and keeps the senders that keep them going.
+fn ask_cases<R: Clock>(
+    rt: &R,
     alloc: Global,
-    jobs: UnboundedSender<Job>,
-    server: SocketAddr,
-) -> Result<Vec<oneshot::Sender<()>>, Fail> {
-    let mut keeps = Vec::new(alloc);
+    jobs: &UnboundedSender<Job>,
+    (server, nowhere): (SocketAddr, SocketAddr),
+    keeps: &mut Vec<oneshot::Sender<()>>,
+) -> io::Result<()> {
     let mut fetch = 0u32;
-    for (target, _) in CASES {
-        keeps.push(ask(rt, alloc, &jobs, Some(server), fetch, target)?)?;
+    for (target, _) in &CASES {
+        keeps.push(ask(rt, alloc, jobs, Some(server), fetch, *target)?)?;
         fetch = fetch.saturating_add(1);
     }
-    let unwanted = ask(rt, alloc, &jobs, Some(server), 100, "/never")?;
-    keeps.push(ask(rt, alloc, &jobs, Some(nowhere(rt)?), 101, "/good")?)?;
-    keeps.push(ask(rt, alloc, &jobs, None, 102, "/good")?)?;
+    keeps.push(ask(rt, alloc, jobs, Some(nowhere), 101, "/good")?)?;
+    keeps.push(ask(rt, alloc, jobs, None, 102, "/good")?)?;
+    Ok(())
+}
+
+// Sends those jobs and one that is cancelled. Returns the senders that keep the others going.
+fn ask_all<R: Clock>(
+    rt: &R,
+    alloc: Global,
+    jobs: UnboundedSender<Job>,
+    servers: (SocketAddr, SocketAddr),
+) -> io::Result<Vec<oneshot::Sender<()>>> {
+    let mut keeps = Vec::new(alloc);
+    ask_cases(rt, alloc, &jobs, servers, &mut keeps)?;
+    let unwanted = ask(rt, alloc, &jobs, Some(servers.0), 100, "/never")?;
     drop(jobs);
     thread::sleep(rt, Duration::from_millis(500));
     drop(unwanted);
     Ok(keeps)
+}
+
+// Runs the fetches of all cases in a thread of their own, and returns their results. The second server is none.
+fn fetch_all<R>(rt: R, servers: (SocketAddr, SocketAddr)) -> io::Result<Kept>
+where
+    R: Threads + Wait + Clock + RandomSource + AllocGlobal + Net + Copy + Send + 'static,
+    R::Stream: Send + 'static,
+    R::Listener: Send + 'static,
+{
+    let alloc = rt.alloc();
+    let rules = fetch_rules(alloc, 1000)?;
+    let (jobs, work) = unbounded(alloc)?;
+    let fetches = thread::spawn(&rt, move || run_jobs(rt, work, rules, 10))?;
+    let keeps = ask_all(&rt, alloc, jobs, servers)?;
+    let kept = fetches.join(&rt);
+    drop(keeps);
+    kept
 }
 
 // How a fetch ended, or `None` if its server was not admitted.
@@ -148,80 +239,87 @@ fn wanted_of(fetch: u32) -> Option<End<'static>> {
     }
 }
 
+// Fails with the first fetch that ended otherwise than it has to.
+fn expect_ends(all: &[Fetched]) -> Result<(), Fail> {
+    for done in all {
+        if end_of(done) != wanted_of(done.fetch) {
+            let fetch = done.fetch;
+            return Err(Fail::new(format_args!("fetch {fetch} ended otherwise")));
+        }
+    }
+    Ok(())
+}
+
 /// All fetches run concurrently on one thread, and each gets its own result.
 #[test]
 fn each_by_itself(rt: HostRuntime) -> Result<(), Fail> {
-    let alloc = rt.alloc();
-    let listener = TcpListener::bind(&rt, "127.0.0.1:0")?;
-    let server = listener.local_addr()?;
-    let (jobs, work) = unbounded(alloc)?;
-    let origin = thread::spawn(
-        &rt,
-        move || origin::serve(rt, alloc, listener, CASES.len() + 1),
-    )?;
-    let seat = Kept {
-        all: Vec::new(alloc),
-    };
-    let limits = fetch_limits(10, Duration::from_secs(4));
-    let rules = fetch_rules(alloc, 1000)?;
-    let fetches = thread::spawn(&rt, move || -> io::Result<Option<Kept>> {
-        let mut seat = seat;
-        run_fetches(rt, work, &mut seat, rules, limits)?;
-        Ok(Some(seat))
-    })?;
-    let keeps = ask_all(&rt, alloc, jobs, server)?;
-    let Some(seat) = fetches.join(&rt)? else {
-        panic!(rt; "no seat");
-    };
-    drop(keeps);
-    assert_eq!(rt; seat.all.len(), CASES.len() + 3);
-    for done in &seat.all {
-        let got = end_of(done);
-        eprintln!(rt; "{} {:?}", done.fetch, got)?;
-        assert_eq!(rt; got, wanted_of(done.fetch));
-    }
-    let _ = origin.join(&rt);
+    let listener = listen(&rt)?;
+    let origin = Origin::start(rt, rt.alloc(), listener, CASES.len() + 1)?;
+    let nowhere = nowhere(&rt)?;
+    let kept = fetch_all(rt, (origin.address, nowhere))?;
+    expect_ends(kept.all.as_slice())?;
+    let count = kept.all.len();
+    drop(kept);
+    origin.join(&rt);
+    assert!(rt; count == CASES.len() + 3);
     Ok(())
+}
+
+// Sends a job for a server that is a neighbour.
+fn ask_neighbour<R: Clock>(
+    rt: &R,
+    alloc: Global,
+    jobs: &UnboundedSender<Job>,
+    server: SocketAddr,
+) -> io::Result<oneshot::Sender<()>> {
+    let (mut order, keep) = order_of(rt, alloc, 1, "/good")?;
+    order.is_origin = false;
+    send_order(jobs, Server::At(server), order, keep)
+}
+
+// Fetches from a server as from an origin server that is not admitted, and as from a neighbour.
+fn fetch_twice<R>(rt: R, server: SocketAddr) -> io::Result<Kept>
+where
+    R: Wait + Clock + RandomSource + AllocGlobal + Net + Copy,
+{
+    let alloc = rt.alloc();
+    let mut rules = fetch_rules(alloc, 1000)?;
+    rules.admit = AllBut {
+        port: server.port(),
+    };
+    let (jobs, work) = unbounded(alloc)?;
+    let refused = ask(&rt, alloc, &jobs, Some(server), 0, "/good")?;
+    let taken = ask_neighbour(&rt, alloc, &jobs, server)?;
+    drop(jobs);
+    let kept = run_jobs(rt, work, rules, 10);
+    drop((refused, taken));
+    kept
+}
+
+// Whether the first fetch was refused, and the second one whole.
+fn are_as_wanted(all: &[Fetched]) -> bool {
+    for done in all {
+        let is_first = done.fetch == 0;
+        let is_second = done.fetch == 1;
+        if matches!(done.end, FetchEnd::Refused) != is_first
+            || matches!(done.end, FetchEnd::Whole(_)) != is_second
+        {
+            return false;
+        }
+    }
+    true
 }
 
 /// An origin server that is not admitted is not connected to; a neighbour is, whatever its port.
 #[test]
 fn a_server_that_is_not_admitted(rt: HostRuntime) -> Result<(), Fail> {
-    let alloc = rt.alloc();
-    let listener = TcpListener::bind(&rt, "127.0.0.1:0")?;
-    let server = listener.local_addr()?;
-    let port = server.port();
-    let (jobs, work) = unbounded(alloc)?;
-    let refused = ask(&rt, alloc, &jobs, Some(server), 0, "/good")?;
-    let (order, taken) = order_of(&rt, alloc, 1, "/good")?;
-    let mut order = order;
-    order.is_origin = false;
-    let server = Server::At(server);
-    let job = Job {
-        server,
-        work: Work::Fetch(order),
-    };
-    assert!(rt; jobs.unbounded_send(job).is_ok());
-    drop(jobs);
-    let origin = thread::spawn(&rt, move || origin::serve(rt, alloc, listener, 1))?;
-    let mut rules = fetch_rules(alloc, 1000)?;
-    rules.admit = AllBut { port };
-    let mut seat = Kept {
-        all: Vec::new(alloc),
-    };
-    run_fetches(
-        rt,
-        work,
-        &mut seat,
-        rules,
-        fetch_limits(10, Duration::from_secs(4)),
-    )?;
-    drop((refused, taken));
-    assert_eq!(rt; seat.all.len(), 2);
-    for done in &seat.all {
-        assert_eq!(rt; matches!(done.end, FetchEnd::Refused), done.fetch == 0);
-        assert_eq!(rt; matches!(done.end, FetchEnd::Whole(_)), done.fetch == 1);
-    }
-    let _ = origin.join(&rt);
+    let listener = listen(&rt)?;
+    let origin = Origin::start(rt, rt.alloc(), listener, 1)?;
+    let kept = fetch_twice(rt, origin.address)?;
+    let count = kept.all.len();
+    let are_as_wanted = are_as_wanted(kept.all.as_slice());
+    drop(kept);
+    origin.join(&rt);
+    assert!(rt; count == 2 && are_as_wanted);
     Ok(())
 }

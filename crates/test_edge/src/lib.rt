@@ -14,6 +14,8 @@ mod clients;
 #[cfg(test)]
 mod fetches;
 #[cfg(test)]
+mod houses;
+#[cfg(test)]
 mod limits;
 #[cfg(test)]
 mod names;
@@ -23,6 +25,8 @@ mod origin;
 mod passages;
 #[cfg(test)]
 mod path;
+#[cfg(test)]
+mod rows;
 #[cfg(test)]
 mod seats;
 #[cfg(test)]

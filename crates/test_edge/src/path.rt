@@ -1,39 +1,78 @@
 //! A test of a whole request: a server, a fetch thread, and a one-entry cache between them.
-ghost use Rattle.std.specs.Prelude.{◌<◌};
-
-use crate::clients::{exchange, has};
+use crate::clients::has;
+use crate::houses::{House, Place, local, open_house};
 use crate::limits::{fetch_limits, fetch_rules, serve_limits};
-use crate::origin;
-use crate::servers::{new_stops, uncounted};
-use crossbeam_channel::unbounded;
+use crate::origin::{Origin, listen};
 use fetch_chain::Submit;
-use futures::channel::mpsc::UnboundedSender;
+use futures::channel::mpsc::{UnboundedReceiver, UnboundedSender};
 use futures::channel::{mpsc, oneshot};
-use http_clients::{ClientSocket, serve_clients};
-use http_fetches::{FetchLimits, run_fetches};
+use http_fetches::run_fetches;
 use http_traffic::{
     Asked, Asking, FetchEnd, Fetched, FollowUp, Forward, Front, Job, Order, Outcome, PassOn,
     Supplier, Told,
 };
-use name_lookup::{NameDesk, NameLimits, hand_over, open_names};
+use name_lookup::{NameClerk, NameDesk, NameLimits, hand_over, open_names};
 use object_store::{Object, SharedObject};
-use std::alloc::Global;
-use std::net::{IpAddr, Ipv4Addr, SocketAddr, SocketAddrV4, TcpListener};
+use std::alloc::{AllocError, AllocGlobal, Global};
+use std::net::{IpAddr, Net};
+use std::random::RandomSource;
 use std::sync::{Arc, Mutex, Wait};
 use std::test::Fail;
-use std::thread;
+use std::thread::{JoinHandle, Threads};
 use std::time::{Clock, Duration, Instant};
+use std::{io, thread};
 
 // The one object, once it has been fetched, and the client that waits for it.
-#[derive(Drop)]
 struct Table {
     object: Option<SharedObject>,
     waiting: Option<oneshot::Sender<Outcome>>,
     wanted: Option<oneshot::Sender<()>>,
 }
 
+impl Drop for Table {
+    fn drop(self) {
+        let Self {
+            object: _,
+            waiting: _,
+            wanted: _,
+        } = self;
+    }
+}
+
+impl Table {
+    // Stores a fetched object, if there is one, and makes the answer of it.
+    fn outcome_of(&mut self, object: Option<SharedObject>) -> Outcome {
+        match object {
+            Some(object) => {
+                self.object = object.share().ok();
+                Outcome::Got {
+                    object,
+                    supplier: Some(Supplier::Origin),
+                    is_stored: false,
+                }
+            }
+            None => Outcome::Fail(502),
+        }
+    }
+
+    // Answers the client that waits, if there is one.
+    fn answer(&mut self, object: Option<SharedObject>) {
+        match self.waiting.take() {
+            Some(waiting) => drop(waiting.send(self.outcome_of(object))),
+            None => drop(object),
+        }
+    }
+
+    // A share of the object, if it is stored.
+    fn stored(&self) -> Result<Option<SharedObject>, AllocError> {
+        match &self.object {
+            Some(object) => Ok(Some(object.share()?)),
+            None => Ok(None),
+        }
+    }
+}
+
 // Answers from the table, or fetches from the origin server.
-#[derive(Drop)]
 struct Asks<R> {
     rt: R,
     alloc: Global,
@@ -46,47 +85,79 @@ struct Asks<R> {
     stop: Option<oneshot::Sender<()>>,
 }
 
-impl<R: Wait + Clock + Copy> Asks<R> {
+impl<R: Drop> Drop for Asks<R> {
+    fn drop(self) {
+        let Self {
+            rt: _,
+            alloc: _,
+            table: _,
+            lanes: _,
+            names: _,
+            port: _,
+            next: _,
+            left: _,
+            stop: _,
+        } = self;
+    }
+}
+
+impl<R: Wait + Clock + Drop> Asks<R> {
     fn order(&self, wanted: oneshot::Receiver<()>) -> Option<Order> {
+        let alloc = self.alloc;
+        let deadline = Instant::now(&self.rt)
+            .ok()?
+            .checked_add(Duration::from_secs(30))?;
+        let host = String::from_str(alloc, "127.0.0.1").ok()?;
+        let target = String::from_str(alloc, "/minute").ok()?;
         Some(Order {
             fetch: 1,
             attempt: 0,
-            host: String::from_str(self.alloc, "127.0.0.1").ok()?,
-            target: String::from_str(self.alloc, "/minute").ok()?,
-            fields: Vec::new(self.alloc),
+            host,
+            target,
+            fields: Vec::new(alloc),
             is_origin: true,
             is_early: false,
-            deadline: Instant::now(&self.rt)
-                .ok()?
-                .checked_add(Duration::from_secs(30))?,
+            deadline,
             wanted,
         })
+    }
+
+    // Hands an order over.
+    fn hand(&self, order: Order) -> Option<()> {
+        let alloc = self.alloc;
+        let name = String::from_str(alloc, "127.0.0.1").ok()?;
+        let lanes = self.lanes.as_slice();
+        hand_over(&self.rt, alloc, &self.names, lanes, name, self.port, order).ok()
+    }
+
+    // Begins a fetch for a client that waits for it then.
+    fn fetch(&self, waiting: oneshot::Sender<Outcome>) -> Option<()> {
+        let (keep, wanted) = oneshot::channel(self.alloc).ok()?;
+        let order = self.order(wanted)?;
+        let mut table = self.table.lock(&self.rt);
+        table.waiting = Some(waiting);
+        table.wanted = Some(keep);
+        drop(table);
+        self.hand(order)
+    }
+
+    // Answers a client from the table, or begins a fetch for it.
+    fn answer(&self, waiting: oneshot::Sender<Outcome>) -> Option<()> {
+        let stored = self.table.lock(&self.rt).stored();
+        match stored {
+            Ok(Some(object)) => {
+                drop(waiting.send(Outcome::Hit { object, age: 0 }));
+                Some(())
+            }
+            Ok(None) => self.fetch(waiting),
+            Err(_) => None,
+        }
     }
 
     fn begin(&mut self) -> Option<Asking> {
         self.next = self.next.saturating_add(1);
         let (sender, answer) = oneshot::channel(self.alloc).ok()?;
-        let (keep, wanted) = oneshot::channel(self.alloc).ok()?;
-        let order = self.order(wanted)?;
-        let name = String::from_str(self.alloc, "127.0.0.1").ok()?;
-        let mut table = self.table.lock(&self.rt);
-        if let Some(object) = &table.object {
-            let object = object.share().ok()?;
-            let _ = sender.send(Outcome::Hit { object, age: 0 });
-        } else {
-            table.waiting = Some(sender);
-            table.wanted = Some(keep);
-            hand_over(
-                &self.rt,
-                self.alloc,
-                &self.names,
-                self.lanes.as_slice(),
-                name,
-                self.port,
-                order,
-            )
-            .ok()?;
-        }
+        self.answer(sender)?;
         Some(Asking {
             client: self.next,
             forward: Forward::Miss,
@@ -96,7 +167,7 @@ impl<R: Wait + Clock + Copy> Asks<R> {
     }
 }
 
-impl<R: Wait + Clock + Copy> Front for Asks<R> {
+impl<R: Wait + Clock + Drop> Front for Asks<R> {
     fn allows(&mut self, _address: IpAddr) -> bool {
         false
     }
@@ -110,7 +181,7 @@ impl<R: Wait + Clock + Copy> Front for Asks<R> {
     }
 }
 
-impl<R: Wait + Clock + Copy> FollowUp for Asks<R> {
+impl<R: Wait + Clock + Drop> FollowUp for Asks<R> {
     fn gone(&mut self, _client: u64) {}
 
     fn answered(&mut self) {
@@ -125,36 +196,32 @@ impl<R: Wait + Clock + Copy> FollowUp for Asks<R> {
     fn tell(&mut self, _told: &Told<'_>) {}
 }
 
-impl<R: Wait + Clock + Copy> PassOn for Asks<R> {}
+impl<R: Wait + Clock + Drop> PassOn for Asks<R> {}
 
 // Stores the fetched object in the table, and answers the client.
-#[derive(Drop)]
 struct Puts<R> {
     rt: R,
     alloc: Global,
     table: Arc<Mutex<Table>>,
 }
 
-impl<R: Wait + Copy> Submit<Fetched> for Puts<R> {
+impl<R: Drop> Drop for Puts<R> {
+    fn drop(self) {
+        let Self {
+            rt: _,
+            alloc: _,
+            table: _,
+        } = self;
+    }
+}
+
+impl<R: Wait + Drop> Submit<Fetched> for Puts<R> {
     fn submit(&mut self, done: Fetched) {
-        let mut table = self.table.lock(&self.rt);
-        let answer = match done.end {
+        let object = match done.end {
             FetchEnd::Whole(page) => object_of(self.alloc, page.status, page.body),
             FetchEnd::Refused | FetchEnd::Failed(_) => None,
         };
-        if let Some(waiting) = table.waiting.take() {
-            let _ = match answer {
-                Some(object) => {
-                    table.object = object.share().ok();
-                    waiting.send(Outcome::Got {
-                        object,
-                        supplier: Some(Supplier::Origin),
-                        is_stored: false,
-                    })
-                }
-                None => waiting.send(Outcome::Fail(502)),
-            };
-        }
+        self.table.lock(&self.rt).answer(object);
     }
 }
 
@@ -162,76 +229,188 @@ fn object_of(alloc: Global, status: u16, body: Vec<u8>) -> Option<SharedObject> 
     SharedObject::new(alloc, Object::new(status, Vec::new(alloc), body, 0, 60)).ok()
 }
 
-/// Fetches of bodies of at most 1,000 octets.
-fn short_bodies() -> FetchLimits
-    ensures { 0 < result.at_once }
+// Runs fetches of bodies of at most 1,000 octets.
+fn run_lane<R>(rt: R, work: UnboundedReceiver<Job>, table: Arc<Mutex<Table>>) -> io::Result<()>
+where
+    R: Wait + Clock + RandomSource + AllocGlobal + Net + Copy,
 {
-    fetch_limits(1000, Duration::from_secs(5))
+    let alloc = rt.alloc();
+    let mut puts = Puts { rt, alloc, table };
+    let ran = match fetch_rules(alloc, 1000) {
+        Ok(rules) => {
+            let limits = fetch_limits(1000, Duration::from_secs(5));
+            run_fetches(rt, work, &mut puts, rules, limits)
+        }
+        Err(fault) => {
+            drop(work);
+            Err(io::Error::from(fault))
+        }
+    };
+    drop(puts);
+    ran
 }
 
-#[test]
-fn a_miss_and_a_hit(rt: HostRuntime) -> Result<(), Fail> {
-    let alloc = rt.alloc();
-    let listener = TcpListener::bind(&rt, "127.0.0.1:0")?;
-    let port = listener.local_addr()?.port();
-    let (bound, told) = unbounded(alloc)?;
-    let (stop, _hurry, stopped) = new_stops(alloc)?;
-    let open = uncounted(alloc)?;
-    let (names, _clerk) = open_names(alloc, NameLimits::usual(), false)?;
-    let rules = fetch_rules(alloc, 1000)?;
-    let (jobs, work) = mpsc::unbounded(alloc)?;
-    let mut lanes = Vec::new(alloc);
-    lanes.push(jobs)?;
+// An empty table, for two threads.
+fn new_table(alloc: Global) -> Result<(Arc<Mutex<Table>>, Arc<Mutex<Table>>), AllocError> {
     let table = Table {
         object: None,
         waiting: None,
         wanted: None,
     };
     let table = Arc::new(alloc, Mutex::new(table))?;
-    let mut puts = Puts {
-        rt,
-        alloc,
-        table: Arc::try_clone(&table)?,
-    };
-    let asks = Asks {
-        rt,
-        alloc,
+    let other = Arc::try_clone(&table)?;
+    Ok((table, other))
+}
+
+// What leads to the thread of fetches, and that thread.
+struct Lane {
+    table: Arc<Mutex<Table>>,
+    lanes: Vec<UnboundedSender<Job>>,
+    thread: JoinHandle<io::Result<()>>,
+}
+
+impl Drop for Lane {
+    fn drop(self) {
+        let Self {
+            table: _,
+            lanes: _,
+            thread: _,
+        } = self;
+    }
+}
+
+impl Lane {
+    // A front that asks for the origin server at this port, and stops its server after two answers. Returns the thread of fetches too.
+    fn into_asks<R>(
+        self,
+        rt: R,
+        alloc: Global,
+        names: NameDesk,
+        port: u16,
+        stop: Option<oneshot::Sender<()>>,
+    ) -> (Asks<R>, JoinHandle<io::Result<()>>) {
+        let Self {
+            table,
+            lanes,
+            thread,
+        } = self;
+        let asks = Asks {
+            rt,
+            alloc,
+            table,
+            lanes,
+            names,
+            port,
+            next: 0,
+            left: 2,
+            stop,
+        };
+        (asks, thread)
+    }
+}
+
+// A list of one lane.
+fn lanes_of(
+    alloc: Global,
+    lane: UnboundedSender<Job>,
+) -> Result<Vec<UnboundedSender<Job>>, AllocError> {
+    let mut lanes = Vec::with_capacity(alloc, 1)?;
+    lanes.push(lane)?;
+    Ok(lanes)
+}
+
+// Starts the thread of fetches.
+fn start_lane<R>(rt: R) -> io::Result<Lane>
+where
+    R: Threads + Wait + Clock + RandomSource + AllocGlobal + Net + Copy + Send + 'static,
+    R::Stream: Send + 'static,
+    R::Listener: Send + 'static,
+{
+    let alloc = rt.alloc();
+    let (table, own) = new_table(alloc)?;
+    let (jobs, work) = mpsc::unbounded(alloc)?;
+    let lanes = lanes_of(alloc, jobs)?;
+    let thread = thread::spawn(&rt, move || run_lane(rt, work, own))?;
+    Ok(Lane {
         table,
         lanes,
-        names,
-        port,
-        next: 0,
-        left: 2,
-        stop: Some(stop),
-    };
-    let origin = thread::spawn(&rt, move || origin::serve(rt, alloc, listener, 1))?;
-    let fetches = thread::spawn(
-        &rt,
-        move || run_fetches(rt, work, &mut puts, rules, short_bodies()),
+        thread,
+    })
+}
+
+// A server, its thread of fetches, and what would look up names for it.
+struct Proxy {
+    house: House,
+    fetches: JoinHandle<io::Result<()>>,
+    clerk: NameClerk,
+}
+
+impl Drop for Proxy {
+    fn drop(self) {
+        let Self {
+            house: _,
+            fetches: _,
+            clerk: _,
+        } = self;
+    }
+}
+
+impl Proxy {
+    // Starts both threads, for the origin server at this port.
+    fn start<R>(rt: R, port: u16) -> Result<Proxy, Fail>
+    where
+        R: Threads + Wait + Clock + RandomSource + AllocGlobal + Net + Copy + Send + 'static,
+        R::Stream: Send + 'static,
+        R::Listener: Send + 'static,
+    {
+        let alloc = rt.alloc();
+        let lane = start_lane(rt)?;
+        let (place, mut ends) = Place::at(&rt, local(), serve_limits())?;
+        let (names, clerk) = open_names(alloc, NameLimits::usual(), false)?;
+        let (asks, fetches) = lane.into_asks(rt, alloc, names, port, ends.stop.take());
+        let house = open_house(rt, place, ends, asks)?;
+        Ok(Proxy {
+            house,
+            fetches,
+            clerk,
+        })
+    }
+
+    // Waits for the end of both threads.
+    fn join<R: Threads>(self, rt: &R) -> io::Result<()> {
+        let Self {
+            house,
+            fetches,
+            clerk,
+        } = self;
+        let served = house.join(rt);
+        let fetched = fetches.join(rt);
+        drop(clerk);
+        served?;
+        fetched
+    }
+}
+
+// Whether the answer to a request has this in its head, and the content.
+fn is_answered<R: Net>(rt: &R, house: &House, part: &[u8]) -> io::Result<bool> {
+    let got = house.answer(
+        rt,
+        b"GET http://127.0.0.1/minute HTTP/1.1\r\nHost: o\r\n\r\n",
     )?;
-    let address = SocketAddr::V4(SocketAddrV4::new(Ipv4Addr::new(127, 0, 0, 1), 0));
-    let socket = ClientSocket::bind(&rt, address, serve_limits().connections)?;
-    let server = thread::spawn(
-        &rt,
-        move || serve_clients(
-            rt,
-            socket,
-            "edge",
-            asks,
-            bound,
-            stopped,
-            open,
-            serve_limits(),
-        ),
-    )?;
-    let address = told.recv(&rt)?;
-    let sent = b"GET http://127.0.0.1/minute HTTP/1.1\r\nHost: o\r\n\r\n";
-    let first = exchange(&rt, alloc, address, sent)?;
-    assert!(rt; has(first.as_slice(), b"; fwd=miss\r\n") && has(first.as_slice(), b"\r\n\r\nhi"));
-    let second = exchange(&rt, alloc, address, sent)?;
-    assert!(rt; has(second.as_slice(), b"edge; hit") && has(second.as_slice(), b"\r\n\r\nhi"));
-    server.join(&rt)?;
-    fetches.join(&rt)?;
-    let _ = origin.join(&rt);
+    let is_answered = has(got.as_slice(), part) && has(got.as_slice(), b"\r\n\r\nhi");
+    drop(got);
+    Ok(is_answered)
+}
+
+#[test]
+fn a_miss_and_a_hit(rt: HostRuntime) -> Result<(), Fail> {
+    let listener = listen(&rt)?;
+    let origin = Origin::start(rt, rt.alloc(), listener, 1)?;
+    let proxy = Proxy::start(rt, origin.address.port())?;
+    let is_missed = is_answered(&rt, &proxy.house, b"; fwd=miss\r\n")?;
+    let is_hit = is_answered(&rt, &proxy.house, b"edge; hit")?;
+    assert!(rt; is_missed && is_hit);
+    proxy.join(&rt)?;
+    origin.join(&rt);
     Ok(())
 }

@@ -1,20 +1,19 @@
 //! Tests of the seats of a server's clients.
 use crate::clients::Seen::{Answered, Closed, Silent};
 use crate::clients::{Seen, seen_after};
+use crate::houses::{House, Place, local, open_house};
 use crate::limits::{client_limits, serve_limits};
-use crate::servers::{Script, new_stops, uncounted};
-use client_streams::{ClientLimits, seat_shares};
-use crossbeam_channel::unbounded;
-use futures::channel::oneshot;
-use http_clients::{ClientSocket, ServeLimits, client_sockets, serve_clients};
+use crate::servers::Script;
+use client_streams::{ClientLimits, SeatShare, seat_shares};
+use http_clients::{ClientSocket, ServeLimits, client_sockets};
 use std::alloc::{AllocGlobal, Global};
-use std::net::{Ipv4Addr, Net, SocketAddr, SocketAddrV4, TcpStream};
+use std::io;
+use std::net::{Net, TcpStream};
 use std::random::RandomSource;
 use std::sync::Wait;
 use std::test::Fail;
-use std::thread::{JoinHandle, Threads};
+use std::thread::Threads;
 use std::time::{Clock, Duration};
-use std::{io, thread};
 
 // A request that is answered at once, and one whose answer never comes.
 const ASK: &[u8] = b"GET http://o/a HTTP/1.1\r\nHost: o\r\n\r\n";
@@ -34,28 +33,43 @@ fn patient_limits(connections: ClientLimits) -> ServeLimits {
     limits
 }
 
-// Takes steps on connections, which stay open until the last. Each is to one of these threads in turn, the first to the first. Errors:
-// a step is not followed by what is wanted.
+// A connection to the thread whose turn it is, the first to the first.
+fn next_client<R: Net>(rt: &R, houses: &[House], place: usize) -> io::Result<R::Stream> {
+    let Some(house) = houses.get(place % houses.len().max(1)) else {
+        return Err(io::Error::other("no thread"));
+    };
+    TcpStream::connect(rt, house.address)
+}
+
+// Takes a step. Returns whether what is wanted is seen then.
+fn is_seen<R: Net>(
+    rt: &R,
+    houses: &[House],
+    sockets: &mut Vec<R::Stream>,
+    step: &Step,
+) -> io::Result<bool> {
+    let Step(connection, octets, wanted) = step;
+    let count = sockets.len();
+    if count <= *connection {
+        sockets.push(next_client(rt, houses, count)?)?;
+    }
+    let Some(socket) = sockets.get_mut(*connection) else {
+        return Err(io::Error::other("a step leaves out a connection"));
+    };
+    let millis = if *wanted == Silent { 400 } else { 15_000 };
+    Ok(seen_after(socket, *octets, Duration::from_millis(millis)) == *wanted)
+}
+
+// Takes steps on connections, each of which is to one of these threads in turn, the first to the first. Errors: a step is not followed
+// by what is wanted.
 fn take_steps<R: Net>(
     rt: &R,
-    alloc: Global,
-    threads: &[SocketAddr],
+    houses: &[House],
+    sockets: &mut Vec<R::Stream>,
     steps: &[Step],
 ) -> io::Result<()> {
-    let mut sockets = Vec::new(alloc);
-    for Step(connection, octets, wanted) in steps {
-        if sockets.len() <= *connection {
-            let Some(thread) = threads.get(sockets.len() % threads.len().max(1)) else {
-                return Err(io::Error::other("no thread"));
-            };
-            sockets.push(TcpStream::connect(rt, *thread)?)?;
-        }
-        let Some(socket) = sockets.get_mut(*connection) else {
-            return Err(io::Error::other("a step leaves out a connection"));
-        };
-        let millis = if *wanted == Silent { 400 } else { 15_000 };
-        let limit = Duration::from_millis(millis);
-        if seen_after(socket, octets, limit) != *wanted {
+    for step in steps {
+        if !is_seen(rt, houses, sockets, step)? {
             return Err(io::Error::other("something else is seen"));
         }
     }
@@ -113,35 +127,51 @@ const NOBODY_IDLE: [Step; 7] = [
     Step(0, b"", Silent),
 ];
 
-// A thread that serves clients.
-#[derive(Drop)]
-struct Running {
-    address: SocketAddr,
-    stop: oneshot::Sender<()>,
-    thread: JoinHandle<io::Result<()>>,
-}
-
 // Starts a thread that serves clients at this socket.
-fn run<R>(rt: R, socket: ClientSocket, limits: ServeLimits) -> Result<Running, Fail>
+fn run<R>(rt: R, socket: ClientSocket, limits: ServeLimits) -> Result<House, Fail>
 where
     R: Threads + Wait + Clock + RandomSource + AllocGlobal + Net + Copy + Send + 'static,
     R::Stream: Send + 'static,
     R::Listener: Send + 'static,
 {
     let alloc = rt.alloc();
-    let (bound, told) = unbounded(alloc)?;
-    let (stop, _hurry, stopped) = new_stops(alloc)?;
-    let open = uncounted(alloc)?;
-    let script = Script::new(rt)?;
-    let thread = thread::spawn(
-        &rt,
-        move || serve_clients(rt, socket, "edge", script, bound, stopped, open, limits),
-    )?;
-    Ok(Running {
-        address: told.recv(&rt)?,
-        stop,
-        thread,
-    })
+    let (place, ends) = Place::of(alloc, socket, limits)?;
+    let script = Script::new(rt, alloc)?;
+    open_house(rt, place, ends, script)
+}
+
+// Starts a thread for each of these sockets.
+fn run_all<R>(
+    rt: R,
+    sockets: Vec<ClientSocket>,
+    connections: ClientLimits,
+    houses: &mut Vec<House>,
+) -> Result<(), Fail>
+where
+    R: Threads + Wait + Clock + RandomSource + AllocGlobal + Net + Copy + Send + 'static,
+    R::Stream: Send + 'static,
+    R::Listener: Send + 'static,
+{
+    for socket in sockets {
+        houses.push(run(rt, socket, patient_limits(connections))?)?;
+    }
+    Ok(())
+}
+
+// Ends these threads.
+fn end_all<R: Threads>(rt: &R, houses: Vec<House>) -> io::Result<()> {
+    for house in houses {
+        house.end(rt)?;
+    }
+    Ok(())
+}
+
+// Takes steps on connections to these threads, which stay open until the last. Errors: a step is not followed by what is wanted.
+fn step_through<R: Net>(rt: &R, alloc: Global, houses: &[House], steps: &[Step]) -> io::Result<()> {
+    let mut sockets = Vec::new(alloc);
+    let taken = take_steps(rt, houses, &mut sockets, steps);
+    drop(sockets);
+    taken
 }
 
 // Starts a thread for each of these sockets, takes steps on connections to them, and ends the threads. Errors: a step is not followed
@@ -157,45 +187,29 @@ where
     R::Stream: Send + 'static,
     R::Listener: Send + 'static,
 {
-    let alloc = rt.alloc();
-    let mut threads = Vec::new(alloc);
-    let mut addresses = Vec::new(alloc);
-    for socket in sockets {
-        let running = run(rt, socket, patient_limits(connections))?;
-        addresses.push(running.address)?;
-        threads.push(running)?;
-    }
-    let seen = take_steps(&rt, alloc, addresses.as_slice(), steps);
-    end(&rt, threads)?;
-    Ok(seen?)
-}
-
-// Ends these threads.
-fn end<R: Threads>(rt: &R, threads: Vec<Running>) -> Result<(), Fail> {
-    for running in threads {
-        let _ = running.stop.send(());
-        running.thread.join(rt)?;
-    }
+    let mut houses = Vec::new(rt.alloc());
+    run_all(rt, sockets, connections, &mut houses)?;
+    let taken = step_through(&rt, rt.alloc(), houses.as_slice(), steps);
+    let ended = end_all(&rt, houses);
+    taken?;
+    ended?;
     Ok(())
 }
 
-// An address of this host, with any port.
-fn local() -> SocketAddr {
-    SocketAddr::V4(SocketAddrV4::new(Ipv4Addr::new(127, 0, 0, 1), 0))
+// A socket of one thread.
+fn socket_alone(rt: &HostRuntime, connections: ClientLimits) -> io::Result<Vec<ClientSocket>> {
+    client_sockets(rt, local(), connections, 1)
 }
 
 #[test]
 fn seats_are_given_and_taken(rt: HostRuntime) -> Result<(), Fail> {
-    for (connections, steps) in [
-        (client_limits(64, 2), SO_MANY.as_slice()),
-        (client_limits(3, 64), LONGEST_IDLE.as_slice()),
-        (client_limits(2, 64), SAID_NOTHING.as_slice()),
-        (client_limits(2, 64), NOBODY_IDLE.as_slice()),
-    ] {
-        let sockets = client_sockets(&rt, local(), connections, 1)?;
-        try_steps(rt, sockets, connections, steps)?;
-    }
-    Ok(())
+    let limits = client_limits(64, 2);
+    try_steps(rt, socket_alone(&rt, limits)?, limits, &SO_MANY)?;
+    let limits = client_limits(3, 64);
+    try_steps(rt, socket_alone(&rt, limits)?, limits, &LONGEST_IDLE)?;
+    let limits = client_limits(2, 64);
+    try_steps(rt, socket_alone(&rt, limits)?, limits, &SAID_NOTHING)?;
+    try_steps(rt, socket_alone(&rt, limits)?, limits, &NOBODY_IDLE)
 }
 
 // The connections of an address are those to all threads. A thread gives a seat back after it has closed its connection, so another one
@@ -240,35 +254,38 @@ const ANOTHER_LEAVES: [Step; 4] = [
     Step(1, b"", Answered),
 ];
 
-#[test]
-fn threads_have_seats_together(rt: HostRuntime) -> Result<(), Fail> {
-    for (connections, steps) in [
-        (client_limits(64, 2), SO_MANY_TOGETHER.as_slice()),
-        (client_limits(2, 64), ANOTHERS_IDLE.as_slice()),
-        (client_limits(2, 64), NOBODY_ANYWHERE.as_slice()),
-        (client_limits(1, 64), ANOTHER_LEAVES.as_slice()),
-    ] {
-        let sockets = sockets_apart(&rt, connections)?;
-        try_steps(rt, sockets, connections, steps)?;
-    }
-    Ok(())
+// A socket at an address of its own, with this part in the seats.
+fn socket_apart(
+    rt: &HostRuntime,
+    connections: ClientLimits,
+    seats: SeatShare,
+) -> io::Result<ClientSocket> {
+    let ClientSocket { listener, .. } = ClientSocket::bind(rt, local(), connections)?;
+    Ok(ClientSocket {
+        listener,
+        six: None,
+        seats,
+    })
 }
 
 // Sockets of two threads, each at an address of its own so that a test knows whose client it is.
-fn sockets_apart<R: Net + AllocGlobal>(
-    rt: &R,
-    connections: ClientLimits,
-) -> io::Result<Vec<ClientSocket>> {
-    let mut sockets = Vec::new(rt.alloc());
+fn sockets_apart(rt: &HostRuntime, connections: ClientLimits) -> io::Result<Vec<ClientSocket>> {
+    let mut sockets = Vec::with_capacity(rt.alloc(), 2)?;
     for seats in seat_shares(rt.alloc(), connections, 2)? {
-        let ClientSocket { listener, .. } = ClientSocket::bind(rt, local(), connections)?;
-        sockets.push(ClientSocket {
-            listener,
-            six: None,
-            seats,
-        })?;
+        sockets.push(socket_apart(rt, connections, seats)?)?;
     }
     Ok(sockets)
+}
+
+#[test]
+fn threads_have_seats_together(rt: HostRuntime) -> Result<(), Fail> {
+    let limits = client_limits(64, 2);
+    try_steps(rt, sockets_apart(&rt, limits)?, limits, &SO_MANY_TOGETHER)?;
+    let limits = client_limits(2, 64);
+    try_steps(rt, sockets_apart(&rt, limits)?, limits, &ANOTHERS_IDLE)?;
+    try_steps(rt, sockets_apart(&rt, limits)?, limits, &NOBODY_ANYWHERE)?;
+    let limits = client_limits(1, 64);
+    try_steps(rt, sockets_apart(&rt, limits)?, limits, &ANOTHER_LEAVES)
 }
 
 // Each of several threads with the same socket serves clients.
@@ -285,5 +302,5 @@ const ALL_ANSWERED: [Step; 6] = [
 fn threads_share_a_socket(rt: HostRuntime) -> Result<(), Fail> {
     let connections = client_limits(64, 64);
     let sockets = client_sockets(&rt, local(), connections, 3)?;
-    try_steps(rt, sockets, connections, ALL_ANSWERED.as_slice())
+    try_steps(rt, sockets, connections, &ALL_ANSWERED)
 }

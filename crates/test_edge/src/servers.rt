@@ -1,28 +1,86 @@
 //! Tests of the server for clients.
-use crate::clients::{exchange, has, is_ended_after};
+use crate::clients::{has, has_all, is_ended_after};
+use crate::houses::{House, Line, Place, local, new_ends, open_house};
 use crate::limits::{client_limits, serve_limits};
+use crate::rows::{Question, all_hold};
 use client_streams::{
     Accept, AcceptedClients, Listeners, Patient, Refusal, SeatShare, SharedStage, Stops,
 };
 use crossbeam_channel::{Sender, unbounded};
 use futures::channel::oneshot;
-use http_clients::{ClientSocket, serve_clients};
-use http_traffic::{Asked, Asking, FollowUp, Forward, Front, How, Outcome, PassOn, Supplier, Told};
+use http_traffic::{Asked, Asking, FollowUp, Forward, Front, Outcome, PassOn, Supplier, Told};
 use object_store::{Object, SharedObject};
 use std::alloc::{AllocError, AllocGlobal, Global};
-use std::net::{IpAddr, Ipv4Addr, Net, SocketAddr, SocketAddrV4};
+use std::net::{IpAddr, Net, SocketAddr};
 use std::random::RandomSource;
-use std::sync::atomic::{AtomicU64, AtomicUsize, Ordering};
+use std::sync::atomic::{AtomicU64, Ordering};
 use std::sync::{Arc, Wait};
 use std::test::Fail;
+use std::thread::Threads;
 use std::time::{Clock, Duration};
 use std::{io, thread};
 use tokio::net::{TcpListener, TcpStream};
 use tokio::runtime::LocalRuntime;
 use tokio::time::Handle;
 
-// Answers by the request target alone, and counts its answers.
-#[derive(Drop)]
+/// The octets of the answer for http://o/huge, which are more than the buffers of a connection take.
+pub(crate) const HUGE: usize = 8 * 1024 * 1024;
+
+// The fields of each object.
+const FIELDS: [(&[u8], &[u8]); 3] = [
+    (b"age", b"7"),
+    (b"x-kept", b"yes"),
+    (b"content-length", b"99"),
+];
+
+fn add_fields(alloc: Global, head: &mut Vec<(Vec<u8>, Vec<u8>)>) -> Result<(), AllocError> {
+    for (name, value) in &FIELDS {
+        let name = name.to_vec(alloc)?;
+        let value = value.to_vec(alloc)?;
+        head.push((name, value))?;
+    }
+    Ok(())
+}
+
+fn body_for(alloc: Global, target: &str) -> Result<Vec<u8>, AllocError> {
+    let octets = match target {
+        "http://o/big" => 200_000,
+        "http://o/huge" => HUGE,
+        "http://o/nothing" => 0,
+        _ => return b"hi".to_vec(alloc),
+    };
+    Ok(vec![in alloc; b'b'; octets]?)
+}
+
+// The object that answers for a target.
+fn object_for(alloc: Global, target: &str) -> Result<SharedObject, AllocError> {
+    let life = if target == "http://o/anothers" || target == "http://o/full" {
+        0
+    } else {
+        60
+    };
+    let body = body_for(alloc, target)?;
+    let mut head = Vec::new(alloc);
+    add_fields(alloc, &mut head)?;
+    SharedObject::new(alloc, Object::new(200, head, body, 7, life))
+}
+
+fn answer_for(alloc: Global, target: &str) -> Result<Outcome, AllocError> {
+    if target == "http://o/fail" {
+        return Ok(Outcome::Fail(502));
+    }
+    let object = object_for(alloc, target)?;
+    if target == "http://o/hit" {
+        return Ok(Outcome::Hit { object, age: 17 });
+    }
+    Ok(Outcome::Got {
+        object,
+        supplier: Some(Supplier::Neighbour(3)),
+        is_stored: target == "http://o/kept",
+    })
+}
+
+/// Answers by the request target alone, and counts its answers.
 pub(crate) struct Script<R> {
     rt: R,
     alloc: Global,
@@ -37,31 +95,31 @@ pub(crate) struct Script<R> {
     told: Option<Sender<Line, Global>>,
 }
 
-/// What a front is told of a request.
-#[derive(Clone, Copy, Debug, PartialEq, Eq)]
-pub(crate) struct Line {
-    /// Whether there is a request.
-    pub(crate) is_asked: bool,
-    pub(crate) status: Option<u16>,
-    pub(crate) how: How,
-    pub(crate) supplier: Option<Supplier>,
-    pub(crate) octets: u64,
-    pub(crate) is_whole: bool,
+impl<R: Drop> Drop for Script<R> {
+    fn drop(self) {
+        let Self {
+            rt: _,
+            alloc: _,
+            next: _,
+            kept: _,
+            gone: _,
+            answered: _,
+            left: _,
+            told: _,
+        } = self;
+    }
 }
 
-/// The octets of the answer for http://o/huge, which are more than the buffers of a connection take.
-pub(crate) const HUGE: usize = 8 * 1024 * 1024;
-
-impl<R: AllocGlobal + Copy> Script<R> {
+impl<R: Drop> Script<R> {
     /// A front that nobody watches.
-    pub(crate) fn new(rt: R) -> Result<Script<R>, AllocError> {
-        let alloc = rt.alloc();
+    pub(crate) fn new(rt: R, alloc: Global) -> Result<Script<R>, AllocError> {
+        let gone = Arc::new(alloc, AtomicU64::new(0))?;
         Ok(Script {
             rt,
             alloc,
             next: 0,
             kept: Vec::new(alloc),
-            gone: Arc::new(alloc, AtomicU64::new(0))?,
+            gone,
             answered: None,
             left: 0,
             told: None,
@@ -69,68 +127,64 @@ impl<R: AllocGlobal + Copy> Script<R> {
     }
 
     /// A front that passes on what it is told.
-    pub(crate) fn telling(rt: R, told: Sender<Line, Global>) -> Result<Script<R>, AllocError> {
-        let mut script = Script::new(rt)?;
+    pub(crate) fn telling(
+        rt: R,
+        alloc: Global,
+        told: Sender<Line, Global>,
+    ) -> Result<Script<R>, AllocError> {
+        let mut script = Script::new(rt, alloc)?;
         script.told = Some(told);
         Ok(script)
     }
 
-    fn answer(&self, target: &str) -> Result<Outcome, AllocError> {
-        let mut head = Vec::new(self.alloc);
-        head.push((b"age".to_vec(self.alloc)?, b"7".to_vec(self.alloc)?))?;
-        head.push((b"x-kept".to_vec(self.alloc)?, b"yes".to_vec(self.alloc)?))?;
-        head.push((
-            b"content-length".to_vec(self.alloc)?,
-            b"99".to_vec(self.alloc)?,
-        ))?;
-        let body = match target {
-            "http://o/big" => vec![in self.alloc; b'b'; 200_000]?,
-            "http://o/huge" => vec![in self.alloc; b'b'; HUGE]?,
-            "http://o/nothing" => Vec::new(self.alloc),
-            _ => b"hi".to_vec(self.alloc)?,
-        };
-        let life = if target == "http://o/anothers" || target == "http://o/full" {
-            0
-        } else {
-            60
-        };
-        let object = SharedObject::new(self.alloc, Object::new(200, head, body, 7, life))?;
-        match target {
-            "http://o/hit" => Ok(Outcome::Hit { object, age: 17 }),
-            "http://o/fail" => Ok(Outcome::Fail(502)),
-            _ => Ok(Outcome::Got {
-                object,
-                supplier: Some(Supplier::Neighbour(3)),
-                is_stored: target == "http://o/kept",
-            }),
-        }
+    // A front that stops its server after so many answers.
+    fn stopping(
+        rt: R,
+        alloc: Global,
+        stop: Option<oneshot::Sender<()>>,
+        left: u32,
+    ) -> Result<Script<R>, AllocError> {
+        let mut script = Script::new(rt, alloc)?;
+        script.answered = stop;
+        script.left = left;
+        Ok(script)
     }
 
-    // A new client, whose answer is sent at once if it is sent at all.
-    fn accept(&mut self, target: &str, forward: Forward) -> Result<Asking, u16> {
-        self.next = self.next.saturating_add(1);
-        let Ok((sender, answer)) = oneshot::channel(self.alloc) else {
-            return Err(503);
-        };
+    // Sends the answer at once if it is sent at all.
+    fn settle(&mut self, target: &str, sender: oneshot::Sender<Outcome>) -> Result<(), AllocError> {
         if target == "http://o/never" {
             let _ = self.kept.push(sender);
-        } else {
-            let Ok(given) = self.answer(target) else {
-                return Err(503);
-            };
-            let _ = sender.send(given);
+            return Ok(());
         }
-        Ok(Asking {
-            client: self.next,
-            forward,
-            began: None,
-            answer,
-        })
+        let given = answer_for(self.alloc, target)?;
+        drop(sender.send(given));
+        Ok(())
+    }
+
+    // What receives the answer for a target.
+    fn promise(&mut self, target: &str) -> Result<oneshot::Receiver<Outcome>, AllocError> {
+        let (sender, answer) = oneshot::channel(self.alloc)?;
+        self.settle(target, sender)?;
+        Ok(answer)
+    }
+
+    // A new client.
+    fn accept(&mut self, target: &str, forward: Forward) -> Result<Asking, u16> {
+        self.next = self.next.saturating_add(1);
+        match self.promise(target) {
+            Ok(answer) => Ok(Asking {
+                client: self.next,
+                forward,
+                began: None,
+                answer,
+            }),
+            Err(_) => Err(503),
+        }
     }
 }
 
-impl<R: Wait + AllocGlobal + Copy> Front for Script<R> {
-    fn allows(&mut self, address: IpAddr) -> bool {
+impl<R: Wait + Drop> Front for Script<R> {
+    fn allows(&mut self, _address: IpAddr) -> bool {
         false
     }
 
@@ -155,7 +209,7 @@ impl<R: Wait + AllocGlobal + Copy> Front for Script<R> {
     }
 }
 
-impl<R: Wait + AllocGlobal + Copy> FollowUp for Script<R> {
+impl<R: Wait + Drop> FollowUp for Script<R> {
     fn gone(&mut self, client: u64) {
         self.gone.store(client, Ordering::SeqCst);
     }
@@ -171,41 +225,18 @@ impl<R: Wait + AllocGlobal + Copy> FollowUp for Script<R> {
 
     fn tell(&mut self, told: &Told<'_>) {
         if let Some(lines) = &self.told {
-            let line = Line {
-                is_asked: matches!(told.asked, Some(asked) if asked.from == told.from),
-                status: told.status,
-                how: told.how,
-                supplier: told.supplier,
-                octets: told.octets,
-                is_whole: told.is_whole,
-            };
-            let _ = lines.send(&self.rt, line);
+            let is_asked = matches!(told.asked, Some(asked) if asked.from == told.from);
+            Line::of(told, is_asked).pass(&self.rt, lines);
         }
     }
 }
 
-impl<R: Wait + AllocGlobal + Copy> PassOn for Script<R> {}
-
-/// What ends a server, and the two senders of it.
-pub(crate) fn new_stops(
-    alloc: Global,
-) -> Result<(oneshot::Sender<()>, oneshot::Sender<()>, Stops), AllocError> {
-    let (stop, stopped) = oneshot::channel(alloc)?;
-    let (hurry, hurried) = oneshot::channel(alloc)?;
-    let stops = Stops {
-        stop: stopped,
-        hurry: hurried,
-    };
-    Ok((stop, hurry, stops))
-}
-
-/// A count of connections that nobody reads.
-pub(crate) fn uncounted(alloc: Global) -> Result<Arc<AtomicUsize>, AllocError> {
-    Ok(Arc::new(alloc, AtomicUsize::new(0))?)
-}
+impl<R: Wait + Drop> PassOn for Script<R> {}
 
 // What is sent, the parts that the response must contain, and the part that it must not contain.
-const CASES: [(&[u8], [&[u8]; 5], &[u8]); 14] = [
+type Case = (&'static [u8], [&'static [u8]; 5], &'static [u8]);
+
+const CASES: [Case; 14] = [
     (
         b"GET http://o/hit HTTP/1.1\r\nHost: o\r\n\r\n",
         [
@@ -344,112 +375,106 @@ const CASES: [(&[u8], [&[u8]; 5], &[u8]); 14] = [
     ),
 ];
 
-// Prints what is wrong with a response. Always returns an error.
-fn show(
-    rt: &HostRuntime,
-    alloc: Global,
-    what: &'static str,
-    part: &[u8],
-    got: &[u8],
-) -> Result<(), Fail> {
-    eprintln!(rt; "{} {}", what, String::from_utf8_lossy(alloc, part)?)?;
-    eprintln!(rt; "in {}", String::from_utf8_lossy(alloc, got)?)?;
-    Err(io::Error::other(what).into())
-}
-
-// Errors: the response lacks a wanted part, or contains the unwanted one.
-fn compare(
-    rt: &HostRuntime,
-    alloc: Global,
-    got: &[u8],
-    wanted: &[&[u8]],
-    unwanted: &[u8],
-) -> Result<(), Fail> {
-    for part in wanted {
-        if !has(got, part) {
-            return show(rt, alloc, "missing", part, got);
-        }
+impl<R: Net> Question<Case, R> for House {
+    fn holds(&self, rt: &R, row: &Case) -> Result<bool, Fail> {
+        let (sent, wanted, unwanted) = row;
+        let got = self.answer(rt, *sent)?;
+        let holds = has_all(got.as_slice(), wanted.as_slice()) && !has(got.as_slice(), *unwanted);
+        drop(got);
+        Ok(holds)
     }
-    if has(got, unwanted) {
-        return show(rt, alloc, "too much", unwanted, got);
-    }
-    Ok(())
 }
 
 // Whether a body of 200,000 octets arrives complete.
-fn comes_whole<R: Net>(rt: &R, alloc: Global, server: SocketAddr) -> io::Result<bool> {
-    let big = b"GET http://o/big HTTP/1.1\r\nHost: o\r\n\r\n";
-    let got = exchange(rt, alloc, server, big)?;
-    Ok(200_000 < got.len() && got.len() < 201_000)
+fn comes_whole<R: Net>(rt: &R, house: &House) -> io::Result<bool> {
+    let got = house.answer(rt, b"GET http://o/big HTTP/1.1\r\nHost: o\r\n\r\n")?;
+    let length = got.len();
+    drop(got);
+    Ok(200_000 < length && length < 201_000)
 }
 
-// Whether every client that falls silent is disconnected, be it before, within or after its head.
-fn silent_ones_are_ended<R: Net>(rt: &R, server: SocketAddr) -> io::Result<bool> {
-    for still in [
-        b"".as_slice(),
-        b"GET http://o/a HT",
-        b"GET http://o/a HTTP/1.1\r\nHost: o\r\nContent-Length: 9\r\n\r\n",
-    ] {
-        if !is_ended_after(rt, server, still)? {
+// What clients send that fall silent before, within or after their head.
+const STILL: [&[u8]; 3] = [
+    b"",
+    b"GET http://o/a HT",
+    b"GET http://o/a HTTP/1.1\r\nHost: o\r\nContent-Length: 9\r\n\r\n",
+];
+
+// Whether every client that falls silent is disconnected.
+fn silent_ones_are_ended<R: Net>(rt: &R, house: &House) -> io::Result<bool> {
+    for still in &STILL {
+        if !is_ended_after(rt, house.address, *still)? {
             return Ok(false);
         }
     }
     Ok(true)
 }
 
+// Whether a client is answered.
+fn is_answered<R: Net>(rt: &R, house: &House) -> io::Result<bool> {
+    let got = house.answer(rt, b"GET http://o/a HTTP/1.1\r\nHost: o\r\n\r\n")?;
+    let is_answered = has(got.as_slice(), b"\r\n\r\nhi");
+    drop(got);
+    Ok(is_answered)
+}
+
+// Waits until this client has left, ten seconds at most. Returns whether it has.
+fn has_left<R: Clock>(rt: &R, gone: &AtomicU64, client: u64) -> bool {
+    for _ in 0..1_000 {
+        if gone.load(Ordering::SeqCst) == client {
+            return true;
+        }
+        thread::sleep(rt, Duration::from_millis(10));
+    }
+    false
+}
+
+// A server that stops after sixteen answers, and the last client that left before its own.
+fn start<R>(rt: R) -> Result<(House, Arc<AtomicU64>), Fail>
+where
+    R: Threads + Wait + Clock + RandomSource + AllocGlobal + Net + Copy + Send + 'static,
+    R::Stream: Send + 'static,
+    R::Listener: Send + 'static,
+{
+    let (place, mut ends) = Place::at(&rt, local(), serve_limits())?;
+    let script = Script::stopping(rt, rt.alloc(), ends.stop.take(), 16)?;
+    let gone = Arc::try_clone(&script.gone)?;
+    let house = open_house(rt, place, ends, script)?;
+    Ok((house, gone))
+}
+
+// Whether a long answer comes whole, clients that fall silent are disconnected, and a last one is answered.
+fn are_the_others_served<R: Net>(rt: &R, house: &House) -> io::Result<bool> {
+    Ok(comes_whole(rt, house)? && silent_ones_are_ended(rt, house)? && is_answered(rt, house)?)
+}
+
 #[test]
 fn clients_are_answered(rt: HostRuntime) -> Result<(), Fail> {
-    let alloc = rt.alloc();
-    let (bound, told) = unbounded(alloc)?;
-    let left = Arc::new(alloc, AtomicU64::new(0))?;
-    let gone = Arc::try_clone(&left)?;
-    let (stop, _hurry, stopped) = new_stops(alloc)?;
-    let open = uncounted(alloc)?;
-    let mut script = Script::new(rt)?;
-    script.gone = gone;
-    script.answered = Some(stop);
-    script.left = 16;
-    let address = SocketAddr::V4(SocketAddrV4::new(Ipv4Addr::new(127, 0, 0, 1), 0));
-    let socket = ClientSocket::bind(&rt, address, serve_limits().connections)?;
-    let server = thread::spawn(
-        &rt,
-        move || serve_clients(
-            rt,
-            socket,
-            "edge",
-            script,
-            bound,
-            stopped,
-            open,
-            serve_limits(),
-        ),
-    )?;
-    let server_address = told.recv(&rt)?;
-    for (sent, wanted, unwanted) in CASES {
-        let got = exchange(&rt, alloc, server_address, sent)?;
-        compare(&rt, alloc, got.as_slice(), wanted.as_slice(), unwanted)?;
-    }
-    for _ in 0..1_000 {
-        if left.load(Ordering::SeqCst) != 12 {
-            thread::sleep(&rt, Duration::from_millis(10));
-        }
-    }
-    assert_eq!(rt; left.load(Ordering::SeqCst), 12);
-    assert!(rt; comes_whole(&rt, alloc, server_address)?);
-    assert!(rt; silent_ones_are_ended(&rt, server_address)?);
-    let last = b"GET http://o/a HTTP/1.1\r\nHost: o\r\n\r\n";
-    let got = exchange(&rt, alloc, server_address, last)?;
-    assert!(rt; has(got.as_slice(), b"\r\n\r\nhi"));
-    server.join(&rt)?;
+    let (house, gone) = start(rt)?;
+    all_hold(&rt, &CASES, &house)?;
+    let is_gone = has_left(&rt, &gone, 12);
+    drop(gone);
+    let are_served = are_the_others_served(&rt, &house)?;
+    assert!(rt; is_gone && are_served);
+    house.join(&rt)?;
     Ok(())
 }
 
 // Refuses every client.
-#[derive(Drop)]
 struct Refusing<R> {
     rt: R,
     alloc: Global,
     timers: Handle,
+}
+
+impl<R: Drop> Drop for Refusing<R> {
+    fn drop(self) {
+        let Self {
+            rt: _,
+            alloc: _,
+            timers: _,
+        } = self;
+    }
 }
 
 impl<R: Clock + Copy> Accept for Refusing<R> {
@@ -464,7 +489,7 @@ impl<R: Clock + Copy> Accept for Refusing<R> {
     fn accept(
         &self,
         socket: TcpStream,
-        address: SocketAddr,
+        _address: SocketAddr,
         stage: SharedStage,
     ) -> Option<Refusal<R>> {
         let still = serve_limits().still;
@@ -473,48 +498,102 @@ impl<R: Clock + Copy> Accept for Refusing<R> {
     }
 }
 
-// Runs a server that refuses clients, until it is told to stop.
-fn refuse<R>(rt: R, bound: Sender<SocketAddr, Global>, stops: Stops) -> io::Result<()>
-where
-    R: Wait + Clock + RandomSource + AllocGlobal + Net + Copy,
-{
-    let alloc = rt.alloc();
-    let mut runtime = LocalRuntime::new(&rt)?;
-    runtime.set_shutdown_timeout(Some(Duration::ZERO));
-    let address = SocketAddr::V4(SocketAddrV4::new(Ipv4Addr::new(127, 0, 0, 1), 0));
-    let listener = TcpListener::bind(&rt, address, runtime.handle().reactor())?;
-    let _ = bound.send(&rt, listener.local_addr()?);
+// Listens at any port of this host, and sends its address.
+fn listeners_of<R: Wait + Net>(
+    rt: &R,
+    runtime: &LocalRuntime,
+    bound: &Sender<SocketAddr, Global>,
+) -> io::Result<Listeners> {
+    let listener = TcpListener::bind(rt, local(), runtime.handle().reactor())?;
+    let address = listener.local_addr()?;
+    let _ = bound.send(rt, address);
+    Ok(Listeners::new(listener, None))
+}
+
+// The clients of these listeners, all of which are refused.
+fn refused_clients<R: Wait + Clock + Copy>(
+    rt: R,
+    alloc: Global,
+    runtime: &LocalRuntime,
+    listeners: Listeners,
+    stops: Stops,
+) -> Result<AcceptedClients<Refusing<R>, R>, AllocError> {
+    let limits = client_limits(64, 64);
+    let grace = Duration::from_millis(200);
+    let seats = SeatShare::alone(alloc, limits)?;
     let timers = runtime.handle().time().clone()?;
     let accept = Refusing {
         rt,
         alloc,
         timers: runtime.handle().time().clone()?,
     };
-    let limits = client_limits(64, 64);
-    let grace = Duration::from_millis(200);
-    let seats = SeatShare::alone(alloc, limits)?;
-    let listeners = Listeners::new(listener, None);
-    let clients = AcceptedClients::new(
+    AcceptedClients::new(
         rt, alloc, timers, listeners, stops, grace, accept, limits, seats,
-    )?;
+    )
+}
+
+// Serves these clients. A function of its own, since of a type that is named little is known here, and much has to be elaborated anew of
+// one that is.
+fn run_clients<R, A>(
+    rt: R,
+    runtime: &mut LocalRuntime,
+    clients: AcceptedClients<A, R>,
+) -> io::Result<()>
+where
+    R: Wait + Clock + RandomSource + AllocGlobal + Copy,
+    A: Accept,
+{
     runtime.run_all(&rt, clients)
+}
+
+// Refuses clients on this runtime.
+fn refuse_on<R>(
+    rt: R,
+    runtime: &mut LocalRuntime,
+    bound: Sender<SocketAddr, Global>,
+    stops: Stops,
+) -> io::Result<()>
+where
+    R: Wait + Clock + RandomSource + AllocGlobal + Net + Copy,
+{
+    let listeners = listeners_of(&rt, runtime, &bound)?;
+    let clients = refused_clients(rt, rt.alloc(), runtime, listeners, stops)?;
+    run_clients(rt, runtime, clients)
+}
+
+// Runs a server that refuses clients, until it is told to stop.
+fn refuse<R>(rt: R, bound: Sender<SocketAddr, Global>, stops: Stops) -> io::Result<()>
+where
+    R: Wait + Clock + RandomSource + AllocGlobal + Net + Copy,
+{
+    let mut runtime = LocalRuntime::new(&rt)?;
+    runtime.set_shutdown_timeout(Some(Duration::ZERO));
+    let refused = refuse_on(rt, &mut runtime, bound, stops);
+    drop(runtime);
+    refused
+}
+
+// A server that refuses clients.
+fn start_refusing<R>(rt: R) -> Result<House, Fail>
+where
+    R: Threads + Wait + Clock + RandomSource + AllocGlobal + Net + Copy + Send + 'static,
+    R::Stream: Send + 'static,
+    R::Listener: Send + 'static,
+{
+    let alloc = rt.alloc();
+    let (ends, stops) = new_ends(alloc)?;
+    let (bound, told) = unbounded(alloc)?;
+    let thread = thread::spawn(&rt, move || refuse(rt, bound, stops))?;
+    House::new(&rt, alloc, ends, told, thread)
 }
 
 #[test]
 fn clients_are_refused(rt: HostRuntime) -> Result<(), Fail> {
-    let alloc = rt.alloc();
-    let (bound, told) = unbounded(alloc)?;
-    let (stop, _hurry, stopped) = new_stops(alloc)?;
-    let server = thread::spawn(&rt, move || refuse(rt, bound, stopped))?;
-    let address = told.recv(&rt)?;
-    let got = exchange(
-        &rt,
-        alloc,
-        address,
-        b"GET http://o/a HTTP/1.1\r\nHost: o\r\n\r\n",
-    )?;
-    assert_eq!(rt; got.as_slice(), b"no\n".as_slice());
-    let _ = stop.send(());
-    server.join(&rt)?;
+    let house = start_refusing(rt)?;
+    let got = house.answer(&rt, b"GET http://o/a HTTP/1.1\r\nHost: o\r\n\r\n")?;
+    let is_refused = got.as_slice() == b"no\n".as_slice();
+    drop(got);
+    house.end(&rt)?;
+    assert!(rt; is_refused);
     Ok(())
 }

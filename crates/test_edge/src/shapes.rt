@@ -1,30 +1,45 @@
 //! Tests of answers that are not the whole of an object.
-use crate::clients::{exchange, has};
+use crate::clients::{has, has_all};
+use crate::houses::{House, Place, local, open_house};
 use crate::limits::serve_limits;
-use crate::servers::{Script, new_stops, uncounted};
-use crossbeam_channel::unbounded;
-use http_clients::{ClientSocket, serve_clients};
+use crate::rows::{Question, all_hold};
+use crate::servers::Script;
 use http_traffic::{Asked, Asking, FollowUp, Front, PassOn, Road, Shape, Told};
 use object_store::Object;
 use std::alloc::{AllocError, AllocGlobal, Global};
-use std::net::{IpAddr, Ipv4Addr, Net, SocketAddr, SocketAddrV4};
+use std::net::{IpAddr, Net};
+use std::random::RandomSource;
 use std::sync::Wait;
 use std::test::Fail;
-use std::thread;
+use std::thread::Threads;
+use std::time::Clock;
 
 // Answers as a script does, in the shape that the field X-Shape of the request names. It serves HEAD too.
-#[derive(Drop)]
 struct Shaping<R> {
     alloc: Global,
     script: Script<R>,
 }
 
+impl<R: Drop> Drop for Shaping<R> {
+    fn drop(self) {
+        let Self {
+            alloc: _,
+            script: _,
+        } = self;
+    }
+}
+
+// A tag in a list of fields.
+fn tag_alone(alloc: Global) -> Result<Vec<(Vec<u8>, Vec<u8>)>, AllocError> {
+    let mut fields = Vec::with_capacity(alloc, 1)?;
+    fields.push((b"etag".to_vec(alloc)?, b"\"a\"".to_vec(alloc)?))?;
+    Ok(fields)
+}
+
 // The shape of this name, for a body of two octets.
 fn shape_named(alloc: Global, name: &[u8]) -> Result<Shape, AllocError> {
     if name == b"unchanged".as_slice() {
-        let mut fields = Vec::new(alloc);
-        fields.push((b"etag".to_vec(alloc)?, b"\"a\"".to_vec(alloc)?))?;
-        return Ok(Shape::NotModified(fields));
+        return Ok(Shape::NotModified(tag_alone(alloc)?));
     }
     if name == b"part".as_slice() {
         let range = b"bytes 1-1/2".to_vec(alloc)?;
@@ -40,7 +55,7 @@ fn shape_named(alloc: Global, name: &[u8]) -> Result<Shape, AllocError> {
     Ok(Shape::Whole)
 }
 
-impl<R: Wait + AllocGlobal + Copy> Front for Shaping<R> {
+impl<R: Wait + Drop> Front for Shaping<R> {
     fn allows(&mut self, address: IpAddr) -> bool {
         self.script.allows(address)
     }
@@ -61,7 +76,7 @@ impl<R: Wait + AllocGlobal + Copy> Front for Shaping<R> {
     }
 }
 
-impl<R: Wait + AllocGlobal + Copy> FollowUp for Shaping<R> {
+impl<R: Wait + Drop> FollowUp for Shaping<R> {
     fn shape(&mut self, asked: &Asked, _object: &Object) -> Shape {
         match asked.head.get("x-shape") {
             Some(name) => shape_named(self.alloc, name.as_bytes()).unwrap_or(Shape::Whole),
@@ -82,7 +97,7 @@ impl<R: Wait + AllocGlobal + Copy> FollowUp for Shaping<R> {
     }
 }
 
-impl<R: Wait + AllocGlobal + Copy> PassOn for Shaping<R> {}
+impl<R: Wait + Drop> PassOn for Shaping<R> {}
 
 // A request line and the shape that is asked for, what the response must contain, how it must end, and what it must not contain.
 type Case = (
@@ -196,11 +211,6 @@ const CASES: [Case; 9] = [
     ),
 ];
 
-// Whether a response contains these parts, ends so, and does not contain the unwanted part.
-fn is_as_wanted(got: &[u8], wanted: &[&[u8]], end: &[u8], unwanted: &[u8]) -> bool {
-    wanted.iter().all(|part| has(got, part)) && got.ends_with(end) && !has(got, unwanted)
-}
-
 // What a client sends that asks for this shape.
 fn request_for(alloc: Global, line: &str, shape: &str) -> Result<String, Fail> {
     Ok(format!(in alloc;
@@ -208,50 +218,39 @@ fn request_for(alloc: Global, line: &str, shape: &str) -> Result<String, Fail> {
     )?)
 }
 
-// Whether a case is answered as it says.
-fn is_answered<R: Net>(
-    rt: &R,
-    alloc: Global,
-    server: SocketAddr,
-    case: &Case,
-) -> Result<bool, Fail> {
-    let (line, shape, wanted, end, unwanted) = case;
-    let sent = request_for(alloc, *line, *shape)?;
-    let got = exchange(rt, alloc, server, sent.as_bytes())?;
-    Ok(is_as_wanted(got.as_slice(), wanted.as_slice(), *end, *unwanted))
+impl<R: Net> Question<Case, R> for House {
+    fn holds(&self, rt: &R, row: &Case) -> Result<bool, Fail> {
+        let (line, shape, wanted, end, unwanted) = row;
+        let sent = request_for(self.alloc, *line, *shape)?;
+        let got = self.answer(rt, sent.as_bytes());
+        drop(sent);
+        let got = got?;
+        let octets = got.as_slice();
+        let holds = has_all(octets, wanted.as_slice())
+            && octets.ends_with(*end)
+            && !has(octets, *unwanted);
+        drop(got);
+        Ok(holds)
+    }
 }
 
-// The place of the first case that is answered otherwise.
-fn first_wrong<R: Net>(rt: &R, alloc: Global, server: SocketAddr) -> Result<Option<usize>, Fail> {
-    for (place, case) in CASES.iter().enumerate() {
-        if !is_answered(rt, alloc, server, case)? {
-            return Ok(Some(place));
-        }
-    }
-    Ok(None)
+// A server with that front.
+fn start<R>(rt: R) -> Result<House, Fail>
+where
+    R: Threads + Wait + Clock + RandomSource + AllocGlobal + Net + Copy + Send + 'static,
+    R::Stream: Send + 'static,
+    R::Listener: Send + 'static,
+{
+    let alloc = rt.alloc();
+    let (place, ends) = Place::at(&rt, local(), serve_limits())?;
+    let script = Script::new(rt, alloc)?;
+    open_house(rt, place, ends, Shaping { alloc, script })
 }
 
 #[test]
 fn answers_have_their_shape(rt: HostRuntime) -> Result<(), Fail> {
-    let alloc = rt.alloc();
-    let (bound, told) = unbounded(alloc)?;
-    let (stop, _hurry, stopped) = new_stops(alloc)?;
-    let open = uncounted(alloc)?;
-    let front = Shaping {
-        alloc,
-        script: Script::new(rt)?,
-    };
-    let address = SocketAddr::V4(SocketAddrV4::new(Ipv4Addr::new(127, 0, 0, 1), 0));
-    let limits = serve_limits();
-    let socket = ClientSocket::bind(&rt, address, limits.connections)?;
-    let server = thread::spawn(
-        &rt,
-        move || serve_clients(rt, socket, "edge", front, bound, stopped, open, limits),
-    )?;
-    let server_address = told.recv(&rt)?;
-    let wrong = first_wrong(&rt, alloc, server_address)?;
-    let _ = stop.send(());
-    server.join(&rt)?;
-    assert_eq!(rt; wrong, None);
+    let house = start(rt)?;
+    all_hold(&rt, &CASES, &house)?;
+    house.end(&rt)?;
     Ok(())
 }

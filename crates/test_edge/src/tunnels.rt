@@ -1,23 +1,22 @@
 //! Tests of the tunnels that clients open.
-use crate::clients::has;
+use crate::clients::{connect, has};
+use crate::houses::{Line, Place, Watched, local, new_count, open_house};
 use crate::limits::serve_limits;
-use crate::servers::{Line, new_stops, uncounted};
-use crossbeam_channel::{Receiver, Sender, unbounded};
+use crate::origin::{listen, nowhere};
+use crate::rows::{Question, all_hold};
+use crossbeam_channel::{Sender, unbounded};
 use futures::channel::oneshot;
-use http_clients::{ClientSocket, serve_clients};
 use http_traffic::{
     Addresses, Asked, Asking, FollowUp, Front, How, PassOn, Road, Server, Ticket, Told, TunnelEnd,
 };
-use std::alloc::{AllocGlobal, Global};
+use std::alloc::{AllocError, AllocGlobal, Global};
 use std::io::{Read, Write};
-use std::net::{
-    IpAddr, Ipv4Addr, Net, OpenStream, Shutdown, SocketAddr, SocketAddrV4, TcpListener, TcpStream,
-};
+use std::net::{IpAddr, Net, OpenStream, Shutdown, SocketAddr, TcpListener, TcpStream};
 use std::random::RandomSource;
-use std::sync::atomic::{AtomicUsize, Ordering};
+use std::sync::atomic::AtomicUsize;
 use std::sync::{Arc, Wait};
 use std::test::Fail;
-use std::thread::{JoinHandle, Threads};
+use std::thread::Threads;
 use std::time::{Clock, Duration};
 use std::{io, thread};
 
@@ -28,7 +27,7 @@ const OPEN: &[u8] = b"CONNECT o:1 HTTP/1.1\r\nHost: o:1\r\n\r\nearly";
 const GREETING: &[u8] = b"CONNECT o:1 HTTP/1.1\r\nHost: o:1\r\n\r\n";
 
 // What is known of the address of a server.
-#[derive(Clone, Copy, PartialEq, Eq)]
+#[derive(Clone, Copy, PartialEq)]
 enum Known {
     Address,
     // Its name, whose address is found, or which has none, or which is looked up without an end.
@@ -37,32 +36,28 @@ enum Known {
     Looking,
 }
 
-// Where all tunnels of a test lead.
+// How all tunnels of a test lead to their server.
 #[derive(Clone, Copy)]
 struct Way {
-    server: SocketAddr,
-    is_admitted: bool,
     known: Known,
+    is_admitted: bool,
     has_greeting: bool,
-    still: Duration,
+    still_seconds: u64,
 }
 
 // The way to a server that is admitted, and whose address is known.
-fn way_to(server: SocketAddr) -> Way {
-    Way {
-        server,
-        is_admitted: true,
-        known: Known::Address,
-        has_greeting: false,
-        still: Duration::from_secs(20),
-    }
-}
+const PLAIN: Way = Way {
+    known: Known::Address,
+    is_admitted: true,
+    has_greeting: false,
+    still_seconds: 20,
+};
 
 // Opens tunnels, and answers no other request.
-#[derive(Drop)]
 struct Tunnels<R> {
     rt: R,
     alloc: Global,
+    server: SocketAddr,
     way: Way,
     open: Arc<AtomicUsize>,
     told: Sender<Line, Global>,
@@ -70,40 +65,66 @@ struct Tunnels<R> {
     looking: Vec<oneshot::Sender<Addresses>>,
 }
 
-impl<R: Wait + AllocGlobal + Copy> Tunnels<R> {
-    // The server of a tunnel. `None` if out of memory.
-    fn server(&mut self) -> Option<Server> {
-        if self.way.known == Known::Address {
-            return Some(Server::At(self.way.server));
-        }
-        let (sender, sought) = oneshot::channel(self.alloc).ok()?;
+impl<R: Drop> Drop for Tunnels<R> {
+    fn drop(self) {
+        let Self {
+            rt: _,
+            alloc: _,
+            server: _,
+            way: _,
+            open: _,
+            told: _,
+            looking: _,
+        } = self;
+    }
+}
+
+impl<R: Drop> Tunnels<R> {
+    // Looks up the name of the server for one who waits for its addresses. `None` if out of memory.
+    fn look_up(&mut self, sender: oneshot::Sender<Addresses>) -> Option<()> {
         match self.way.known {
             Known::Looking => self.looking.push(sender).ok()?,
-            Known::Name => drop(sender.send(Addresses::one(self.way.server))),
+            Known::Name => drop(sender.send(Addresses::one(self.server))),
             Known::Nameless | Known::Address => drop(sender),
         }
+        Some(())
+    }
+
+    // The server of a tunnel. `None` if out of memory.
+    fn sought(&mut self) -> Option<Server> {
+        if self.way.known == Known::Address {
+            return Some(Server::At(self.server));
+        }
+        let (sender, sought) = oneshot::channel(self.alloc).ok()?;
+        self.look_up(sender)?;
         Some(Server::Sought(sought))
+    }
+
+    fn greeting(&self) -> Result<Option<Vec<u8>>, AllocError> {
+        if self.way.has_greeting {
+            Ok(Some(GREETING.to_vec(self.alloc)?))
+        } else {
+            Ok(None)
+        }
     }
 
     // The end of a tunnel. `None` if out of memory.
     fn end(&mut self) -> Option<TunnelEnd> {
-        let greeting = if self.way.has_greeting {
-            Some(GREETING.to_vec(self.alloc).ok()?)
-        } else {
-            None
-        };
+        let greeting = self.greeting().ok()?;
+        let server = self.sought()?;
+        let ticket = Ticket::take(&self.open, 1)?;
         Some(TunnelEnd {
-            server: self.server()?,
+            server,
             greeting,
             is_origin: !self.way.has_greeting,
-            still: self.way.still,
+            still: Duration::from_secs(self.way.still_seconds),
             connecting: Duration::from_secs(15),
-            ticket: Ticket::take(&self.open, 1)?,
+            ticket,
         })
     }
 }
 
-impl<R: Wait + AllocGlobal + Copy> Front for Tunnels<R> {
+impl<R: Wait + Drop> Front for Tunnels<R> {
     fn allows(&mut self, _address: IpAddr) -> bool {
         false
     }
@@ -125,31 +146,24 @@ impl<R: Wait + AllocGlobal + Copy> Front for Tunnels<R> {
     }
 }
 
-impl<R: Wait + AllocGlobal + Copy> FollowUp for Tunnels<R> {
+impl<R: Wait + Drop> FollowUp for Tunnels<R> {
     fn gone(&mut self, _client: u64) {}
 
     fn answered(&mut self) {}
 
     fn tell(&mut self, told: &Told<'_>) {
-        let line = Line {
-            is_asked: matches!(told.asked, Some(asked) if asked.method.as_str() == "CONNECT"),
-            status: told.status,
-            how: told.how,
-            supplier: told.supplier,
-            octets: told.octets,
-            is_whole: told.is_whole,
-        };
-        let _ = self.told.send(&self.rt, line);
+        let is_asked = matches!(told.asked, Some(asked) if asked.method.as_str() == "CONNECT");
+        Line::of(told, is_asked).pass(&self.rt, &self.told);
     }
 }
 
-impl<R: Wait + AllocGlobal + Copy> PassOn for Tunnels<R> {
+impl<R: Wait + Drop> PassOn for Tunnels<R> {
     fn tunnel(&mut self, _asked: &Asked) -> Result<TunnelEnd, u16> {
         self.end().ok_or(503)
     }
 
     fn admits(&mut self, server: SocketAddr) -> bool {
-        self.way.is_admitted && server == self.way.server
+        self.way.is_admitted && server == self.server
     }
 }
 
@@ -165,71 +179,33 @@ fn told_tunnel(octets: u64, is_whole: bool) -> Line {
     }
 }
 
-// A server whose clients open tunnels on one way.
-#[derive(Drop)]
-struct House {
-    address: SocketAddr,
-    open: Arc<AtomicUsize>,
-    told: Receiver<Line, Global>,
-    stop: oneshot::Sender<()>,
-    thread: JoinHandle<io::Result<()>>,
-}
-
-fn open_house<R>(rt: R, way: Way) -> Result<House, Fail>
+// Starts a server whose clients open tunnels to this one. Its tunnels are counted.
+fn start<R>(rt: R, server: SocketAddr, way: Way) -> Result<Watched, Fail>
 where
-    R: Wait + Threads + Clock + RandomSource + AllocGlobal + Net + Copy + Send + 'static,
+    R: Threads + Wait + Clock + RandomSource + AllocGlobal + Net + Copy + Send + 'static,
     R::Stream: Send + 'static,
     R::Listener: Send + 'static,
 {
     let alloc = rt.alloc();
-    let any = SocketAddr::V4(SocketAddrV4::new(Ipv4Addr::new(127, 0, 0, 1), 0));
-    let socket = ClientSocket::bind(&rt, any, serve_limits().connections)?;
-    let (bound, address) = unbounded(alloc)?;
+    let (place, ends) = Place::at(&rt, local(), serve_limits())?;
+    let (count, open) = new_count(alloc)?;
     let (lines, told) = unbounded(alloc)?;
-    let (stop, _hurry, stops) = new_stops(alloc)?;
-    let counted = uncounted(alloc)?;
-    let open = Arc::new(alloc, AtomicUsize::new(0))?;
     let front = Tunnels {
         rt,
         alloc,
+        server,
         way,
-        open: Arc::try_clone(&open)?,
+        open,
         told: lines,
         looking: Vec::new(alloc),
     };
-    let thread = thread::spawn(
-        &rt,
-        move || serve_clients(
-            rt,
-            socket,
-            "edge",
-            front,
-            bound,
-            stops,
-            counted,
-            serve_limits(),
-        ),
-    )?;
-    Ok(House {
-        address: address.recv(&rt)?,
-        open,
-        told,
-        stop,
-        thread,
-    })
-}
-
-// Stops a server, and waits for its end.
-fn close<R: Threads + Wait>(rt: &R, house: House) -> io::Result<()> {
-    let House { stop, thread, .. } = house;
-    let _ = stop.send(());
-    thread.join(rt)
+    let house = open_house(rt, place, ends, front)?;
+    Ok(Watched::new(house, told, count))
 }
 
 // A client that has sent these octets.
-fn client<R: Net>(rt: &R, house: &House, octets: &[u8]) -> io::Result<R::Stream> {
-    let mut socket = TcpStream::connect(rt, house.address)?;
-    socket.set_read_timeout(Some(Duration::from_secs(15)))?;
+fn client<R: Net>(rt: &R, server: &Watched, octets: &[u8]) -> io::Result<R::Stream> {
+    let mut socket = connect(rt, server.house.address, 15)?;
     socket.write_all(octets)?;
     Ok(socket)
 }
@@ -241,11 +217,14 @@ fn arrived(listener: &TcpListener) -> io::Result<TcpStream> {
     Ok(socket)
 }
 
-// Reads so many octets.
-fn read<S: Read>(alloc: Global, socket: &mut S, count: usize) -> io::Result<Vec<u8>> {
-    let mut octets = vec![in alloc; 0; count]?;
-    socket.read_exact(octets.as_mut_slice())?;
-    Ok(octets)
+// Whether these octets are read next.
+fn arrives<S: Read>(alloc: Global, socket: &mut S, wanted: &[u8]) -> io::Result<bool> {
+    let mut octets = vec![in alloc; 0u8; wanted.len()]?;
+    let read = socket.read_exact(octets.as_mut_slice());
+    let is_same = octets.as_slice() == wanted;
+    drop(octets);
+    read?;
+    Ok(is_same)
 }
 
 // Reads a head, with its empty line.
@@ -262,123 +241,263 @@ fn head<S: Read>(alloc: Global, socket: &mut S) -> io::Result<Vec<u8>> {
     Ok(octets)
 }
 
+// Whether the head that is read next has this part.
+fn has_part<S: Read>(alloc: Global, socket: &mut S, part: &[u8]) -> io::Result<bool> {
+    let head = head(alloc, socket)?;
+    let has_part = has(head.as_slice(), part);
+    drop(head);
+    Ok(has_part)
+}
+
 // Whether the next read finds the end of the input.
 fn is_at_end<S: Read>(socket: &mut S) -> bool {
     let mut octet = [0; 1];
     matches!(socket.read(&mut octet), Ok(0))
 }
 
-// Waits until so many tunnels are open, ten seconds at most. Returns whether they are.
-fn are_open<R: Clock>(rt: &R, house: &House, wanted: usize) -> bool {
-    for _ in 0..1_000 {
-        if house.open.load(Ordering::SeqCst) == wanted {
-            return true;
-        }
-        thread::sleep(rt, Duration::from_millis(10));
+// Both ends of a tunnel.
+struct Tunnel<S> {
+    near: S,
+    far: TcpStream,
+}
+
+impl<S: Drop> Drop for Tunnel<S> {
+    fn drop(self) {
+        let Self { near: _, far: _ } = self;
     }
-    false
+}
+
+impl<S: Drop> Tunnel<S> {
+    // Closes the far end.
+    fn into_near(self) -> S {
+        let Self { near, far } = self;
+        drop(far);
+        near
+    }
+}
+
+// A server whose clients open tunnels, and what listens where they lead.
+struct Scene {
+    server: Watched,
+    listener: TcpListener,
+}
+
+impl Drop for Scene {
+    fn drop(self) {
+        let Self {
+            server: _,
+            listener: _,
+        } = self;
+    }
+}
+
+impl Scene {
+    // Starts a server whose clients open tunnels to this listener.
+    fn new<R>(rt: R, listener: TcpListener, way: Way) -> Result<Scene, Fail>
+    where
+        R: Threads + Wait + Clock + RandomSource + AllocGlobal + Net + Copy + Send + 'static,
+        R::Stream: Send + 'static,
+        R::Listener: Send + 'static,
+    {
+        let address = listener.local_addr()?;
+        let server = start(rt, address, way)?;
+        Ok(Scene { server, listener })
+    }
+
+    // Opens a tunnel by sending these octets.
+    fn tunnel<R: Net>(&self, rt: &R, octets: &[u8]) -> io::Result<Tunnel<R::Stream>> {
+        let near = client(rt, &self.server, octets)?;
+        let far = arrived(&self.listener)?;
+        Ok(Tunnel { near, far })
+    }
+
+    fn alloc(&self) -> Global {
+        self.server.house.alloc
+    }
+
+    // Stops the server, and waits for its end.
+    fn end<R: Threads>(self, rt: &R) -> io::Result<()> {
+        let Self { server, listener } = self;
+        let ended = server.end(rt);
+        drop(listener);
+        ended
+    }
+}
+
+// Whether the head that opens a tunnel comes, without what would speak of a content.
+fn is_opened<S: Read>(alloc: Global, near: &mut S) -> io::Result<bool> {
+    let opened = head(alloc, near)?;
+    let octets = opened.as_slice();
+    let is_opened = has(octets, b"HTTP/1.1 200 OK\r\n")
+        && !has(octets, b"content-length")
+        && !has(octets, b"transfer-encoding");
+    drop(opened);
+    Ok(is_opened)
+}
+
+// Whether many octets go from one end of a tunnel to the other.
+fn carries<S: Write, T: Read>(alloc: Global, from: &mut S, to: &mut T) -> io::Result<bool> {
+    let long = vec![in alloc; b'x'; 40_000]?;
+    let written = from.write_all(long.as_slice());
+    let arrives = arrives(alloc, to, long.as_slice());
+    drop(long);
+    written?;
+    arrives
+}
+
+// Whether the tunnel opens, and carries octets both ways.
+fn carries_both_ways<S: Read + Write>(alloc: Global, tunnel: &mut Tunnel<S>) -> io::Result<bool> {
+    Ok(
+        is_opened(alloc, &mut tunnel.near)?
+            && arrives(alloc, &mut tunnel.far, b"early")?
+            && carries(alloc, &mut tunnel.far, &mut tunnel.near)?
+            && carries(alloc, &mut tunnel.near, &mut tunnel.far)?,
+    )
+}
+
+// Whether a client that has sent all of its octets goes on to receive.
+fn receives_on<R: Clock, S: OpenStream + Read>(
+    rt: &R,
+    alloc: Global,
+    tunnel: &mut Tunnel<S>,
+) -> io::Result<bool> {
+    tunnel.near.shutdown(Shutdown::Write)?;
+    let is_told = is_at_end(&mut tunnel.far);
+    thread::sleep(rt, Duration::from_millis(700));
+    tunnel.far.write_all(b"after")?;
+    Ok(is_told && arrives(alloc, &mut tunnel.near, b"after")?)
+}
+
+// Whether a client sees the end, once the server has closed its end, and that is told.
+fn ends_whole<R: Wait + Clock, S: Read>(rt: &R, scene: &Scene, near: &mut S) -> Result<bool, Fail> {
+    let is_at_end = is_at_end(near);
+    let tells = scene.server.tells(rt, told_tunnel(40_005, true))?;
+    Ok(is_at_end && tells && scene.server.counts(rt, 0))
 }
 
 #[test]
 fn octets_go_both_ways_and_ends_one_by_one(rt: HostRuntime) -> Result<(), Fail> {
-    let alloc = rt.alloc();
-    let listener = TcpListener::bind(&rt, "127.0.0.1:0")?;
-    let mut sought = way_to(listener.local_addr()?);
-    sought.known = Known::Name;
-    let house = open_house(rt, sought)?;
-    let mut near = client(&rt, &house, OPEN)?;
-    let mut far = arrived(&listener)?;
-    let opened = head(alloc, &mut near)?;
-    assert!(rt; has(opened.as_slice(), b"HTTP/1.1 200 OK\r\n"));
-    assert!(rt;
-        !has(opened.as_slice(), b"content-length") && !has(opened.as_slice(), b"transfer-encoding")
-    );
-    assert!(rt; read(alloc, &mut far, 5)?.as_slice() == b"early".as_slice());
-    let long = vec![in alloc; b'x'; 40_000]?;
-    far.write_all(long.as_slice())?;
-    assert!(rt; read(alloc, &mut near, 40_000)?.as_slice() == long.as_slice());
-    near.write_all(long.as_slice())?;
-    assert!(rt; read(alloc, &mut far, 40_000)?.as_slice() == long.as_slice());
-    assert!(rt; are_open(&rt, &house, 1));
-    // The client has sent all of its octets, and goes on to receive.
-    near.shutdown(Shutdown::Write)?;
-    assert!(rt; is_at_end(&mut far));
-    thread::sleep(&rt, Duration::from_millis(700));
-    far.write_all(b"after")?;
-    assert!(rt; read(alloc, &mut near, 5)?.as_slice() == b"after".as_slice());
-    drop(far);
-    assert!(rt; is_at_end(&mut near));
-    assert_eq!(rt; house.told.recv(&rt)?, told_tunnel(40_005, true));
-    assert!(rt; are_open(&rt, &house, 0));
-    close(&rt, house)?;
+    let way = Way {
+        known: Known::Name,
+        ..PLAIN
+    };
+    let scene = Scene::new(rt, listen(&rt)?, way)?;
+    let mut tunnel = scene.tunnel(&rt, OPEN)?;
+    let carries = carries_both_ways(rt.alloc(), &mut tunnel)?;
+    let is_counted = scene.server.counts(&rt, 1);
+    let receives_on = receives_on(&rt, rt.alloc(), &mut tunnel)?;
+    let mut near = tunnel.into_near();
+    let ends = ends_whole(&rt, &scene, &mut near)?;
+    drop(near);
+    scene.end(&rt)?;
+    assert!(rt; carries && is_counted && receives_on && ends);
     Ok(())
+}
+
+// Whether a client is told that its tunnel leads nowhere.
+fn is_refused<R: Wait + Clock, S: Read>(
+    rt: &R,
+    server: &Watched,
+    near: &mut S,
+    wanted: &[u8],
+    status: u16,
+) -> Result<bool, Fail> {
+    let refused = head(server.house.alloc, near)?;
+    let is_refused = has(refused.as_slice(), wanted)
+        && has(refused.as_slice(), b"connection: close");
+    drop(refused);
+    let line = server.told(rt)?;
+    let is_told = line.status == Some(status) && line.is_asked && line.is_whole;
+    Ok(is_refused && is_told && server.counts(rt, 0))
+}
+
+// Whether a client is told so where a tunnel is opened on this way.
+fn leads_nowhere<R>(
+    rt: R,
+    nowhere: SocketAddr,
+    way: Way,
+    wanted: &[u8],
+    status: u16,
+) -> Result<bool, Fail>
+where
+    R: Threads + Wait + Clock + RandomSource + AllocGlobal + Net + Copy + Send + 'static,
+    R::Stream: Send + 'static,
+    R::Listener: Send + 'static,
+{
+    let server = start(rt, nowhere, way)?;
+    let mut near = client(&rt, &server, GREETING)?;
+    let is_refused = is_refused(&rt, &server, &mut near, wanted, status)?;
+    let ended = server.end(&rt);
+    drop(near);
+    ended?;
+    Ok(is_refused)
 }
 
 #[test]
 fn what_leads_nowhere_is_refused(rt: HostRuntime) -> Result<(), Fail> {
-    let alloc = rt.alloc();
-    let listener = TcpListener::bind(&rt, "127.0.0.1:0")?;
-    let server = listener.local_addr()?;
-    drop(listener);
-    let mut forbidden = way_to(server);
-    forbidden.is_admitted = false;
-    let mut nameless = way_to(server);
-    nameless.known = Known::Nameless;
-    let cases: [(Way, &[u8], u16); 3] = [
-        (way_to(server), b"HTTP/1.1 502 ", 502),
-        (nameless, b"HTTP/1.1 502 ", 502),
-        (forbidden, b"HTTP/1.1 403 ", 403),
-    ];
-    for (way, wanted, status) in cases {
-        let house = open_house(rt, way)?;
-        let mut near = client(&rt, &house, GREETING)?;
-        let refused = head(alloc, &mut near)?;
-        assert!(rt;
-            has(refused.as_slice(), wanted) && has(refused.as_slice(), b"connection: close")
-        );
-        let line = house.told.recv(&rt)?;
-        assert!(rt; line.status == Some(status) && line.is_asked && line.is_whole);
-        assert!(rt; are_open(&rt, &house, 0));
-        close(&rt, house)?;
-    }
+    let server = nowhere(&rt)?;
+    let nameless = Way {
+        known: Known::Nameless,
+        ..PLAIN
+    };
+    let forbidden = Way {
+        is_admitted: false,
+        ..PLAIN
+    };
+    assert!(rt; leads_nowhere(rt, server, PLAIN, b"HTTP/1.1 502 ", 502)?);
+    assert!(rt; leads_nowhere(rt, server, nameless, b"HTTP/1.1 502 ", 502)?);
+    assert!(rt; leads_nowhere(rt, server, forbidden, b"HTTP/1.1 403 ", 403)?);
     Ok(())
 }
 
 #[test]
 fn a_client_that_leaves_ends_the_way(rt: HostRuntime) -> Result<(), Fail> {
-    let listener = TcpListener::bind(&rt, "127.0.0.1:0")?;
-    let mut looking = way_to(listener.local_addr()?);
-    looking.known = Known::Looking;
-    let house = open_house(rt, looking)?;
-    let near = client(&rt, &house, GREETING)?;
-    assert!(rt; are_open(&rt, &house, 1));
+    let way = Way {
+        known: Known::Looking,
+        ..PLAIN
+    };
+    let scene = Scene::new(rt, listen(&rt)?, way)?;
+    let near = client(&rt, &scene.server, GREETING)?;
+    let is_open = scene.server.counts(&rt, 1);
     drop(near);
-    let line = house.told.recv(&rt)?;
-    assert!(rt; line.is_asked && line.status.is_none() && !line.is_whole);
-    close(&rt, house)?;
+    let line = scene.server.told(&rt)?;
+    scene.end(&rt)?;
+    assert!(rt; is_open && line.is_asked && line.status.is_none() && !line.is_whole);
     Ok(())
+}
+
+// Whether a tunnel carries two octets, and ends once it is silent for too long.
+fn ends_silent<R: Wait, S: Read>(
+    rt: &R,
+    scene: &Scene,
+    tunnel: &mut Tunnel<S>,
+) -> Result<bool, Fail> {
+    drop(head(scene.alloc(), &mut tunnel.near)?);
+    tunnel.far.write_all(b"hi")?;
+    let arrives = arrives(scene.alloc(), &mut tunnel.near, b"hi")?;
+    let are_at_end = is_at_end(&mut tunnel.near) && is_at_end(&mut tunnel.far);
+    Ok(arrives && are_at_end && scene.server.tells(rt, told_tunnel(2, false))?)
 }
 
 #[test]
 fn a_tunnel_without_octets_ends(rt: HostRuntime) -> Result<(), Fail> {
-    let alloc = rt.alloc();
-    let listener = TcpListener::bind(&rt, "127.0.0.1:0")?;
-    let mut short = way_to(listener.local_addr()?);
-    short.still = Duration::from_secs(2);
-    let house = open_house(rt, short)?;
-    let mut near = client(&rt, &house, GREETING)?;
-    let mut far = arrived(&listener)?;
-    let _opened = head(alloc, &mut near)?;
-    far.write_all(b"hi")?;
-    assert!(rt; read(alloc, &mut near, 2)?.as_slice() == b"hi".as_slice());
-    assert!(rt; is_at_end(&mut near) && is_at_end(&mut far));
-    assert_eq!(rt; house.told.recv(&rt)?, told_tunnel(2, false));
-    close(&rt, house)?;
+    let way = Way {
+        still_seconds: 2,
+        ..PLAIN
+    };
+    let scene = Scene::new(rt, listen(&rt)?, way)?;
+    let mut tunnel = scene.tunnel(&rt, GREETING)?;
+    let ends = ends_silent(&rt, &scene, &mut tunnel)?;
+    drop(tunnel);
+    scene.end(&rt)?;
+    assert!(rt; ends);
     Ok(())
 }
 
 // What a parent answers, and what the client is sent then.
-const PARENTS: [(&[u8], &[u8]); 2] = [
+type Parent = (&'static [u8], &'static [u8]);
+
+const PARENTS: [Parent; 2] = [
     (
         b"HTTP/1.1 200 Fine\r\nX: y\r\n\r\nbehind",
         b"HTTP/1.1 200 OK\r\n",
@@ -389,27 +508,59 @@ const PARENTS: [(&[u8], &[u8]); 2] = [
     ),
 ];
 
+// Whether a parent is greeted, and its client told this of its answer.
+fn is_greeted<S: Read>(
+    alloc: Global,
+    tunnel: &mut Tunnel<S>,
+    answer: &[u8],
+    wanted: &[u8],
+) -> io::Result<bool> {
+    let is_greeted = arrives(alloc, &mut tunnel.far, GREETING)?;
+    tunnel.far.write_all(answer)?;
+    Ok(is_greeted && has_part(alloc, &mut tunnel.near, wanted)?)
+}
+
+// Whether a tunnel through a parent carries octets both ways.
+fn is_open<S: Read>(alloc: Global, tunnel: &mut Tunnel<S>) -> io::Result<bool> {
+    Ok(arrives(alloc, &mut tunnel.near, b"behind")? && arrives(alloc, &mut tunnel.far, b"early")?)
+}
+
+// Whether a tunnel is as wanted where its parent answers this.
+fn is_as_wanted<S: Read>(
+    alloc: Global,
+    tunnel: &mut Tunnel<S>,
+    answer: &[u8],
+    wanted: &[u8],
+) -> io::Result<bool> {
+    if !is_greeted(alloc, tunnel, answer, wanted)? {
+        return Ok(false);
+    }
+    if answer.ends_with(b"behind") {
+        return is_open(alloc, tunnel);
+    }
+    Ok(true)
+}
+
+impl<R: Net + Wait> Question<Parent, R> for Scene {
+    fn holds(&self, rt: &R, row: &Parent) -> Result<bool, Fail> {
+        let (answer, wanted) = row;
+        let mut tunnel = self.tunnel(rt, OPEN)?;
+        let is_as_wanted = is_as_wanted(self.alloc(), &mut tunnel, *answer, *wanted);
+        drop(tunnel);
+        let is_as_wanted = is_as_wanted?;
+        let _line = self.server.told(rt)?;
+        Ok(is_as_wanted)
+    }
+}
+
 #[test]
 fn a_parent_is_greeted(rt: HostRuntime) -> Result<(), Fail> {
-    let alloc = rt.alloc();
-    let listener = TcpListener::bind(&rt, "127.0.0.1:0")?;
-    let mut greeted = way_to(listener.local_addr()?);
-    greeted.has_greeting = true;
-    let house = open_house(rt, greeted)?;
-    for (answer, wanted) in PARENTS {
-        let mut near = client(&rt, &house, OPEN)?;
-        let mut far = arrived(&listener)?;
-        assert!(rt; head(alloc, &mut far)?.as_slice() == GREETING);
-        far.write_all(answer)?;
-        assert!(rt; has(head(alloc, &mut near)?.as_slice(), wanted));
-        if answer.ends_with(b"behind") {
-            assert!(rt; read(alloc, &mut near, 6)?.as_slice() == b"behind".as_slice());
-            assert!(rt; read(alloc, &mut far, 5)?.as_slice() == b"early".as_slice());
-        }
-        drop(near);
-        drop(far);
-        let _line = house.told.recv(&rt)?;
-    }
-    close(&rt, house)?;
+    let way = Way {
+        has_greeting: true,
+        ..PLAIN
+    };
+    let scene = Scene::new(rt, listen(&rt)?, way)?;
+    all_hold(&rt, &PARENTS, &scene)?;
+    scene.end(&rt)?;
     Ok(())
 }

@@ -1,0 +1,349 @@
+//! Servers for clients, each in a thread of its own, and what their fronts are told. What a test owns of them has a drop by hand, so that
+//! letting it go is one call for the prover (docs/GATE.md).
+use crate::clients::exchange;
+use client_streams::Stops;
+use crossbeam_channel::{Receiver, Sender, unbounded};
+use futures::channel::oneshot;
+use http_clients::{ClientSocket, ServeLimits, serve_clients};
+use http_traffic::{FollowUp, Front, How, PassOn, Supplier, Told};
+use std::alloc::{AllocError, AllocGlobal, Global};
+use std::net::{Ipv4Addr, Net, SocketAddr, SocketAddrV4};
+use std::random::RandomSource;
+use std::sync::atomic::{AtomicUsize, Ordering};
+use std::sync::{Arc, Wait};
+use std::test::Fail;
+use std::thread::{JoinHandle, Threads};
+use std::time::{Clock, Duration};
+use std::{io, thread};
+
+/// An address of this host, with any port.
+pub(crate) fn local() -> SocketAddr {
+    SocketAddr::V4(SocketAddrV4::new(Ipv4Addr::new(127, 0, 0, 1), 0))
+}
+
+/// What ends a server, and what ends its grace.
+pub(crate) struct Ends {
+    pub(crate) stop: Option<oneshot::Sender<()>>,
+    hurry: Option<oneshot::Sender<()>>,
+}
+
+impl Drop for Ends {
+    fn drop(self) {
+        let Self { stop: _, hurry: _ } = self;
+    }
+}
+
+impl Ends {
+    /// Those of a server that ends by itself.
+    pub(crate) fn none() -> Ends {
+        Ends {
+            stop: None,
+            hurry: None,
+        }
+    }
+
+    /// Has the server accept no more clients.
+    pub(crate) fn send_stop(&mut self) {
+        send(self.stop.take());
+    }
+
+    /// Ends its grace.
+    pub(crate) fn send_hurry(&mut self) {
+        send(self.hurry.take());
+    }
+}
+
+fn send(end: Option<oneshot::Sender<()>>) {
+    if let Some(end) = end {
+        let _ = end.send(());
+    }
+}
+
+/// What ends a server, and what the server hears of it.
+pub(crate) fn new_ends(alloc: Global) -> Result<(Ends, Stops), AllocError> {
+    let (stop, stopped) = oneshot::channel(alloc)?;
+    let (hurry, hurried) = oneshot::channel(alloc)?;
+    let ends = Ends {
+        stop: Some(stop),
+        hurry: Some(hurry),
+    };
+    let stops = Stops {
+        stop: stopped,
+        hurry: hurried,
+    };
+    Ok((ends, stops))
+}
+
+/// Two handles of a count.
+pub(crate) fn new_count(alloc: Global) -> io::Result<(Arc<AtomicUsize>, Arc<AtomicUsize>)> {
+    let count = Arc::new(alloc, AtomicUsize::new(0))?;
+    let other = Arc::try_clone(&count)?;
+    Ok((count, other))
+}
+
+/// Where a server listens, what it hears of its end, what counts its connections, and its limits.
+pub(crate) struct Place {
+    alloc: Global,
+    socket: ClientSocket,
+    stops: Stops,
+    open: Arc<AtomicUsize>,
+    limits: ServeLimits,
+}
+
+impl Drop for Place {
+    fn drop(self) {
+        let Self {
+            alloc: _,
+            socket: _,
+            stops: _,
+            open: _,
+            limits: _,
+        } = self;
+    }
+}
+
+impl Place {
+    /// A place with this socket, and what ends its server.
+    pub(crate) fn of(
+        alloc: Global,
+        socket: ClientSocket,
+        limits: ServeLimits,
+    ) -> Result<(Place, Ends), AllocError> {
+        let open = Arc::new(alloc, AtomicUsize::new(0))?;
+        let (ends, stops) = new_ends(alloc)?;
+        let place = Place {
+            alloc,
+            socket,
+            stops,
+            open,
+            limits,
+        };
+        Ok((place, ends))
+    }
+
+    /// A place at this address, and what ends its server.
+    pub(crate) fn at<R: Net + AllocGlobal>(
+        rt: &R,
+        address: SocketAddr,
+        limits: ServeLimits,
+    ) -> io::Result<(Place, Ends)> {
+        let socket = ClientSocket::bind(rt, address, limits.connections)?;
+        Ok(Place::of(rt.alloc(), socket, limits)?)
+    }
+
+    /// What counts the connections.
+    pub(crate) fn count(&self) -> Result<Arc<AtomicUsize>, AllocError> {
+        Ok(Arc::try_clone(&self.open)?)
+    }
+
+    fn parts(self) -> (ClientSocket, Stops, Arc<AtomicUsize>, ServeLimits) {
+        let Self {
+            alloc: _,
+            socket,
+            stops,
+            open,
+            limits,
+        } = self;
+        (socket, stops, open, limits)
+    }
+}
+
+/// A server in a thread of its own.
+pub(crate) struct House {
+    pub(crate) alloc: Global,
+    pub(crate) address: SocketAddr,
+    pub(crate) ends: Ends,
+    thread: JoinHandle<io::Result<()>>,
+}
+
+impl Drop for House {
+    fn drop(self) {
+        let Self {
+            alloc: _,
+            address: _,
+            ends: _,
+            thread: _,
+        } = self;
+    }
+}
+
+impl House {
+    /// A server that runs in this thread, and sends its address once it accepts clients.
+    pub(crate) fn new<R: Wait>(
+        rt: &R,
+        alloc: Global,
+        ends: Ends,
+        told: Receiver<SocketAddr, Global>,
+        thread: JoinHandle<io::Result<()>>,
+    ) -> Result<House, Fail> {
+        let address = told.recv(rt)?;
+        Ok(House {
+            alloc,
+            address,
+            ends,
+            thread,
+        })
+    }
+
+    /// Sends octets to it, and returns what comes back.
+    pub(crate) fn answer<R: Net>(&self, rt: &R, octets: &[u8]) -> io::Result<Vec<u8>> {
+        exchange(rt, self.alloc, self.address, octets)
+    }
+
+    /// Waits for its end.
+    pub(crate) fn join<R: Threads>(self, rt: &R) -> io::Result<()> {
+        let Self {
+            alloc: _,
+            address: _,
+            ends,
+            thread,
+        } = self;
+        let ended = thread.join(rt);
+        drop(ends);
+        ended
+    }
+
+    /// Stops it, and waits for its end.
+    pub(crate) fn end<R: Threads>(self, rt: &R) -> io::Result<()> {
+        let mut house = self;
+        house.ends.send_stop();
+        house.join(rt)
+    }
+
+    // Stops it without a grace, and waits for its end.
+    fn end_at_once<R: Threads>(self, rt: &R) -> io::Result<()> {
+        let mut house = self;
+        house.ends.send_stop();
+        house.ends.send_hurry();
+        house.join(rt)
+    }
+}
+
+/// Starts a server with this front, and waits until it accepts clients.
+pub(crate) fn open_house<R, F>(rt: R, place: Place, ends: Ends, front: F) -> Result<House, Fail>
+where
+    R: Threads + Wait + Clock + RandomSource + AllocGlobal + Net + Copy + Send + 'static,
+    R::Stream: Send + 'static,
+    R::Listener: Send + 'static,
+    F: Front + FollowUp + PassOn + Send + 'static,
+{
+    let alloc = place.alloc;
+    let (bound, told) = unbounded(alloc)?;
+    let thread = thread::spawn(&rt, move || {
+        let (socket, stops, open, limits) = place.parts();
+        serve_clients(rt, socket, "edge", front, bound, stops, open, limits)
+    })?;
+    House::new(&rt, alloc, ends, told, thread)
+}
+
+/// What a front is told of a request.
+#[derive(Clone, Copy, PartialEq)]
+pub(crate) struct Line {
+    /// Whether there is a request.
+    pub(crate) is_asked: bool,
+    pub(crate) status: Option<u16>,
+    pub(crate) how: How,
+    pub(crate) supplier: Option<Supplier>,
+    pub(crate) octets: u64,
+    pub(crate) is_whole: bool,
+}
+
+impl Line {
+    /// What is told, but for the request.
+    pub(crate) fn of(told: &Told<'_>, is_asked: bool) -> Line {
+        Line {
+            is_asked,
+            status: told.status,
+            how: told.how,
+            supplier: told.supplier,
+            octets: told.octets,
+            is_whole: told.is_whole,
+        }
+    }
+
+    /// Passes it on, if there is still somebody who listens.
+    pub(crate) fn pass<R: Wait>(self, rt: &R, lines: &Sender<Line, Global>) {
+        let _ = lines.send(rt, self);
+    }
+}
+
+/// A server whose front passes on what it is told, and a count of what is under way there.
+pub(crate) struct Watched {
+    pub(crate) house: House,
+    told: Receiver<Line, Global>,
+    count: Arc<AtomicUsize>,
+}
+
+impl Drop for Watched {
+    fn drop(self) {
+        let Self {
+            house: _,
+            told: _,
+            count: _,
+        } = self;
+    }
+}
+
+impl Watched {
+    pub(crate) fn new(
+        house: House,
+        told: Receiver<Line, Global>,
+        count: Arc<AtomicUsize>,
+    ) -> Watched {
+        Watched { house, told, count }
+    }
+
+    /// What its front is told next.
+    pub(crate) fn told<R: Wait>(&self, rt: &R) -> Result<Line, Fail> {
+        Ok(self.told.recv(rt)?)
+    }
+
+    /// Whether its front is told this next.
+    pub(crate) fn tells<R: Wait>(&self, rt: &R, wanted: Line) -> Result<bool, Fail> {
+        Ok(self.told(rt)? == wanted)
+    }
+
+    /// Whether its front was told more by now.
+    pub(crate) fn has_told<R: Wait>(&self, rt: &R) -> bool {
+        self.told.try_recv(rt).is_ok()
+    }
+
+    /// How many are under way.
+    pub(crate) fn count(&self) -> usize {
+        self.count.load(Ordering::SeqCst)
+    }
+
+    /// Waits until so many are under way, ten seconds at most. Returns whether they are.
+    pub(crate) fn counts<R: Clock>(&self, rt: &R, wanted: usize) -> bool {
+        for _ in 0..1_000 {
+            if self.count() == wanted {
+                return true;
+            }
+            thread::sleep(rt, Duration::from_millis(10));
+        }
+        false
+    }
+
+    /// Stops it, and waits for its end.
+    pub(crate) fn end<R: Threads>(self, rt: &R) -> io::Result<()> {
+        let Self { house, told, count } = self;
+        let ended = house.end(rt);
+        drop(told);
+        drop(count);
+        ended
+    }
+
+    /// Ends it at once. Errors: it failed, it has told more than was taken, or something is still under way.
+    pub(crate) fn end_at_once<R: Threads + Wait>(self, rt: &R) -> Result<(), Fail> {
+        let Self { house, told, count } = self;
+        let ended = house.end_at_once(rt);
+        let is_over = told.recv(rt).is_err() && count.load(Ordering::SeqCst) == 0;
+        drop(told);
+        drop(count);
+        ended?;
+        if !is_over {
+            return Err(Fail::new("more was told, or a connection is still counted"));
+        }
+        Ok(())
+    }
+}
