@@ -117,6 +117,36 @@ impl Facts {
         self.stage.get() == Stage::Head && !self.is_last
     }
 
+    // Tells what became of the request.
+    fn tell<H: Answers>(&self, answers: &H, octets: u64, is_whole: bool) {
+        let status = match self.status {
+            Some(status) => Some(status),
+            None => self.unsent(),
+        };
+        answers.tell(&Told {
+            from: self.from,
+            asked: self.asked.as_ref(),
+            began: self.began,
+            status,
+            how: self.how,
+            supplier: self.supplier,
+            octets,
+            is_whole,
+        });
+    }
+
+    // Tells the end of the connection, where it came before the head of a request was complete. The library's own answers have no
+    // content.
+    fn tell_end<H: Answers>(&self, answers: &H, end: End) {
+        match end {
+            End::Refused(status) => tell_bare(answers, self.from, Some(status), 0, true),
+            End::Broken if self.is_in_head() => {
+                tell_bare(answers, self.from, self.unsent(), 0, false);
+            }
+            End::Broken | End::Regular => {}
+        }
+    }
+
     // The status where nothing was sent: 408 (RFC 9110, section 15.5.9) if the client was silent for too long.
     fn unsent(&self) -> Option<u16> {
         if self.stage.has_timed_out() {
@@ -205,12 +235,15 @@ impl SharedFacts {
             drop(end);
             return None;
         };
-        let wanted = Box::new(alloc, Wanted { end, done }).ok()?;
+        let Ok(wanted) = Box::new(alloc, Wanted { end, done }) else {
+            drop(opened);
+            return None;
+        };
         if self.put_wanted(wanted) {
-            Some(opened)
-        } else {
-            None
+            return Some(opened);
         }
+        drop(opened);
+        None
     }
 
     // Keeps a tunnel that is asked for. Returns whether it is kept.
@@ -220,7 +253,10 @@ impl SharedFacts {
                 drop(facts.wanted.replace(wanted));
                 true
             }
-            Err(_) => false,
+            Err(_) => {
+                drop(wanted);
+                false
+            }
         }
     }
 
@@ -250,8 +286,9 @@ impl SharedFacts {
 
     // Keeps a tunnel whose server is connected.
     fn put_opened(&self, opened: Box<Opened>) {
-        if let Ok(mut facts) = self.0.try_borrow_mut() {
-            drop(facts.opened.replace(opened));
+        match self.0.try_borrow_mut() {
+            Ok(mut facts) => drop(facts.opened.replace(opened)),
+            Err(_) => drop(opened),
         }
     }
 
@@ -270,27 +307,35 @@ impl SharedFacts {
         }
     }
 
-    // Tells the end of a connection, where it came before the head of a request was complete. The library's own answers have no
-    // content.
-    fn tell_end<H: Answers>(&self, answers: &H, end: End) {
-        let Ok(facts) = self.0.try_borrow_mut() else {
+    // Tells what became of the request, of whose content so many octets were handed to the connection. One that has opened a tunnel is told
+    // with that.
+    fn tell_request<H: Answers>(&self, answers: &H, octets: u64, is_whole: bool) {
+        let Ok(mut facts) = self.0.try_borrow_mut() else {
             return;
         };
-        match end {
-            End::Refused(status) => {
-                answers.tell(&bare_told(facts.from, Some(status), 0, true));
-            }
-            End::Broken if facts.is_in_head() => {
-                answers.tell(&bare_told(facts.from, facts.unsent(), 0, false));
-            }
-            End::Broken | End::Regular => {}
+        if facts.opened.is_none() {
+            facts.tell(answers, octets, is_whole);
+            drop(facts.asked.take());
+        }
+    }
+
+    // Tells the end of a connection, as `Facts::tell_end` has it.
+    fn tell_end<H: Answers>(&self, answers: &H, end: End) {
+        if let Ok(facts) = self.0.try_borrow_mut() {
+            facts.tell_end(answers, end);
         }
     }
 }
 
-// What is told of a connection that brought no request.
-fn bare_told(from: IpAddr, status: Option<u16>, octets: u64, is_whole: bool) -> Told<'static> {
-    Told {
+// Tells of a connection that brought no request.
+fn tell_bare<H: Answers>(
+    answers: &H,
+    from: IpAddr,
+    status: Option<u16>,
+    octets: u64,
+    is_whole: bool,
+) {
+    answers.tell(&Told {
         from,
         asked: None,
         began: None,
@@ -299,12 +344,12 @@ fn bare_told(from: IpAddr, status: Option<u16>, octets: u64, is_whole: bool) -> 
         supplier: None,
         octets,
         is_whole,
-    }
+    });
 }
 
 /// Tells that a client at this address is refused with 403 and a content of so many octets.
 pub(crate) fn tell_refused<H: Answers>(answers: &H, from: IpAddr, octets: u64) {
-    answers.tell(&bare_told(from, Some(403), octets, true));
+    tell_bare(answers, from, Some(403), octets, true);
 }
 
 /// Tells what became of a request when it is dropped: with the body of its response, or before there is one. A request that has
@@ -366,27 +411,9 @@ impl<H: Answers> Drop for Telling<H> {
             octets,
             is_whole,
         } = self;
-        let Ok(mut facts) = facts.0.try_borrow_mut() else {
-            return;
-        };
-        if facts.opened.is_some() {
-            return;
-        }
-        let status = match facts.status {
-            Some(status) => Some(status),
-            None => facts.unsent(),
-        };
-        answers.tell(&Told {
-            from: facts.from,
-            asked: facts.asked.as_ref(),
-            began: facts.began,
-            status,
-            how: facts.how,
-            supplier: facts.supplier,
-            octets,
-            is_whole,
-        });
-        drop(facts.asked.take());
+        facts.tell_request(&answers, octets, is_whole);
+        drop(facts);
+        drop(answers);
     }
 }
 
@@ -432,6 +459,35 @@ impl<H: Drop> Drop for Watching<H> {
     }
 }
 
+// Apart from `Watched`, since what a type has in it costs each function that names it (docs/GATE.md).
+impl<H: Answers> Watching<H> {
+    // The way to this end. Returns `None` if out of memory.
+    fn way<R: Clock + Copy>(
+        &self,
+        dialer: &Dialer<R>,
+        end: TunnelEnd,
+    ) -> Option<Box<Opening<R, H>>> {
+        let Some((dialer, answers)) = self.means(dialer) else {
+            drop(end);
+            return None;
+        };
+        let opening = Opening::new(dialer, answers, end);
+        Box::new(self.alloc, opening).ok()
+    }
+
+    // What a way is gone with. Returns `None` if out of memory.
+    fn means<R: Clock + Copy>(&self, dialer: &Dialer<R>) -> Option<(Dialer<R>, H)> {
+        let dialer = dialer.share().ok()?;
+        match self.answers.share() {
+            Ok(answers) => Some((dialer, answers)),
+            Err(_) => {
+                drop(dialer);
+                None
+            }
+        }
+    }
+}
+
 /// The connection of a client, and after it the tunnel that it has opened. Its end is told where it comes before the head of a request
 /// is complete.
 pub(crate) struct Watched<C: HandOver, R: Drop, H: Answers> {
@@ -448,7 +504,7 @@ pub(crate) struct Watched<C: HandOver, R: Drop, H: Answers> {
 }
 
 /// How a connection ended.
-#[derive(Clone, Copy, Debug, PartialEq, Eq)]
+#[derive(Clone, Copy)]
 pub(crate) enum End {
     /// It has not, or it failed.
     Broken,
@@ -489,7 +545,7 @@ where
         };
         self.watching.facts.note_way(self.dialer.now());
         let Wanted { end, done } = Box::into_inner(wanted);
-        match self.way(end) {
+        match self.watching.way(&self.dialer, end) {
             Some(opening) => {
                 drop(self.opening.replace(opening));
                 drop(self.done.replace(done));
@@ -497,28 +553,6 @@ where
             None => {
                 self.watching.facts.note_no_way(503);
                 drop(done.send(Err(503)));
-            }
-        }
-    }
-
-    // The way to this end. Returns `None` if out of memory.
-    fn way(&self, end: TunnelEnd) -> Option<Box<Opening<R, H>>> {
-        let Some((dialer, answers)) = self.means() else {
-            drop(end);
-            return None;
-        };
-        let opening = Opening::new(dialer, answers, end);
-        Box::new(self.watching.alloc, opening).ok()
-    }
-
-    // What a way is gone with. Returns `None` if out of memory.
-    fn means(&self) -> Option<(Dialer<R>, H)> {
-        let dialer = self.dialer.share().ok()?;
-        match self.watching.answers.share() {
-            Ok(answers) => Some((dialer, answers)),
-            Err(_) => {
-                drop(dialer);
-                None
             }
         }
     }
@@ -554,7 +588,11 @@ where
         };
         match ready!(inner.poll(cx)) {
             Ok(()) => Poll::Ready(End::Regular),
-            Err(error) => Poll::Ready(end_of(self.watching.alloc, &error)),
+            Err(error) => {
+                let end = end_of(self.watching.alloc, &error);
+                drop(error);
+                Poll::Ready(end)
+            }
         }
     }
 }
@@ -609,7 +647,7 @@ where
             return Poll::Pending;
         };
         self.end = end;
-        if end != End::Regular {
+        if !matches!(end, End::Regular) {
             return Poll::Ready(());
         }
         self.take_over();

@@ -192,16 +192,27 @@ fn stopped<P: Panel>(alloc: Global, panel: &mut P) -> Result<Given, AllocError> 
 
 // The answer to a request of figures or of the page. `None` if there is no such path. Errors: out of memory.
 fn shown<P: Panel>(alloc: Global, panel: &mut P, path: &str) -> Result<Option<Given>, AllocError> {
-    let (asked, kind) = match path {
-        "/" => return Ok(Some(Given::Page(PAGE.as_bytes().to_vec(alloc)?))),
-        "/metrics" => (Figures::Metrics, TextKind::Metrics),
-        "/stats" => (Figures::Sockets, TextKind::Json),
-        "/stats/clients" => (Figures::Clients, TextKind::Json),
-        "/stats/neighbours" => (Figures::Neighbours, TextKind::Json),
-        "/stats/neighbours/figures" => (Figures::NeighbourFigures, TextKind::Json),
-        _ => return Ok(None),
+    if path == "/" {
+        let page = PAGE.as_bytes().to_vec(alloc)?;
+        return Ok(Some(Given::Page(page)));
+    }
+    let Some((asked, kind)) = figures_at(path) else {
+        return Ok(None);
     };
-    Ok(Some(figures(panel.figures(asked)?, kind)))
+    let text = panel.figures(asked)?;
+    Ok(Some(figures(text, kind)))
+}
+
+// The figures that a path names, and what their text is.
+fn figures_at(path: &str) -> Option<(Figures, TextKind)> {
+    match path {
+        "/metrics" => Some((Figures::Metrics, TextKind::Metrics)),
+        "/stats" => Some((Figures::Sockets, TextKind::Json)),
+        "/stats/clients" => Some((Figures::Clients, TextKind::Json)),
+        "/stats/neighbours" => Some((Figures::Neighbours, TextKind::Json)),
+        "/stats/neighbours/figures" => Some((Figures::NeighbourFigures, TextKind::Json)),
+        _ => None,
+    }
 }
 
 // The answer to a request to capture. Errors: out of memory.
@@ -402,6 +413,25 @@ where
     R: Wait + Clock + RandomSource + AllocGlobal + Net + Copy,
     P: Panel,
 {
+    match opened(&rt, port, panel, limits) {
+        Ok((socket, administrators)) => {
+            serve(rt, socket, administrators, bound, stops, None, limits)
+        }
+        Err(fault) => {
+            drop(stops);
+            drop(bound);
+            Err(fault)
+        }
+    }
+}
+
+// Where administrators come, and what answers their requests from this panel. Errors: the socket failed, or out of memory.
+fn opened<R: Net + AllocGlobal, P: Panel>(
+    rt: &R,
+    port: u16,
+    panel: P,
+    limits: ServeLimits,
+) -> io::Result<(ClientSocket, Administrators<P>)> {
     let alloc = rt.alloc();
     let office = Office {
         alloc,
@@ -411,6 +441,11 @@ where
         office: Rc::new(alloc, office)?,
     };
     let address = SocketAddr::V4(SocketAddrV4::new(Ipv4Addr::new(127, 0, 0, 1), port));
-    let socket = ClientSocket::bind(&rt, address, limits.connections)?;
-    serve(rt, socket, administrators, bound, stops, None, limits)
+    match ClientSocket::bind(rt, address, limits.connections) {
+        Ok(socket) => Ok((socket, administrators)),
+        Err(fault) => {
+            drop(administrators);
+            Err(fault)
+        }
+    }
 }

@@ -7,7 +7,7 @@ use crate::account::{SharedFacts, Telling};
 use crate::reply::Reply;
 use crate::requests::{Answers, Given, TextKind};
 use crate::responses::{announce_close, bare, response_of};
-use crate::upload::{Pieces, Upload};
+use crate::upload::{Pieces, RelayContent, Upload};
 use client_streams::{SharedStage, Stage};
 use futures::channel::oneshot;
 use futures::task::{Context, Poll};
@@ -95,29 +95,24 @@ impl<H: Answers> Door<H> {
 }
 
 impl<I: Drop, H: Answers> Service<Request<Incoming<I>>> for Door<H> {
-    type Response = Response<Reply<H, I>>;
+    type Response = Response<Reply<H, Upload<I>>>;
 
     type Error = Infallible;
 
-    type Future = Serving<H, AtMost<I, Pieces>, I>;
+    type Future = Serving<H, AtMost<I, Pieces>, Upload<I>>;
 
     fn call(&self, req: Request<Incoming<I>>) -> Self::Future {
         let (parts, body) = req.into_parts();
-        match self.way(&parts, body.size_hint().lower()) {
-            Ok(Road::Passed) => self.pass(parts, body),
-            Ok(Road::Tunnel) => {
-                let serving = self.open(parts);
-                drop(body);
-                serving
-            }
-            Ok(_) => self.collect(parts, body),
-            Err(status) => {
-                let mut serving = self.serving(parts);
-                serving.turn_down(status);
-                drop(body);
-                serving
-            }
+        let way = self.way(&parts, body.size_hint().lower());
+        if let Ok(Road::Passed) = way {
+            return self.pass(parts, body);
         }
+        let is_empty = body.size_hint().exact() == Some(0);
+        let heard = Heard::new(body, Pieces(self.stage.share().ok()));
+        let reader: AtMost<I, Pieces> = AtMost::new(self.alloc, self.limit);
+        let serving = self.take(way, parts, heard, is_empty, &reader);
+        drop(reader);
+        serving
     }
 }
 
@@ -142,7 +137,7 @@ impl<H: Answers> Door<H> {
 
     // A response that neither reads the content nor waits for an answer, as yet: 503, after which the connection closes if the content
     // is in chunks.
-    fn serving<I: Drop>(&self, parts: http::request::Parts) -> Serving<H, AtMost<I, Pieces>, I>
+    fn serving<T: Read, U: RelayContent>(&self, parts: http::request::Parts) -> Serving<H, T, U>
         ensures { (result.content ≡ None) × (result.answering ≡ None) }
     {
         let is_coded = parts.headers.contains_key(header::TRANSFER_ENCODING);
@@ -162,8 +157,35 @@ impl<H: Answers> Door<H> {
         }
     }
 
+    // Takes a request that is not passed on, in this way. `reader` reads its content if that is collected.
+    fn take<T: Read, U: RelayContent>(
+        &self,
+        way: Result<Road, u16>,
+        parts: http::request::Parts,
+        body: T::Body,
+        is_empty: bool,
+        reader: &T,
+    ) -> Serving<H, T, U>
+        ensures { ⟦<Serving<H, T, U> as Future>⟧.can_poll result }
+    {
+        match way {
+            Ok(Road::Tunnel) => {
+                let serving = self.open(parts);
+                drop(body);
+                serving
+            }
+            Ok(_) => self.collect(parts, body, is_empty, reader),
+            Err(status) => {
+                let mut serving = self.serving(parts);
+                serving.turn_down(status);
+                drop(body);
+                serving
+            }
+        }
+    }
+
     // Opens a tunnel. Where it is refused, the connection ends: what stands behind the request was meant for the tunnel, and is no request.
-    fn open<I: Drop>(&self, parts: http::request::Parts) -> Serving<H, AtMost<I, Pieces>, I>
+    fn open<T: Read, U: RelayContent>(&self, parts: http::request::Parts) -> Serving<H, T, U>
         ensures { (result.content ≡ None) × (result.answering ≡ None) }
     {
         let mut serving = self.serving(parts);
@@ -174,15 +196,16 @@ impl<H: Answers> Door<H> {
         serving
     }
 
-    // Collects the content of a request, and answers it then; at once if it has none, or is refused whatever it is.
-    fn collect<I: Drop>(
+    // Collects the content of a request by `reader`, and answers it then; at once if it has none, or is refused whatever it is.
+    fn collect<T: Read, U: RelayContent>(
         &self,
         parts: http::request::Parts,
-        body: Incoming<I>,
-    ) -> Serving<H, AtMost<I, Pieces>, I>
-        ensures { ⟦<Serving<H, AtMost<I, Pieces>, I> as Future>⟧.can_poll result }
+        body: T::Body,
+        is_empty: bool,
+        reader: &T,
+    ) -> Serving<H, T, U>
+        ensures { ⟦<Serving<H, T, U> as Future>⟧.can_poll result }
     {
-        let is_empty = body.size_hint().exact() == Some(0);
         let mut serving = self.serving(parts);
         if is_empty || self.answers.refuses(&self.facts) {
             self.stage.set(Stage::Asked);
@@ -191,18 +214,17 @@ impl<H: Answers> Door<H> {
             drop(body);
             return serving;
         }
-        let heard = Heard::new(body, Pieces(self.stage.share().ok()));
-        let reading = AtMost::new(self.alloc, self.limit).read(heard);
+        let reading = reader.read(body);
         serving.content = boxed(self.alloc, reading);
         serving
     }
 
     // Passes on a request, and its content as it comes if it has one.
-    fn pass<I: Drop>(
+    fn pass<I: Drop, T: Read>(
         &self,
         parts: http::request::Parts,
         body: Incoming<I>,
-    ) -> Serving<H, AtMost<I, Pieces>, I>
+    ) -> Serving<H, T, Upload<I>>
         ensures { (result.content ≡ None) × (IfSome result.answering H.Answering.can_poll) }
     {
         let length = body.size_hint().exact();
@@ -236,7 +258,7 @@ impl<H: Answers> Door<H> {
 }
 
 /// The future of one response: reads the content, then waits for the answer; or passes on the content while it waits for the answer.
-pub(crate) struct Serving<H: Answers, T: Read, I> {
+pub(crate) struct Serving<H: Answers, T: Read, U> {
     alloc: Global,
     stage: Option<SharedStage>,
     is_last: bool,
@@ -248,12 +270,12 @@ pub(crate) struct Serving<H: Answers, T: Read, I> {
     tunnel: Option<oneshot::Receiver<Result<(), u16>>>,
     content: Option<Box<T::Reading>>,
     // The content that is passed on, until it is complete.
-    upload: Option<Box<Upload<I>>>,
+    upload: Option<Box<U>>,
     answering: Option<H::Answering>,
 }
 
 // Written by hand, so that what lets it go is one call for the prover (docs/GATE.md).
-impl<H: Answers, T: Read, I: Drop> Drop for Serving<H, T, I> {
+impl<H: Answers, T: Read, U: Drop> Drop for Serving<H, T, U> {
     fn drop(self) {
         let Self {
             alloc: _,
@@ -269,14 +291,14 @@ impl<H: Answers, T: Read, I: Drop> Drop for Serving<H, T, I> {
     }
 }
 
-impl<H: Answers, T: Read, I: Drop> Serving<H, T, I> {
+impl<H: Answers, T: Read, U: RelayContent> Serving<H, T, U> {
     // The response, after which the connection is idle again. Status 503 if it cannot be made. A capture is the last response of
     // its connection, which stays at the stage in which nothing is awaited of the client. So it does while an answer is passed on. A
     // response before the end of its request's content is the connection's last.
-    fn respond(&mut self, given: Given) -> Response<Reply<H, I>> {
+    fn respond(&mut self, given: Given) -> Response<Reply<H, U>> {
         let is_passed = self.passes_content(&given);
         self.note_given(&given, is_passed);
-        let mut response = match response_of(self.alloc, given) {
+        let mut response: Response<Reply<H, U>> = match response_of(self.alloc, given) {
             Some(response) => response,
             None => bare(self.alloc, 503),
         };
@@ -328,7 +350,7 @@ impl<H: Answers, T: Read, I: Drop> Serving<H, T, I> {
         let Some(upload) = &mut self.upload else {
             return false;
         };
-        let Poll::Ready(relayed) = upload.poll(cx) else {
+        let Poll::Ready(relayed) = upload.poll_relay(cx) else {
             return false;
         };
         drop(self.upload.take());
@@ -339,7 +361,7 @@ impl<H: Answers, T: Read, I: Drop> Serving<H, T, I> {
     }
 
     // Leaves it to the body of the response to tell what becomes of the request.
-    fn hand_over(&mut self, response: &mut Response<Reply<H, I>>) {
+    fn hand_over(&mut self, response: &mut Response<Reply<H, U>>) {
         let Some(mut telling) = self.telling.take() else {
             return;
         };
@@ -374,18 +396,55 @@ impl<H: Answers, T: Read, I: Drop> Serving<H, T, I> {
         Poll::Ready(false)
     }
 
+    // Waits for the whole content, if it is collected, and begins to answer the request then.
+    fn poll_content(&mut self, cx: &mut Context<'_>) -> Poll<()>
+        requires content { IfSome self.old.content (λ c. T.Reading.can_poll (box_value c)) }
+        requires answering { IfSome self.old.answering H.Answering.can_poll }
+        ensures content { IfSome self.new.content (λ c. T.Reading.can_poll (box_value c)) }
+        ensures answering { IfSome self.new.answering H.Answering.can_poll }
+        ensures registered { OnPending result (Covers cx.new (λ _. ⊥)) }
+        ensures kept { Keeps cx.old cx.new }
+    {
+        let Some(mut content) = self.content.take() else {
+            return Poll::Ready(());
+        };
+        let Poll::Ready(collected) = content.poll(cx) else {
+            self.content = Some(content);
+            return Poll::Pending;
+        };
+        self.take_up(collected);
+        drop(content);
+        Poll::Ready(())
+    }
+
+    // Begins to answer the request whose content was read like this, or turns it down.
+    fn take_up(&mut self, collected: Ending)
+        requires { IfSome self.old.answering H.Answering.can_poll }
+        ensures content { self.new.content ≡ self.old.content }
+        ensures answering { IfSome self.new.answering H.Answering.can_poll }
+    {
+        if let Some(stage) = &self.stage {
+            stage.set(Stage::Asked);
+        }
+        match collected {
+            Ending::Whole(content) => self.answering = begin(&self.telling, content),
+            Ending::TooLong => self.turn_down(413),
+            Ending::Broken => self.turn_down(400),
+        }
+    }
+
     // The response that opens a tunnel. Nothing is awaited of the client until its socket is taken over.
-    fn agree(&mut self) -> Response<Reply<H, I>> {
+    fn agree(&mut self) -> Response<Reply<H, U>> {
         if let Some(telling) = &self.telling {
             telling.answers.note_answer();
         }
-        let mut response = bare(self.alloc, 200);
+        let mut response: Response<Reply<H, U>> = bare(self.alloc, 200);
         self.hand_over(&mut response);
         response
     }
 
     // The response to a request that is not passed on.
-    fn refuse(&mut self) -> Response<Reply<H, I>> {
+    fn refuse(&mut self) -> Response<Reply<H, U>> {
         let status = self.refusal;
         let text = match &self.telling {
             Some(telling) => telling.facts.failure(self.alloc, status),
@@ -399,30 +458,17 @@ impl<H: Answers, T: Read, I: Drop> Serving<H, T, I> {
     }
 }
 
-impl<H: Answers, T: Read, I: Drop> Future for Serving<H, T, I> {
-    type Output = Result<Response<Reply<H, I>>, Infallible>;
+impl<H: Answers, T: Read, U: RelayContent> Future for Serving<H, T, U> {
+    type Output = Result<Response<Reply<H, U>>, Infallible>;
 
     ghost can_poll = { λ w. IfSome w.content (λ c. T.Reading.can_poll (box_value c))
         × IfSome w.answering H.Answering.can_poll };
 
-    fn poll(&mut self, cx: &mut Context<'_>) -> Poll<Result<Response<Reply<H, I>>, Infallible>> {
+    fn poll(&mut self, cx: &mut Context<'_>) -> Poll<Result<Response<Reply<H, U>>, Infallible>> {
         if ready!(self.poll_tunnel(cx)) {
             return Poll::Ready(Ok(self.agree()));
         }
-        if let Some(mut content) = self.content.take() {
-            let Poll::Ready(collected) = content.poll(cx) else {
-                self.content = Some(content);
-                return Poll::Pending;
-            };
-            if let Some(stage) = &self.stage {
-                stage.set(Stage::Asked);
-            }
-            match collected {
-                Ending::Whole(content) => self.answering = begin(&self.telling, content),
-                Ending::TooLong => self.turn_down(413),
-                Ending::Broken => self.turn_down(400),
-            }
-        }
+        ready!(self.poll_content(cx));
         if self.is_broken(cx) {
             self.turn_down(400);
             drop(self.answering.take());

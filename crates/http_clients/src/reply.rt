@@ -6,13 +6,14 @@ ghost use Rattle.futures.specs.Task.{Covers, Keeps};
 
 use crate::account::Telling;
 use crate::requests::Answers;
-use crate::upload::Upload;
+use crate::responses::ResponseBody;
+use crate::upload::RelayContent;
 use bytes::Bytes;
 use client_streams::{SharedStage, Stage};
 use futures::channel::{mpsc, oneshot};
+use futures::ready;
 use futures::stream::Stream;
 use futures::task::{Context, Poll};
-use futures::{Future, ready};
 use http_body::{Body, Frame, SizeHint};
 use http_traffic::Piece;
 use object_body::Portions;
@@ -24,15 +25,15 @@ const MOST_OCTETS: usize = 128 * 1024;
 
 /// Octets that are known when the response begins, or pieces that are made while it is sent, or those of an answer that is passed on.
 /// What became of the request is told when this is dropped.
-pub(crate) struct Reply<H: Answers, I> {
+pub(crate) struct Reply<H: Answers, U> {
     known: Portions,
     coming: Option<mpsc::Receiver<Vec<u8>>>,
-    passed: Option<Box<Passed<I>>>,
+    passed: Option<Box<Passed<U>>>,
     telling: Option<Telling<H>>,
 }
 
 // Written by hand, so that what lets it go is one call for the prover (docs/GATE.md).
-impl<H: Answers, I: Drop> Drop for Reply<H, I> {
+impl<H: Answers, U: Drop> Drop for Reply<H, U> {
     fn drop(self) {
         let Self {
             known: _,
@@ -45,30 +46,65 @@ impl<H: Answers, I: Drop> Drop for Reply<H, I> {
 
 // The content of an answer that is passed on, and what is left of the content of its request.
 #[derive(Drop)]
-struct Passed<I> {
+struct Passed<U> {
     pieces: mpsc::Receiver<Piece>,
     length: Option<u64>,
     // What is left of the piece that came last.
     rest: Bytes,
     // Ends the passage when it is dropped. None if what brings the answer goes on without its client.
     wanted: Option<oneshot::Sender<()>>,
-    upload: Option<Box<Upload<I>>>,
+    upload: Option<Box<U>>,
     // None if there are too many handles.
     stage: Option<SharedStage>,
 }
 
-impl<I: Drop> Passed<I> {
+impl<U: RelayContent> Passed<U> {
     // The next piece. The content of the request goes on meanwhile.
     fn poll_piece(&mut self, cx: &mut Context<'_>) -> Poll<Option<Piece>>
         ensures registered { OnPending result (Covers cx.new (λ _. ⊥)) }
         ensures kept { Keeps cx.old cx.new }
     {
         if let Some(upload) = &mut self.upload
-            && let Poll::Ready(_) = upload.poll(cx)
+            && let Poll::Ready(_) = upload.poll_relay(cx)
         {
             drop(self.upload.take());
         }
         self.pieces.poll_next(cx)
+    }
+
+    // Waits until there are octets to be sent. Returns whether there are; otherwise the end of the content has come. Errors: it was cut, or
+    // out of memory.
+    fn poll_octets(&mut self, cx: &mut Context<'_>) -> Poll<Result<bool, AllocError>>
+        ensures registered { OnPending result (Covers cx.new (λ _. ⊥)) }
+        ensures kept { Keeps cx.old cx.new }
+    {
+        if !self.rest.is_empty() {
+            return Poll::Ready(Ok(true));
+        }
+        match ready!(self.poll_piece(cx)) {
+            Some(Piece::Octets(octets)) => Poll::Ready(self.keep(octets)),
+            Some(Piece::End) => {
+                self.rest();
+                Poll::Ready(Ok(false))
+            }
+            // Whatever the error, the connection ends without the end of the content.
+            None => Poll::Ready(Err(AllocError)),
+        }
+    }
+
+    // Keeps the octets of a piece, which are to be sent. Returns that there are some. Errors: out of memory.
+    fn keep(&mut self, octets: Vec<u8>) -> Result<bool, AllocError> {
+        let Ok(octets) = Bytes::from_vec(octets) else {
+            return Err(AllocError);
+        };
+        drop(mem::replace(&mut self.rest, octets));
+        Ok(true)
+    }
+
+    // The next octets to be sent. Errors: out of memory.
+    fn next_octets(&mut self) -> Result<Bytes, AllocError> {
+        let most = self.rest.len().min(MOST_OCTETS);
+        self.rest.split_to(most)
     }
 
     // Has the connection wait for its next request.
@@ -79,9 +115,8 @@ impl<I: Drop> Passed<I> {
     }
 }
 
-impl<H: Answers, I: Drop> Reply<H, I> {
-    /// A body of which all octets are known.
-    pub(crate) fn of(known: Portions) -> Reply<H, I> {
+impl<H: Answers, U: RelayContent> ResponseBody for Reply<H, U> {
+    fn of(known: Portions) -> Reply<H, U> {
         Reply {
             known,
             coming: None,
@@ -90,8 +125,7 @@ impl<H: Answers, I: Drop> Reply<H, I> {
         }
     }
 
-    /// A body of the pieces that come, to the end of their channel.
-    pub(crate) fn of_pieces(alloc: Global, pieces: mpsc::Receiver<Vec<u8>>) -> Reply<H, I> {
+    fn of_pieces(alloc: Global, pieces: mpsc::Receiver<Vec<u8>>) -> Reply<H, U> {
         Reply {
             known: Portions::of_text(alloc, Vec::new(alloc)),
             coming: Some(pieces),
@@ -100,14 +134,12 @@ impl<H: Answers, I: Drop> Reply<H, I> {
         }
     }
 
-    /// A body of the pieces of an answer that is passed on; it fails if they end without `Piece::End`. The passage ends when this is
-    /// dropped, with `wanted`. Returns `None` if out of memory.
-    pub(crate) fn of_passed(
+    fn of_passed(
         alloc: Global,
         pieces: mpsc::Receiver<Piece>,
         length: Option<u64>,
         wanted: Option<oneshot::Sender<()>>,
-    ) -> Option<Reply<H, I>> {
+    ) -> Option<Reply<H, U>> {
         let passed = Passed {
             pieces,
             length,
@@ -124,12 +156,20 @@ impl<H: Answers, I: Drop> Reply<H, I> {
             telling: None,
         })
     }
+}
 
+impl<H: Answers, U: RelayContent> Reply<H, U> {
     /// Leaves it to a body that is passed on to pass on what is left of its request's content, and to set the stage once it has ended.
-    pub(crate) fn attend(&mut self, upload: Option<Box<Upload<I>>>, stage: Option<SharedStage>) {
-        if let Some(passed) = &mut self.passed {
-            passed.upload = upload;
-            passed.stage = stage;
+    pub(crate) fn attend(&mut self, upload: Option<Box<U>>, stage: Option<SharedStage>) {
+        match &mut self.passed {
+            Some(passed) => {
+                drop(mem::replace(&mut passed.upload, upload));
+                drop(mem::replace(&mut passed.stage, stage));
+            }
+            None => {
+                drop(stage);
+                drop(upload);
+            }
         }
     }
 
@@ -150,24 +190,13 @@ impl<H: Answers, I: Drop> Reply<H, I> {
         let Some(passed) = &mut self.passed else {
             return Poll::Ready(None);
         };
-        if !passed.rest.is_empty() {
-            return Poll::Ready(self.passed_frame());
-        }
-        match ready!(passed.poll_piece(cx)) {
-            Some(Piece::Octets(octets)) => {
-                let Ok(octets) = Bytes::from_vec(octets) else {
-                    return Poll::Ready(Some(Err(AllocError)));
-                };
-                drop(mem::replace(&mut passed.rest, octets));
-                Poll::Ready(self.passed_frame())
-            }
-            Some(Piece::End) => {
-                passed.rest();
+        match ready!(passed.poll_octets(cx)) {
+            Ok(true) => Poll::Ready(self.passed_frame()),
+            Ok(false) => {
                 self.note(0, true);
                 Poll::Ready(None)
             }
-            // Whatever the error, the connection ends without the end of the content.
-            None => Poll::Ready(Some(Err(AllocError))),
+            Err(fault) => Poll::Ready(Some(Err(fault))),
         }
     }
 
@@ -176,8 +205,7 @@ impl<H: Answers, I: Drop> Reply<H, I> {
         ensures { self.new.coming ≡ self.old.coming }
     {
         let passed = self.passed.as_mut()?;
-        let most = passed.rest.len().min(MOST_OCTETS);
-        let Ok(octets) = passed.rest.split_to(most) else {
+        let Ok(octets) = passed.next_octets() else {
             return Some(Err(AllocError));
         };
         self.note(octets.len() as u64, false);
@@ -202,7 +230,7 @@ impl<H: Answers, I: Drop> Reply<H, I> {
 
     /// Has `telling` note what is handed to the connection from now on.
     pub(crate) fn account_to(&mut self, telling: Telling<H>) {
-        self.telling = Some(telling);
+        drop(self.telling.replace(telling));
     }
 
     // Notes a piece of so many octets.
@@ -215,7 +243,7 @@ impl<H: Answers, I: Drop> Reply<H, I> {
     }
 }
 
-impl<H: Answers, I: Drop> Body for Reply<H, I> {
+impl<H: Answers, U: RelayContent> Body for Reply<H, U> {
     type Data = Bytes;
 
     type Error = AllocError;

@@ -8,7 +8,7 @@ use std::alloc::AllocError;
 use std::net::{IpAddr, SocketAddr};
 
 /// What a text of the proxy itself is.
-#[derive(Clone, Copy, Debug, PartialEq, Eq)]
+#[derive(Clone, Copy)]
 pub(crate) enum TextKind {
     /// For people.
     Plain,

@@ -1,10 +1,9 @@
 //! The responses to clients and administrators.
 ghost use Rattle.std.specs.Prelude.{None};
 
-use crate::reply::Reply;
-use crate::requests::{Answers, Given, PassedAnswer};
+use crate::requests::{Given, PassedAnswer};
 use admin_page::POLICY;
-use futures::channel::mpsc;
+use futures::channel::{mpsc, oneshot};
 use http_content::{add_field, add_object_fields};
 use http_rules::end_to_end;
 use http_traffic::{Early, PassedHead, Piece, Shape};
@@ -14,9 +13,28 @@ use object_body::Portions;
 use object_store::SharedObject;
 use std::alloc::Global;
 
+/// A body that responses are made with. What makes them is generic over it, since the prover does not look behind a type parameter
+/// (docs/GATE.md).
+pub(crate) trait ResponseBody: Drop {
+    /// A body of which all octets are known.
+    fn of(known: Portions) -> Self;
+
+    /// A body of the pieces that come, to the end of their channel.
+    fn of_pieces(alloc: Global, pieces: mpsc::Receiver<Vec<u8>>) -> Self;
+
+    /// A body of the pieces of an answer that is passed on; it fails if they end without `Piece::End`. The passage ends when this is
+    /// dropped, with `wanted`. Returns `None` if out of memory.
+    fn of_passed(
+        alloc: Global,
+        pieces: mpsc::Receiver<Piece>,
+        length: Option<u64>,
+        wanted: Option<oneshot::Sender<()>>,
+    ) -> Option<Self>;
+}
+
 // A response with an empty body.
-pub(crate) fn bare<H: Answers, I: Drop>(alloc: Global, status: u16) -> Response<Reply<H, I>> {
-    let mut response = Response::new(alloc, Reply::of(Portions::of_text(alloc, Vec::new(alloc))));
+pub(crate) fn bare<B: ResponseBody>(alloc: Global, status: u16) -> Response<B> {
+    let mut response = Response::new(alloc, B::of(Portions::of_text(alloc, Vec::new(alloc))));
     *response.status_mut() = status_of(status);
     response
 }
@@ -32,10 +50,7 @@ pub(crate) fn announce_close(headers: &mut HeaderMap) {
 }
 
 // The response with this content. Returns `None` if out of memory, or if there are too many fields.
-pub(crate) fn response_of<H: Answers, I: Drop>(
-    alloc: Global,
-    given: Given,
-) -> Option<Response<Reply<H, I>>> {
+pub(crate) fn response_of<B: ResponseBody>(alloc: Global, given: Given) -> Option<Response<B>> {
     match given {
         Given::Object {
             object,
@@ -63,10 +78,7 @@ pub(crate) fn response_of<H: Answers, I: Drop>(
 }
 
 // The response, if what was done to it has been done.
-fn if_done<H: Answers, I: Drop>(
-    response: Response<Reply<H, I>>,
-    done: Option<()>,
-) -> Option<Response<Reply<H, I>>> {
+fn if_done<B: ResponseBody>(response: Response<B>, done: Option<()>) -> Option<Response<B>> {
     match done {
         Some(()) => Some(response),
         None => {
@@ -77,34 +89,34 @@ fn if_done<H: Answers, I: Drop>(
 }
 
 // The response with the pieces of a capture file. Returns `None` as `with_field` does.
-fn capture_response<H: Answers, I: Drop>(
+fn capture_response<B: ResponseBody>(
     alloc: Global,
     pieces: mpsc::Receiver<Vec<u8>>,
-) -> Option<Response<Reply<H, I>>> {
-    let response = Response::new(alloc, Reply::of_pieces(alloc, pieces));
+) -> Option<Response<B>> {
+    let response = Response::new(alloc, B::of_pieces(alloc, pieces));
     let kind = b"application/x-pcapng";
     with_field(alloc, Some(response), b"content-type", kind)
 }
 
 // A response with this field as well. Returns `None` without a response, if out of memory, or if there are too many fields.
-fn with_field<H: Answers, I: Drop>(
+fn with_field<B: ResponseBody>(
     alloc: Global,
-    response: Option<Response<Reply<H, I>>>,
+    response: Option<Response<B>>,
     name: &[u8],
     value: &[u8],
-) -> Option<Response<Reply<H, I>>> {
+) -> Option<Response<B>> {
     let mut response = response?;
     let done = add_field(alloc, response.headers_mut(), name, value);
     if_done(response, done)
 }
 
 // A response with this Age, if one is given, and this Cache-Status. Returns `None` as `with_field` does.
-fn with_own_fields<H: Answers, I: Drop>(
+fn with_own_fields<B: ResponseBody>(
     alloc: Global,
-    response: Option<Response<Reply<H, I>>>,
+    response: Option<Response<B>>,
     age: Option<u32>,
     told: Vec<u8>,
-) -> Option<Response<Reply<H, I>>> {
+) -> Option<Response<B>> {
     let mut response = response?;
     let done = add_own_fields(alloc, response.headers_mut(), age, told);
     if_done(response, done)
@@ -138,12 +150,12 @@ fn append_field(headers: &mut HeaderMap, name: HeaderName, value: Vec<u8>) -> Op
 
 // The response with an object in this shape, without Age if `is_age_apart`. Returns `None` if out of memory, or if there are too many
 // fields.
-fn shaped_response<H: Answers, I: Drop>(
+fn shaped_response<B: ResponseBody>(
     alloc: Global,
     object: &SharedObject,
     shape: &Shape,
     is_age_apart: bool,
-) -> Option<Response<Reply<H, I>>> {
+) -> Option<Response<B>> {
     match shape {
         Shape::Whole => {
             let share = object.share().ok()?;
@@ -171,14 +183,14 @@ fn shaped_response<H: Answers, I: Drop>(
 
 // The response with this status and body, and the fields of an object. Returns `None` if out of memory, or if there are too many
 // fields.
-fn object_response<H: Answers, I: Drop>(
+fn object_response<B: ResponseBody>(
     alloc: Global,
     status: u16,
     body: Portions,
     fields: &[(Vec<u8>, Vec<u8>)],
     is_age_apart: bool,
-) -> Option<Response<Reply<H, I>>> {
-    let mut response = Response::new(alloc, Reply::of(body));
+) -> Option<Response<B>> {
+    let mut response = Response::new(alloc, B::of(body));
     *response.status_mut() = status_of(status);
     let done = add_kept_fields(alloc, response.headers_mut(), fields, is_age_apart);
     if_done(response, done)
@@ -196,10 +208,10 @@ fn add_kept_fields(
 }
 
 // The response with an answer that is passed on. Returns `None` as `relayed_response` does.
-fn passed_response<H: Answers, I: Drop>(
+fn passed_response<B: ResponseBody>(
     alloc: Global,
     answer: Box<PassedAnswer>,
-) -> Option<Response<Reply<H, I>>> {
+) -> Option<Response<B>> {
     let PassedAnswer {
         head,
         pieces,
@@ -213,11 +225,11 @@ fn passed_response<H: Answers, I: Drop>(
 
 // The response with an answer that is passed on: its fields that are not only for its connection (RFC 9110, section 7.6.1). Returns `None`
 // if out of memory, if there are too many fields, or if Connection names too many.
-fn relayed_response<H: Answers, I: Drop>(
+fn relayed_response<B: ResponseBody>(
     alloc: Global,
     head: PassedHead,
     pieces: mpsc::Receiver<Piece>,
-) -> Option<Response<Reply<H, I>>> {
+) -> Option<Response<B>> {
     let PassedHead {
         status,
         head,
@@ -235,21 +247,21 @@ fn relayed_response<H: Answers, I: Drop>(
         drop(wanted);
         drop(pieces);
         // It has no content, however it is framed (RFC 9110, section 15.3.6).
-        Reply::of(Portions::of_text(alloc, Vec::new(alloc)))
+        Some(B::of(Portions::of_text(alloc, Vec::new(alloc))))
     } else {
-        Reply::of_passed(alloc, pieces, length, Some(wanted))?
+        B::of_passed(alloc, pieces, length, Some(wanted))
     };
     response_with(alloc, status, reply, fields.as_slice())
 }
 
-// The response with this status, body and fields. Returns `None` as `add_object_fields` does.
-fn response_with<H: Answers, I: Drop>(
+// The response with this status, body and fields. Returns `None` without a body, and as `add_object_fields` does.
+fn response_with<B: ResponseBody>(
     alloc: Global,
     status: u16,
-    reply: Reply<H, I>,
+    reply: Option<B>,
     fields: &[(Vec<u8>, Vec<u8>)],
-) -> Option<Response<Reply<H, I>>> {
-    let mut response = Response::new(alloc, reply);
+) -> Option<Response<B>> {
+    let mut response = Response::new(alloc, reply?);
     *response.status_mut() = status_of(status);
     let done = add_object_fields(alloc, response.headers_mut(), fields, false);
     if_done(response, done)
@@ -257,26 +269,23 @@ fn response_with<H: Answers, I: Drop>(
 
 // The response with an answer that is still collected, and this Cache-Status. Returns `None` if out of memory, or if there are too many
 // fields.
-fn early_response<H: Answers, I: Drop>(
+fn early_response<B: ResponseBody>(
     alloc: Global,
     early: Box<Early>,
     told: Vec<u8>,
-) -> Option<Response<Reply<H, I>>> {
+) -> Option<Response<B>> {
     let Early {
         fields,
         length,
         pieces,
     } = Box::into_inner(early);
-    let reply = Reply::of_passed(alloc, pieces, Some(length), None)?;
+    let reply = B::of_passed(alloc, pieces, Some(length), None);
     let response = response_with(alloc, 200, reply, fields.as_slice());
     with_own_fields(alloc, response, None, told)
 }
 
 // The response with the administration's page. Returns `None` if out of memory.
-fn page_response<H: Answers, I: Drop>(
-    alloc: Global,
-    text: Vec<u8>,
-) -> Option<Response<Reply<H, I>>> {
+fn page_response<B: ResponseBody>(alloc: Global, text: Vec<u8>) -> Option<Response<B>> {
     let mut response = text_response(alloc, 200, text, b"text/html; charset=utf-8")?;
     let done = add_page_fields(alloc, response.headers_mut());
     if_done(response, done)
@@ -297,14 +306,14 @@ fn add_page_fields(alloc: Global, headers: &mut HeaderMap) -> Option<()> {
 }
 
 // The response with this text of this media type. Returns `None` if out of memory.
-fn text_response<H: Answers, I: Drop>(
+fn text_response<B: ResponseBody>(
     alloc: Global,
     status: u16,
     text: Vec<u8>,
     kind: &[u8],
-) -> Option<Response<Reply<H, I>>> {
+) -> Option<Response<B>> {
     let is_empty = text.is_empty();
-    let mut response = Response::new(alloc, Reply::of(Portions::of_text(alloc, text)));
+    let mut response = Response::new(alloc, B::of(Portions::of_text(alloc, text)));
     *response.status_mut() = status_of(status);
     if is_empty {
         return Some(response);

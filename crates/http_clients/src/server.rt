@@ -1,8 +1,7 @@
 //! An HTTP server that runs on the calling thread.
-ghost use Rattle.std.specs.Prelude.{IfSome};
 
 use crate::account::{Counted, SharedFacts, Watched, Watching, tell_refused};
-use crate::connection::ClientConnection;
+use crate::connection::Connections;
 use crate::door::Door;
 use crate::requests::Answers;
 use crate::texts::{FORBIDDEN, forbidden};
@@ -114,12 +113,12 @@ fn listen<R: Net>(rt: &R, address: SocketAddr) -> io::Result<net::TcpListener> {
 
 // Makes the HTTP connection of each client.
 #[derive(Drop)]
-struct Http<R, H> {
+struct Http<R, H, B> {
     rt: R,
     alloc: Global,
     handle: Handle,
     limits: ServeLimits,
-    builder: http1::Builder<TokioTimer<R>>,
+    builder: B,
     answers: H,
     // How many connections are open, where that is counted.
     open: Option<Arc<AtomicUsize>>,
@@ -134,34 +133,37 @@ struct Bound {
     to: Sender<SocketAddr, Global>,
 }
 
-// The HTTP connection of a client that is served.
-type Kept<R, H> = Watched<ClientConnection<R, H>, R, H>;
-
-// A client that is served or refused. A type of its own, since its parts have large ones that are elaborated anew wherever they are
-// named.
-struct Client<R: Net + Clock + Copy, H: Answers> {
-    serving: Either<Kept<R, H>, Refusal<R>>,
+// A client that is served, as `K` does it, or refused. A type of its own, since its parts have large ones that are elaborated anew wherever
+// they are named; for the same reason it is generic over `K` (docs/GATE.md).
+struct Client<K, R> {
+    serving: Either<K, Refusal<R>>,
 }
 
 // Written by hand, so that what lets it go is one call for the prover (docs/GATE.md).
-impl<R: Net + Clock + Copy, H: Answers> Drop for Client<R, H> {
+impl<K: Drop, R: Drop> Drop for Client<K, R> {
     fn drop(self) {
-        let Self { serving: _ } = self;
+        let Self { serving } = self;
+        drop(serving);
     }
 }
 
-impl<R: Net + Clock + Copy, H: Answers> Future for Client<R, H> {
+impl<K: Future<Output = ()>, R: Clock + Copy> Future for Client<K, R> {
     type Output = ();
 
-    ghost can_poll = { λ c. ⟦<Either<Kept<R, H>, Refusal<R>> as Future>⟧.can_poll c.serving };
+    ghost can_poll = { λ c. ⟦<Either<K, Refusal<R>> as Future>⟧.can_poll c.serving };
 
     fn poll(&mut self, cx: &mut Context<'_>) -> Poll<()> {
         self.serving.poll(cx)
     }
 }
 
-impl<R: Wait + Net + Clock + Copy, H: Answers> Accept for Http<R, H> {
-    type Serving = Client<R, H>;
+impl<R, H, B> Accept for Http<R, H, B>
+where
+    R: Wait + Net + Clock + Copy,
+    H: Answers,
+    B: Connections<R, H>,
+{
+    type Serving = Client<Watched<B::Connection, R, H>, R>;
 
     fn opened(&mut self) {
         if let Some(bound) = self.bound.take() {
@@ -178,65 +180,74 @@ impl<R: Wait + Net + Clock + Copy, H: Answers> Accept for Http<R, H> {
         socket: TcpStream,
         address: SocketAddr,
         stage: SharedStage,
-    ) -> Option<Client<R, H>> {
+    ) -> Option<Client<Watched<B::Connection, R, H>, R>> {
         let _ = socket.set_nodelay(true);
-        if self.answers.allows(address.ip()) {
-            self.greet(socket, address.ip(), stage)
-        } else {
-            self.refuse(socket, address.ip(), stage)
+        let from = address.ip();
+        if !self.answers.allows(from) {
+            let refusal = self.refuse(socket, from, stage)?;
+            return Some(Client {
+                serving: Either::Right(refusal),
+            });
         }
-    }
-}
-
-impl<R: Net + Clock + Copy, H: Answers> Http<R, H> {
-    // Serves the client at this address. Returns `None` if out of memory.
-    fn greet(&self, socket: TcpStream, from: IpAddr, stage: SharedStage) -> Option<Client<R, H>>
-        ensures { IfSome result (λ c. ⟦<Either<Kept<R, H>, Refusal<R>> as Future>⟧.can_poll c.serving) }
-    {
-        let Some((door, watching, patient)) = self.parts(socket, from, stage) else {
-            return None;
-        };
-        let Ok(dialer) = Dialer::new(self.rt, self.alloc, &self.handle) else {
-            drop(patient);
-            drop(watching);
-            drop(door);
-            return None;
-        };
-        let inner = ClientConnection::new(&self.builder, patient, door);
+        let (door, watching, patient, dialer) = self.parts(socket, from, stage)?;
+        let inner = self.builder.serve(patient, door);
         Some(Client {
             serving: Either::Left(Watched::new(inner, watching, dialer)),
         })
     }
-
-    // Refuses the client at this address, which is told so. Returns `None` if out of memory.
-    fn refuse(&self, socket: TcpStream, from: IpAddr, stage: SharedStage) -> Option<Client<R, H>>
-        ensures { IfSome result (λ c. ⟦<Either<Kept<R, H>, Refusal<R>> as Future>⟧.can_poll c.serving) }
-    {
-        let text = forbidden(self.alloc).ok()?;
-        let patient = self.patient(socket, stage)?;
-        self.answers.note_answer();
-        tell_refused(&self.answers, from, FORBIDDEN.len() as u64);
-        Some(Client {
-            serving: Either::Right(Refusal::new(patient, text)),
-        })
-    }
 }
 
-impl<R: Clock + Copy, H: Answers> Http<R, H> {
+impl<R: Clock + Copy, H: Answers, B> Http<R, H, B> {
+    // Refuses the client at this address, which is told so. Returns `None` if out of memory.
+    fn refuse(&self, socket: TcpStream, from: IpAddr, stage: SharedStage) -> Option<Refusal<R>> {
+        let Ok(text) = forbidden(self.alloc) else {
+            drop(stage);
+            drop(socket);
+            return None;
+        };
+        let Some(patient) = self.patient(socket, stage) else {
+            drop(text);
+            return None;
+        };
+        self.answers.note_answer();
+        tell_refused(&self.answers, from, FORBIDDEN.len() as u64);
+        Some(Refusal::new(patient, text))
+    }
+
     // What serves the client at this address. Returns `None` if out of memory.
     fn parts(
         &self,
         socket: TcpStream,
         from: IpAddr,
         stage: SharedStage,
-    ) -> Option<(Door<H>, Watching<H>, Patient<R>)> {
-        let shared = stage.share().ok()?;
-        let (door, watching) = self.watched_door(from, stage)?;
-        match self.patient(socket, shared) {
-            Some(patient) => Some((door, watching, patient)),
+    ) -> Option<(Door<H>, Watching<H>, Patient<R>, Dialer<R>)> {
+        let Ok(shared) = stage.share() else {
+            drop(stage);
+            drop(socket);
+            return None;
+        };
+        let Some((door, watching)) = self.watched_door(from, stage) else {
+            drop(shared);
+            drop(socket);
+            return None;
+        };
+        match self.ends(socket, shared) {
+            Some((patient, dialer)) => Some((door, watching, patient, dialer)),
             None => {
                 drop(watching);
                 drop(door);
+                None
+            }
+        }
+    }
+
+    // The client's connection, and what connects its tunnels. Returns `None` if out of memory.
+    fn ends(&self, socket: TcpStream, stage: SharedStage) -> Option<(Patient<R>, Dialer<R>)> {
+        let patient = self.patient(socket, stage)?;
+        match Dialer::new(self.rt, self.alloc, &self.handle) {
+            Ok(dialer) => Some((patient, dialer)),
+            Err(_) => {
+                drop(patient);
                 None
             }
         }
@@ -382,13 +393,55 @@ fn listeners_on(
     listener: net::TcpListener,
     six: Option<net::TcpListener>,
 ) -> io::Result<(Listeners, SocketAddr)> {
-    let listener = TcpListener::from_std(listener, runtime.handle().reactor())?;
-    let six = match six {
-        Some(six) => Some(TcpListener::from_std(six, runtime.handle().reactor())?),
-        None => None,
+    match TcpListener::from_std(listener, runtime.handle().reactor()) {
+        Ok(first) => listeners_with(runtime, first, six),
+        Err(fault) => {
+            drop(six);
+            Err(fault)
+        }
+    }
+}
+
+// As `listeners_on`, where the first socket is on the event loop already.
+fn listeners_with(
+    runtime: &LocalRuntime,
+    first: TcpListener,
+    six: Option<net::TcpListener>,
+) -> io::Result<(Listeners, SocketAddr)> {
+    match second_on(runtime, six) {
+        Ok(second) => listeners_of(first, second),
+        Err(fault) => {
+            drop(first);
+            Err(fault)
+        }
+    }
+}
+
+// The second socket on this event loop, if there is one. Errors: the socket or the event loop failed.
+fn second_on(
+    runtime: &LocalRuntime,
+    six: Option<net::TcpListener>,
+) -> io::Result<Option<TcpListener>> {
+    let Some(six) = six else {
+        return Ok(None);
     };
-    let address = listener.local_addr()?;
-    Ok((Listeners::new(listener, six), address))
+    let second = TcpListener::from_std(six, runtime.handle().reactor())?;
+    Ok(Some(second))
+}
+
+// These sockets, and the address of the first. Errors: it has none.
+fn listeners_of(
+    first: TcpListener,
+    second: Option<TcpListener>,
+) -> io::Result<(Listeners, SocketAddr)> {
+    match first.local_addr() {
+        Ok(address) => Ok((Listeners::new(first, second), address)),
+        Err(fault) => {
+            drop(second);
+            drop(first);
+            Err(fault)
+        }
+    }
 }
 
 // A place to serve at, and what HTTP connections are made with there. Errors: as `place_of` and `means_of`.
@@ -426,21 +479,9 @@ where
 {
     match opened(rt, socket) {
         Ok((place, builder, handle)) => {
-            let bound = Bound {
-                address: place.address,
-                to: bound,
-            };
-            let http = Http {
-                rt,
-                alloc: rt.alloc(),
-                handle,
-                limits,
-                builder,
-                answers,
-                open,
-                bound: Some(bound),
-            };
-            run_accepted(rt, place, stops, http, limits)
+            serve_at(
+                rt, place, builder, handle, answers, bound, stops, open, limits,
+            )
         }
         Err(fault) => {
             drop(open);
@@ -450,6 +491,40 @@ where
             Err(fault)
         }
     }
+}
+
+// Serves at this place by the connections that `builder` makes, of whose type nothing more is known here.
+fn serve_at<R, H, B>(
+    rt: R,
+    place: Place,
+    builder: B,
+    handle: Handle,
+    answers: H,
+    bound: Sender<SocketAddr, Global>,
+    stops: Stops,
+    open: Option<Arc<AtomicUsize>>,
+    limits: ServeLimits,
+) -> io::Result<()>
+where
+    R: Wait + Clock + RandomSource + AllocGlobal + Net + Copy,
+    H: Answers,
+    B: Connections<R, H>,
+{
+    let bound = Bound {
+        address: place.address,
+        to: bound,
+    };
+    let http = Http {
+        rt,
+        alloc: rt.alloc(),
+        handle,
+        limits,
+        builder,
+        answers,
+        open,
+        bound: Some(bound),
+    };
+    run_accepted(rt, place, stops, http, limits)
 }
 
 // Runs a server that accepts by `accept`. A function of its own, since of a type that is named little is known here, and much has to be

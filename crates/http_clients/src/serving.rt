@@ -129,10 +129,14 @@ fn passes_of<F: Front + FollowUp + PassOn>(
     facts: &SharedFacts,
     content: Option<Coming>,
 ) -> Result<Passes<F>, u16> {
+    let mut content = content;
     let Ok(owner) = context.clone() else {
+        drop(content);
         return Err(503);
     };
-    match passing_of(context, facts, content) {
+    let passing = passing_of(context, facts, &mut content);
+    drop(content);
+    match passing {
         Ok(passing) => Ok(Passes {
             context: owner,
             passing,
@@ -144,11 +148,11 @@ fn passes_of<F: Front + FollowUp + PassOn>(
     }
 }
 
-// What the front passes on, as `passes_of` has it.
+// What the front passes on, which takes the content, as `passes_of` has it.
 fn passing_of<F: Front + FollowUp + PassOn>(
     context: &Rc<ClientContext<F>>,
     facts: &SharedFacts,
-    content: Option<Coming>,
+    content: &mut Option<Coming>,
 ) -> Result<Passing, u16> {
     let Ok(mut front) = context.front.try_borrow_mut() else {
         return Err(503);
@@ -161,7 +165,7 @@ fn passing_of<F: Front + FollowUp + PassOn>(
     let Some(asked) = &facts.asked else {
         return Err(503);
     };
-    let passed = front.pass_on(asked, content);
+    let passed = front.pass_on(asked, content.take());
     if let Ok(passing) = &passed {
         facts.note_passed(passing.began);
     }
@@ -728,15 +732,32 @@ where
     R: Wait + Clock + RandomSource + AllocGlobal + Net + Copy,
     F: Front + FollowUp + PassOn,
 {
-    let alloc = rt.alloc();
+    match answers_of(rt.alloc(), name, front) {
+        Ok(answers) => serve(rt, socket, answers, bound, stops, Some(open), limits),
+        Err(fault) => {
+            drop(open);
+            drop(stops);
+            drop(bound);
+            drop(socket);
+            Err(io::Error::from(fault))
+        }
+    }
+}
+
+// What answers requests from this front, as a cache of this name. Errors: out of memory.
+fn answers_of<F>(alloc: Global, name: &str, front: F) -> Result<FrontAnswers<F>, AllocError>
+where
+    F: Front + FollowUp + PassOn,
+{
+    let label = label_of(alloc, name)?;
+    let via = via_of(alloc, name)?;
     let context = ClientContext {
         alloc,
         front: RefCell::new(front),
-        label: label_of(alloc, name)?,
-        via: via_of(alloc, name)?,
+        label,
+        via,
     };
-    let clients = FrontAnswers {
+    Ok(FrontAnswers {
         context: Rc::new(alloc, context)?,
-    };
-    serve(rt, socket, clients, bound, stops, Some(open), limits)
+    })
 }

@@ -294,19 +294,26 @@ pub(crate) struct Opening<R, H> {
 impl<R: Drop, H: Drop> Drop for Opening<R, H> {
     fn drop(self) {
         let Self {
-            dialer: _,
-            answers: _,
+            dialer,
+            answers,
             is_origin: _,
             connecting: _,
             still: _,
-            greeting: _,
-            ticket: _,
-            seeking: _,
-            reaching: _,
+            greeting,
+            ticket,
+            seeking,
+            reaching,
             other: _,
             share: _,
-            greeted: _,
+            greeted,
         } = self;
+        drop(dialer);
+        drop(answers);
+        drop(greeting);
+        drop(ticket);
+        drop(seeking);
+        drop(reaching);
+        drop(greeted);
     }
 }
 

@@ -1,4 +1,7 @@
 //! The content of a request that is passed on.
+ghost use Rattle.futures.specs.Poll.{OnPending};
+ghost use Rattle.futures.specs.Task.{Covers, Keeps};
+
 use client_streams::{SharedStage, Stage};
 use futures::Future;
 use futures::channel::mpsc;
@@ -22,6 +25,15 @@ impl Hear for Pieces {
 // The most pieces that wait for who takes them, beside the one that every sender may have there.
 const WAITING_PIECES: usize = 1;
 
+/// Passes on the content of a request as it comes. Who holds one is generic over it, since the prover does not look behind a type parameter
+/// (docs/GATE.md).
+pub(crate) trait RelayContent: Drop {
+    /// Goes on with it. Ready once it has ended.
+    fn poll_relay(&mut self, cx: &mut Context<'_>) -> Poll<Relayed>
+        ensures registered { OnPending result (Covers cx.new (λ _. ⊥)) }
+        ensures kept { Keeps cx.old cx.new };
+}
+
 /// Passes on the content of a request as it comes. The connection is at the stage of a content only while this waits for the client.
 pub(crate) struct Upload<I> {
     relay: Relay<Heard<I, Pieces>>,
@@ -32,7 +44,9 @@ pub(crate) struct Upload<I> {
 // Written by hand, so that what lets it go is one call for the prover (docs/GATE.md).
 impl<I: Drop> Drop for Upload<I> {
     fn drop(self) {
-        let Self { relay: _, stage: _ } = self;
+        let Self { relay, stage } = self;
+        drop(relay);
+        drop(stage);
     }
 }
 
@@ -45,12 +59,18 @@ impl<I: Drop> Upload<I> {
         stage: Option<SharedStage>,
     ) -> Option<(Box<Upload<I>>, Coming)> {
         let Ok((to, pieces)) = mpsc::channel(alloc, WAITING_PIECES) else {
+            drop(stage);
             drop(body);
             return None;
         };
         let relay = Relay::new(alloc, body, to);
-        let upload = Box::new(alloc, Upload { relay, stage }).ok()?;
-        Some((upload, Coming { length, pieces }))
+        match Box::new(alloc, Upload { relay, stage }) {
+            Ok(upload) => Some((upload, Coming { length, pieces })),
+            Err(_) => {
+                drop(pieces);
+                None
+            }
+        }
     }
 
     // Sets the stage of the connection, if it is another one.
@@ -63,10 +83,8 @@ impl<I: Drop> Upload<I> {
     }
 }
 
-impl<I: Drop> Future for Upload<I> {
-    type Output = Relayed;
-
-    fn poll(&mut self, cx: &mut Context<'_>) -> Poll<Relayed> {
+impl<I: Drop> RelayContent for Upload<I> {
+    fn poll_relay(&mut self, cx: &mut Context<'_>) -> Poll<Relayed> {
         let polled = self.relay.poll(cx);
         if matches!(polled, Poll::Pending) && !self.relay.is_full() {
             self.note(Stage::Content);
