@@ -46,9 +46,7 @@ pub(crate) fn thread_config<R: Threads + Files + AllocGlobal>(
         limits.clients.connections.most = connections_within(files, client_threads, most);
     }
     limits.fetching = Duration::from_secs(u64::from(settings.fetch_seconds));
-    limits.idle = settings
-        .fetch_idle
-        .map(|seconds| Duration::from_secs(u64::from(seconds)));
+    limits.idle = idle_of(settings.fetch_idle);
     limits.keep = keep_of(settings.keep_alive);
     ThreadConfig {
         icp: settings.node.icp,
@@ -88,6 +86,14 @@ fn six_files(settings: &Settings, threads: usize) -> usize {
     match &settings.six_clients {
         Some(_) => threads,
         None => 0,
+    }
+}
+
+/// How long a fetch's connection may be without an octet, if that is limited.
+fn idle_of(seconds: Option<u32>) -> Option<Duration> {
+    match seconds {
+        Some(seconds) => Some(Duration::from_secs(u64::from(seconds))),
+        None => None,
     }
 }
 

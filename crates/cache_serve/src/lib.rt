@@ -9,8 +9,11 @@
 //! Tested by: tests/serve, tests/serve_slow and tests/serve_hostile, which run the built program over loopback.
 #![tactic(auto)]
 
+mod administration;
+mod clients;
 mod config;
 mod descriptors;
+mod fetches;
 mod limits;
 mod opening;
 mod queries;

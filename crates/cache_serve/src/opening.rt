@@ -1,12 +1,11 @@
 //! A proxy whose threads are being started.
 
+mod administration;
 mod clients;
 mod fetchers;
+mod queries;
 
 use crate::config::ThreadConfig;
-use crate::starting::begin;
-use crate::tasks::{AdministrationTask, BoundQueries, QueryTask, Work};
-use clients::ClientKit;
 use crossbeam_channel::{Receiver, Sender, unbounded};
 use filter_files::Filter;
 use filter_slots::End;
@@ -14,18 +13,15 @@ use futures::channel::oneshot;
 use http_rules::SixEnd;
 use name_lookup::NameDesk;
 use node_core::Event;
-use proxy_front::FrontRules;
-use proxy_node::{AtDesk, NodeHandle, Outbox, Outgoing, ThreadSeat};
+use proxy_node::{AtDesk, NodeHandle, ThreadSeat};
 use proxy_panel::Overseen;
-use proxy_setup::{Keeping, Orders, ServerOrders};
-use proxy_site::{Addresses, Ending, Port, ServeFault, Site, no_memory};
+use proxy_setup::{Orders, ServerOrders};
+use proxy_site::{Ending, ServeFault, Site, no_memory};
 use proxy_state::{Shared, TakeEvents, add_own, note_own_six};
-use std::alloc::{AllocGlobal, Global};
+use std::alloc::{AllocError, AllocGlobal, Global};
 use std::fs::Files;
-use std::io::{Eprint, ErrorKind, Print};
 use std::net::{IpAddr, Net, SocketAddr};
 use std::random::RandomSource;
-use std::sync::atomic::Ordering;
 use std::sync::ledger::Ledger;
 use std::sync::{Arc, Wait};
 use std::thread::{JoinHandle, Threads};
@@ -35,7 +31,6 @@ use std::time::Clock;
 pub(crate) type Begun<L> = Result<JoinHandle<Ending<L>>, ServeFault>;
 
 /// A proxy whose threads are being started. `S` is the state that they share.
-#[derive(Drop)]
 pub(crate) struct Opening<R, S, L: Ledger> {
     rt: R,
     pub(crate) alloc: Global,
@@ -43,11 +38,30 @@ pub(crate) struct Opening<R, S, L: Ledger> {
     pub(crate) site: Site<S, L>,
 }
 
+// Written by hand, so that what lets it go is one call for the prover (docs/GATE.md).
+impl<R: Drop, S: Drop, L: Ledger> Drop for Opening<R, S, L> {
+    fn drop(self) {
+        let Self {
+            rt: _,
+            alloc: _,
+            config: _,
+            site: _,
+        } = self;
+    }
+}
+
 /// The addresses of the query sockets.
 #[derive(Clone, Copy)]
 struct QueryEnds {
     icp: End,
     htcp: End,
+}
+
+/// The addresses of the query sockets, and that of the socket for clients.
+#[derive(Clone, Copy)]
+struct FrontEnds {
+    queries: QueryEnds,
+    clients: SocketAddr,
 }
 
 /// What the thread of a server has of the one that starts it.
@@ -71,99 +85,97 @@ impl<R: Drop, S: AtDesk<L>, L: Ledger + Send + Sync + 'static> Opening<R, S, L> 
     where
         R: Threads + Wait + Clock + Copy,
     {
-        let Opening { rt, site, .. } = self;
+        let Self {
+            rt,
+            alloc: _,
+            config: _,
+            site,
+        } = self;
         match opened {
             Ok(()) => Ok(site),
-            // A server's thread tells more of why its socket was not bound.
-            Err(fault) => match site.shut(rt) {
-                Err(told) => Err(told),
-                Ok(_) => Err(fault),
-            },
+            Err(fault) => Err(told_at_end(rt, site, fault)),
+        }
+    }
+}
+
+impl<R, S: Drop, L: Ledger + Send + Sync + 'static> Opening<R, S, L> {
+    /// Keeps the handle of a thread, if it was started.
+    fn keep(&mut self, begun: Begun<L>) -> Result<(), ServeFault> {
+        match begun {
+            Ok(thread) => self.site.keep(thread),
+            Err(fault) => Err(fault),
         }
     }
 }
 
 impl<R, S: Shared, L: Ledger> Opening<R, S, L> {
-    fn query_task(
-        &mut self,
-        outgoing: Receiver<Outgoing, Global>,
-        bound: Sender<Result<BoundQueries, ServeFault>, Global>,
-    ) -> Result<QueryTask<S, L>, ServeFault> {
-        let is_ended = Arc::try_clone(&self.site.is_ended).map_err(no_memory)?;
-        let end = self.site.ender()?;
-        Ok(QueryTask {
-            seat: self.site.seat()?,
-            icp: self.config.icp,
-            htcp: self.config.htcp,
-            outgoing,
-            bound,
-            is_ended,
-            end,
-        })
-    }
-
     /// How a server's thread and this one hear of each other.
     fn server_line(&self) -> Result<(ServerEnd, ServerLine), ServeFault> {
         let end = self.site.ender()?;
-        let (stop, stopped) = oneshot::channel(self.alloc).map_err(no_memory)?;
-        let (bound, heard) = unbounded(self.alloc).map_err(no_memory)?;
-        let ours = ServerLine { heard, stop };
-        Ok((
-            ServerEnd {
-                bound,
-                stopped,
-                end,
-            },
-            ours,
-        ))
+        line_to(self.alloc, end).map_err(no_memory)
     }
 
-    /// The task of the thread that serves administration.
-    fn administration_task(
-        &mut self,
-        keeping: Keeping,
-        there: ServerEnd,
-    ) -> Result<AdministrationTask<S, L>, ServeFault> {
-        match self.admin_share() {
-            Ok((proxy, seat, hurried)) => Ok(AdministrationTask {
-                proxy,
-                seat,
-                config: self.config,
-                token: keeping.token,
-                files: keeping.files,
-                purger: keeping.purger,
-                bound: there.bound,
-                stopped: there.stopped,
-                hurried,
-                end: there.end,
-            }),
+    /// The shared state for one more thread, and a seat for it.
+    fn share_and_seat(&mut self) -> Result<(Arc<S>, ThreadSeat<S, L>), ServeFault> {
+        let proxy = self.site.share()?;
+        match self.site.seat() {
+            Ok(seat) => Ok((proxy, seat)),
             Err(fault) => {
-                drop(keeping);
-                drop(there);
+                drop(proxy);
+                Err(fault)
+            }
+        }
+    }
+}
+
+impl<R: Wait + Clock + Copy, S: AtDesk<L>, L: Ledger> Opening<R, S, L> {
+    /// Installs the filters, if the threads that come before are started. Returns what has names looked up.
+    fn installed(
+        &mut self,
+        filters: Vec<Filter>,
+        names: Result<NameDesk, ServeFault>,
+    ) -> Result<NameDesk, ServeFault> {
+        match names {
+            Ok(names) => match self.install(filters) {
+                Ok(()) => Ok(names),
+                Err(fault) => {
+                    drop(names);
+                    Err(fault)
+                }
+            },
+            Err(fault) => {
+                drop(filters);
                 Err(fault)
             }
         }
     }
 
-    /// What the thread that serves administration has of the shared state, and what it would hear the end of its grace from: nothing ends
-    /// the grace of administrators early, so the sender is dropped here.
-    fn admin_share(
-        &mut self,
-    ) -> Result<(Arc<S>, ThreadSeat<S, L>, oneshot::Receiver<()>), ServeFault> {
-        let (_, hurried) = oneshot::channel(self.alloc).map_err(no_memory)?;
-        let proxy = self.site.share()?;
-        Ok((proxy, self.site.seat()?, hurried))
-    }
-}
-
-impl<R: Wait + Clock + Copy, S: AtDesk<L>, L: Ledger> Opening<R, S, L> {
     /// Installs filters, as events of the node.
     fn install(&mut self, filters: Vec<Filter>) -> Result<(), ServeFault> {
-        let mut node = NodeHandle::new(self.rt, self.alloc, self.site.seat()?, None);
+        match self.site.seat() {
+            Ok(seat) => self.install_from(seat, filters),
+            Err(fault) => {
+                drop(filters);
+                Err(fault)
+            }
+        }
+    }
+
+    /// Installs filters from this seat, which is spare again afterwards.
+    fn install_from(
+        &mut self,
+        seat: ThreadSeat<S, L>,
+        filters: Vec<Filter>,
+    ) -> Result<(), ServeFault> {
+        let mut node = NodeHandle::new(self.rt, self.alloc, seat, None);
         let installed = install_all(&mut node, filters);
-        match self.site.spare.push(node.into_seat()) {
-            Ok(()) => installed,
-            Err(_) => Err(ServeFault::NoMemory),
+        let kept = self.site.spare.push(node.into_seat());
+        let is_kept = kept.is_ok();
+        drop(kept);
+        if is_kept {
+            installed
+        } else {
+            Err(ServeFault::NoMemory)
         }
     }
 
@@ -195,170 +207,31 @@ impl<R, S, L> Opening<R, S, L>
 where
     L: Ledger + Send + Sync + 'static,
     S: AtDesk<L> + Overseen + Send + Sync + 'static,
-    R: Threads
-        + Wait
-        + Net
-        + Clock
-        + RandomSource
-        + AllocGlobal
-        + Files
-        + Print
-        + Eprint
-        + Copy
-        + Send
-        + 'static,
+    R: Threads + Wait + Net + Clock + RandomSource + AllocGlobal + Files + Copy + Send + 'static,
     R::Stream: Send + 'static,
     R::Listener: Send + 'static,
     R::File: Send + 'static,
     R::Dir: Send + 'static,
 {
-    /// Installs the filters, then starts the threads that fetch, and last those that have sockets of this proxy.
+    /// Installs the filters, then starts the threads that fetch, and last those that have sockets of this proxy: that of the query sockets
+    /// before those that serve clients, since these have queries sent. Each step is given whether the one before it was made, and what came
+    /// of that; after one that was not the others are left out.
     pub(crate) fn open(
         &mut self,
         filters: Vec<Filter>,
-        names: NameDesk,
+        names: Result<NameDesk, ServeFault>,
         servers: ServerOrders,
     ) -> Result<(), ServeFault> {
-        let opened = match self.install(filters) {
-            Ok(()) => self.open_fetchers(names),
-            Err(fault) => {
-                drop(names);
-                Err(fault)
-            }
-        };
-        match opened {
-            Ok(()) => self.open_servers(servers),
-            Err(fault) => {
-                drop(servers);
-                Err(fault)
-            }
-        }
-    }
-
-    /// Starts the threads that have sockets of this proxy, once the others are started.
-    fn open_servers(&mut self, servers: ServerOrders) -> Result<(), ServeFault> {
         let ServerOrders {
             rules,
             keeping,
             hurried,
         } = servers;
-        match self.open_front(rules, hurried) {
-            Ok((queries, clients)) => self.open_last(queries, clients, keeping),
-            Err(fault) => {
-                drop(keeping);
-                Err(fault)
-            }
-        }
-    }
-
-    /// Starts the thread of the query sockets and those that serve clients, in this order, since clients have queries sent. Returns where
-    /// these sockets are bound.
-    fn open_front(
-        &mut self,
-        rules: FrontRules,
-        hurried: Vec<oneshot::Receiver<()>>,
-    ) -> Result<(QueryEnds, SocketAddr), ServeFault> {
-        let (outbox, queries) = match self.open_outbox() {
-            Ok(opened) => opened,
-            Err(fault) => {
-                drop(rules);
-                return Err(fault);
-            }
-        };
-        let kit = ClientKit::new(self.alloc, rules, outbox).map_err(no_memory)?;
-        let clients = self.open_clients(&kit, hurried)?;
-        drop(kit);
-        self.add_own(clients)?;
-        self.note_own_six(clients);
-        Ok((queries, clients))
-    }
-
-    /// Starts the thread that serves administration, and notes where all sockets are bound.
-    fn open_last(
-        &mut self,
-        queries: QueryEnds,
-        clients: SocketAddr,
-        keeping: Keeping,
-    ) -> Result<(), ServeFault> {
-        let administration = self.open_administration(keeping)?;
-        self.add_own(administration)?;
-        self.site.addresses = Some(Addresses {
-            icp: queries.icp,
-            htcp: queries.htcp,
-            clients,
-            administration,
-        });
-        Ok(())
-    }
-}
-
-impl<R, S, L> Opening<R, S, L>
-where
-    L: Ledger + Send + Sync + 'static,
-    S: AtDesk<L> + Overseen + Send + Sync + 'static,
-    R: Threads
-        + Wait
-        + Net
-        + Clock
-        + RandomSource
-        + AllocGlobal
-        + Files
-        + Print
-        + Eprint
-        + Copy
-        + Send
-        + 'static,
-    R::Stream: Send + 'static,
-    R::Listener: Send + 'static,
-    R::File: Send + 'static,
-    R::Dir: Send + 'static,
-{
-    /// Starts a thread and keeps its handle.
-    fn keep(&mut self, work: Work<S, L>) -> Result<(), ServeFault> {
-        let thread = begin(self.rt, work)?;
-        self.site.keep(thread)
-    }
-
-    /// Starts the thread of the query sockets. Returns what takes datagrams for them, and where they are bound.
-    fn open_outbox(&mut self) -> Result<(Outbox, QueryEnds), ServeFault> {
-        let (outgoing, incoming) = unbounded(self.alloc).map_err(no_memory)?;
-        let BoundQueries { bell, icp, htcp } = self.open_queries(incoming)?;
-        self.site.bell = Some(bell.share().map_err(no_memory)?);
-        let outbox = Outbox { to: outgoing, bell };
-        Ok((outbox, QueryEnds { icp, htcp }))
-    }
-
-    fn open_queries(
-        &mut self,
-        outgoing: Receiver<Outgoing, Global>,
-    ) -> Result<BoundQueries, ServeFault> {
-        let (bound, heard) = unbounded(self.alloc).map_err(no_memory)?;
-        let queries = self.query_task(outgoing, bound)?;
-        self.keep(Work::Queries(queries))?;
-        match heard.recv(&self.rt) {
-            Ok(bound) => bound,
-            Err(_) => Err(ServeFault::NoMemory),
-        }
-    }
-
-    fn open_administration(&mut self, keeping: Keeping) -> Result<SocketAddr, ServeFault> {
-        let (there, here) = match self.server_line() {
-            Ok(line) => line,
-            Err(fault) => {
-                drop(keeping);
-                return Err(fault);
-            }
-        };
-        let administration = self.administration_task(keeping, there)?;
-        self.keep(Work::Administration(administration))?;
-        let ServerLine { heard, stop } = here;
-        self.site.stop_administration = Some(stop);
-        let Ok(address) = heard.recv(&self.rt) else {
-            return Err(ServeFault::Bind(Port::Administration, ErrorKind::Other));
-        };
-        let port = &self.site.proxy.telling().admin_port;
-        port.store(address.port(), Ordering::SeqCst);
-        Ok(address)
+        let names = self.installed(filters, names);
+        let fetching = self.open_fetchers(names);
+        let queries = self.open_queries(fetching);
+        let clients = self.open_clients(queries, rules, hurried);
+        self.open_administration(clients, keeping)
     }
 }
 
@@ -387,17 +260,50 @@ pub(crate) fn opening_of<R: Drop, S: Drop, L: Ledger, F: Drop>(
     }
 }
 
+/// Ends the threads of a proxy that did not start. Returns what they tell of why, or else this fault: a server's thread tells more of
+/// why its socket was not bound.
+fn told_at_end<R, S, L>(rt: R, site: Site<S, L>, fault: ServeFault) -> ServeFault
+where
+    R: Threads + Wait + Clock + Copy,
+    S: AtDesk<L>,
+    L: Ledger + Send + Sync + 'static,
+{
+    match site.shut(rt) {
+        Ok(ended) => {
+            drop(ended);
+            fault
+        }
+        Err(told) => told,
+    }
+}
+
+/// How a server's thread, which has this to ask the proxy to end, and the one that starts it hear of each other. Errors: out of memory.
+fn line_to(alloc: Global, end: Sender<(), Global>) -> Result<(ServerEnd, ServerLine), AllocError> {
+    let (stop, stopped) = oneshot::channel(alloc)?;
+    let (bound, heard) = unbounded(alloc)?;
+    let there = ServerEnd {
+        bound,
+        stopped,
+        end,
+    };
+    Ok((there, ServerLine { heard, stop }))
+}
+
 /// Submits the swap of each filter. Errors: out of memory.
 fn install_all<N: TakeEvents>(node: &mut N, filters: Vec<Filter>) -> Result<(), ServeFault> {
     for filter in filters {
-        let Filter { slot, program } = filter;
-        let event = Event::Swap {
-            slot,
-            program: Some(program),
-        };
-        if node.take(event).is_none() {
+        if node.take(swap_to(filter)).is_none() {
             return Err(ServeFault::NoMemory);
         }
     }
     Ok(())
+}
+
+/// The event that has this filter in force.
+fn swap_to(filter: Filter) -> Event {
+    let Filter { slot, program } = filter;
+    Event::Swap {
+        slot,
+        program: Some(program),
+    }
 }

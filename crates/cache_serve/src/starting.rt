@@ -4,14 +4,14 @@ ghost use Rattle.std.specs.Prelude.{◌≡◌};
 use crate::config::thread_config;
 use crate::limits::{LOOK_UPS, ProxyLimits};
 use crate::opening::{Begun, Opening, opening_of};
-use crate::tasks::{Task, Work, run_task};
-use crossbeam_channel::bounded;
+use crate::tasks::Work;
+use crossbeam_channel::{Receiver, Sender, bounded};
 use log_writer::{LogTask, run_log};
 use name_lookup::{NameClerk, NameDesk, NameLimits, look_up, open_names};
 use proxy_node::{AtDesk, ProxyState};
 use proxy_panel::Overseen;
 use proxy_setup::{LogTasks, Orders, equipped, server_orders, site_of};
-use proxy_site::{Equipment, SEATS, ServeFault, Site, Writing, Writings, no_memory};
+use proxy_site::{Equipment, SEATS, ServeFault, Site, Writing, Writings};
 use proxy_state::Shared;
 use serve_config::Settings;
 use std::alloc::{AllocGlobal, Global};
@@ -21,7 +21,7 @@ use std::net::Net;
 use std::random::RandomSource;
 use std::sync::Wait;
 use std::sync::ledger::{Blank, Ledger};
-use std::thread::Threads;
+use std::thread::{JoinHandle, Threads};
 use std::time::Clock;
 use std::{mem, thread};
 
@@ -56,9 +56,10 @@ where
     requires parts { blank.parts ≡ L.parts }
     requires seats { blank.parts ≡ SEATS }
 {
-    let (mut opening, orders) = prepared(rt, blank, settings, equipment, limits)?;
-    let opened = open_all(rt, &mut opening, orders);
-    opening.into_site(opened)
+    match prepared(rt, blank, settings, equipment, limits) {
+        Ok((opening, orders)) => open_all(rt, opening, orders),
+        Err(fault) => Err(fault),
+    }
 }
 
 // A proxy that has no thread yet, and what its threads are started with.
@@ -101,9 +102,9 @@ where
 // Starts all threads. Those that write logs are the first, so that the others may tell.
 fn open_all<R, S, L>(
     rt: R,
-    opening: &mut Opening<R, S, L>,
+    mut opening: Opening<R, S, L>,
     orders: Orders<R::File>,
-) -> Result<(), ServeFault>
+) -> Result<Site<S, L>, ServeFault>
 where
     L: Ledger + Send + Sync + 'static,
     S: AtDesk<L> + Overseen + Send + Sync + 'static,
@@ -129,14 +130,9 @@ where
         filters,
         servers,
     } = orders;
-    match open_first(rt, opening, logs) {
-        Ok(names) => opening.open(filters, names, servers),
-        Err(fault) => {
-            drop(filters);
-            drop(servers);
-            Err(fault)
-        }
-    }
+    let names = open_first(rt, &mut opening, logs);
+    let opened = opening.open(filters, names, servers);
+    opening.into_site(opened)
 }
 
 // Starts the threads that have no part of the shared state.
@@ -160,33 +156,20 @@ where
     }
 }
 
-// Starts a thread.
-pub(crate) fn begin<R, S, L>(rt: R, work: Work<S, L>) -> Begun<L>
+// Starts a thread that does this work. What the work needs of the host is the work's own, so nothing of that is in sight here.
+pub(crate) fn begin<R, W, L>(rt: R, work: W) -> Begun<L>
 where
+    R: Threads + Copy + Send + 'static,
+    W: Work<R, L> + Send + 'static,
     L: Ledger + Send + Sync + 'static,
-    S: AtDesk<L> + Overseen + Send + Sync + 'static,
-    R: Threads
-        + Wait
-        + Net
-        + Clock
-        + RandomSource
-        + AllocGlobal
-        + Files
-        + Print
-        + Eprint
-        + Copy
-        + Send
-        + 'static,
-    R::Stream: Send + 'static,
-    R::Listener: Send + 'static,
-    R::File: Send + 'static,
-    R::Dir: Send + 'static,
 {
-    let task = Task { work };
-    let Ok(thread) = thread::spawn(&rt, move || run_task(rt, task)) else {
-        return Err(ServeFault::NoMemory);
-    };
-    Ok(thread)
+    match thread::spawn(&rt, move || work.run(rt)) {
+        Ok(thread) => Ok(thread),
+        Err(refused) => {
+            drop(refused);
+            Err(ServeFault::NoMemory)
+        }
+    }
 }
 
 // Starts the threads that write logs.
@@ -202,16 +185,35 @@ where
     R::Dir: Send + 'static,
 {
     let LogTasks { log, notices } = logs;
-    match open_log(rt, alloc, log) {
-        Ok(writing) => drop(mem::replace(&mut writings.log, writing)),
+    let begun = open_log(rt, alloc, log);
+    let notices = after(keep_writing(&mut writings.log, begun), notices)?;
+    let begun = open_log(rt, alloc, notices);
+    keep_writing(&mut writings.notices, begun)
+}
+
+// Keeps what writes a log there, if that was started or if there is none.
+fn keep_writing(
+    place: &mut Option<Writing>,
+    begun: Result<Option<Writing>, ServeFault>,
+) -> Result<(), ServeFault> {
+    match begun {
+        Ok(writing) => {
+            drop(mem::replace(place, writing));
+            Ok(())
+        }
+        Err(fault) => Err(fault),
+    }
+}
+
+// What is next, if what was before it was done.
+fn after<T: Drop>(done: Result<(), ServeFault>, next: T) -> Result<T, ServeFault> {
+    match done {
+        Ok(()) => Ok(next),
         Err(fault) => {
-            drop(notices);
-            return Err(fault);
+            drop(next);
+            Err(fault)
         }
     }
-    let writing = open_log(rt, alloc, notices)?;
-    drop(mem::replace(&mut writings.notices, writing));
-    Ok(())
 }
 
 // Starts a thread that writes a log, if there is one.
@@ -225,18 +227,51 @@ where
     R::File: Send + 'static,
     R::Dir: Send + 'static,
 {
-    let Some(task) = log else {
-        return Ok(None);
-    };
-    let (end, written) = bounded(alloc, 1).map_err(no_memory)?;
-    let write = move || {
-        run_log(&rt, task);
-        let _ = end.send(&rt, ());
-    };
-    let Ok(thread) = thread::spawn(&rt, write) else {
-        return Err(ServeFault::NoMemory);
-    };
-    Ok(Some(Writing { thread, written }))
+    match log_line(alloc, log)? {
+        Some((task, end, written)) => {
+            let write = move || {
+                run_log(&rt, task);
+                let _ = end.send(&rt, ());
+            };
+            writing_of(thread::spawn(&rt, write), written)
+        }
+        None => Ok(None),
+    }
+}
+
+// What writes a log, with the two ends of a channel by which its thread says that it has ended.
+type LogLine<F> = (LogTask<F>, Sender<(), Global>, Receiver<(), Global>);
+
+// What writes a log, if there is one, with what says that it has ended.
+fn log_line<F: Drop>(
+    alloc: Global,
+    log: Option<LogTask<F>>,
+) -> Result<Option<LogLine<F>>, ServeFault> {
+    match log {
+        Some(task) => match bounded(alloc, 1) {
+            Ok((end, written)) => Ok(Some((task, end, written))),
+            Err(_) => {
+                drop(task);
+                Err(ServeFault::NoMemory)
+            }
+        },
+        None => Ok(None),
+    }
+}
+
+// The thread that writes a log, if it was started.
+fn writing_of<E: Drop>(
+    begun: Result<JoinHandle<()>, E>,
+    written: Receiver<(), Global>,
+) -> Result<Option<Writing>, ServeFault> {
+    match begun {
+        Ok(thread) => Ok(Some(Writing { thread, written })),
+        Err(refused) => {
+            drop(refused);
+            drop(written);
+            Err(ServeFault::NoMemory)
+        }
+    }
 }
 
 // Starts the threads that look up names. They are not joined, since the system's resolver may hold each for as long as it
@@ -249,24 +284,34 @@ where
     R::Listener: Send + 'static,
     S: Shared,
 {
-    let names = open_names(alloc, NameLimits::usual(), proxy.passes().has_six);
-    let (desk, clerk) = names.map_err(no_memory)?;
-    for _ in 0..LOOK_UPS {
-        open_look_up(rt, clerk.share().map_err(no_memory)?)?;
+    match open_names(alloc, NameLimits::usual(), proxy.passes().has_six) {
+        Ok((desk, clerk)) => {
+            let begun = begin_look_ups(rt, &clerk);
+            drop(clerk);
+            after(begun, desk)
+        }
+        Err(_) => Err(ServeFault::NoMemory),
     }
-    Ok(desk)
 }
 
-// Starts a thread that looks up names.
-fn open_look_up<R>(rt: R, clerk: NameClerk) -> Result<(), ServeFault>
+// Starts threads that look up names.
+fn begin_look_ups<R>(rt: R, clerk: &NameClerk) -> Result<(), ServeFault>
 where
     R: Threads + Wait + Net + Clock + Copy + Send + 'static,
     R::Stream: Send + 'static,
     R::Listener: Send + 'static,
 {
-    let Ok(thread) = thread::spawn(&rt, move || look_up(&rt, &clerk)) else {
-        return Err(ServeFault::NoMemory);
-    };
-    drop(thread);
+    for _ in 0..LOOK_UPS {
+        let Ok(clerk) = clerk.share() else {
+            return Err(ServeFault::NoMemory);
+        };
+        match thread::spawn(&rt, move || look_up(&rt, &clerk)) {
+            Ok(thread) => drop(thread),
+            Err(refused) => {
+                drop(refused);
+                return Err(ServeFault::NoMemory);
+            }
+        }
+    }
     Ok(())
 }

@@ -1,64 +1,65 @@
 //! Starting the threads that serve clients.
-use super::{Opening, ServerEnd, ServerLine};
+use super::{Begun, FrontEnds, Opening, QueryEnds, ServerEnd, ServerLine};
+use crate::clients::{ClientTask, FrontTask, ServingTask};
 use crate::config::ThreadConfig;
 use crate::starting::begin;
-use crate::tasks::{ClientTask, FrontTask, ServingTask, Work};
+use crate::tasks::fault_at;
 use client_streams::Stops;
-use crossbeam_channel::Receiver;
+use crossbeam_channel::{Receiver, Sender};
 use futures::channel::oneshot;
 use http_clients::{ClientSocket, client_sockets, listen_at_six};
 use proxy_front::FrontRules;
 use proxy_node::{AtDesk, Outbox, ThreadSeat};
-use proxy_panel::Overseen;
-use proxy_site::{Port, ServeFault, no_memory, socket_fault};
+use proxy_site::{Port, ServeFault};
 use proxy_state::Shared;
 use std::alloc::{AllocError, AllocGlobal, Global};
-use std::fs::Files;
-use std::io::{Eprint, ErrorKind, Print};
+use std::io::ErrorKind;
 use std::net::{Net, SocketAddr};
 use std::random::RandomSource;
 use std::sync::ledger::Ledger;
 use std::sync::{Arc, Wait};
 use std::thread::Threads;
 use std::time::Clock;
+use std::vec::IntoIter;
 
 /// What a thread that serves clients has of the shared state.
 #[derive(Drop)]
 struct ClientShare<S, L: Ledger> {
+    kit: ClientKit,
+    name: String,
     proxy: Arc<S>,
     seat: ThreadSeat<S, L>,
-    name: String,
-    rules: Arc<FrontRules>,
-    outbox: Outbox,
 }
 
 /// What all threads that serve clients have.
 #[derive(Drop)]
-pub(super) struct ClientKit {
+struct ClientKit {
     rules: Arc<FrontRules>,
     outbox: Outbox,
 }
 
 impl ClientKit {
     /// Rules and a way for datagrams for several threads. Errors: out of memory.
-    pub(super) fn new(
-        alloc: Global,
-        rules: FrontRules,
-        outbox: Outbox,
-    ) -> Result<ClientKit, AllocError> {
-        let rules = Arc::new(alloc, rules)?;
-        Ok(ClientKit { rules, outbox })
+    fn new(alloc: Global, rules: FrontRules, outbox: Outbox) -> Result<ClientKit, AllocError> {
+        match shared_rules(alloc, rules) {
+            Ok(rules) => Ok(ClientKit { rules, outbox }),
+            Err(fault) => {
+                drop(outbox);
+                Err(fault)
+            }
+        }
     }
 
     /// The same for one more thread. Errors: out of memory.
     fn share(&self) -> Result<ClientKit, AllocError> {
-        Ok(ClientKit {
-            rules: Arc::try_clone(&self.rules)?,
-            outbox: Outbox {
-                to: self.outbox.to.clone()?,
-                bell: self.outbox.bell.share()?,
-            },
-        })
+        let rules = Arc::try_clone(&self.rules)?;
+        match share_of(&self.outbox) {
+            Ok(outbox) => Ok(ClientKit { rules, outbox }),
+            Err(fault) => {
+                drop(rules);
+                Err(fault)
+            }
+        }
     }
 }
 
@@ -70,24 +71,93 @@ struct ClientPlace {
     hurried: oneshot::Receiver<()>,
 }
 
-impl<R, S: Shared, L: Ledger> Opening<R, S, L> {
-    /// What a thread that serves clients has of the shared state.
-    fn client_share(&mut self, kit: &ClientKit) -> Result<ClientShare<S, L>, ServeFault> {
-        let ClientKit { rules, outbox } = kit.share().map_err(no_memory)?;
-        let name = self.site.proxy.outward().name.as_str();
-        let name = String::from_str(self.alloc, name).map_err(no_memory)?;
-        let proxy = self.site.share()?;
-        let seat = self.site.seat()?;
-        Ok(ClientShare {
-            proxy,
-            seat,
-            name,
-            rules,
-            outbox,
-        })
+/// What the threads that serve clients are started with.
+struct ClientStart {
+    kit: ClientKit,
+    /// The number of the next thread.
+    number: u64,
+    sockets: IntoIter<ClientSocket>,
+    hurried: IntoIter<oneshot::Receiver<()>>,
+    /// What hears from each that was started where it serves clients.
+    heard: Vec<Receiver<SocketAddr, Global>>,
+}
+
+// Written by hand, so that what lets it go is one call for the prover (docs/GATE.md).
+impl Drop for ClientStart {
+    fn drop(self) {
+        let Self {
+            kit: _,
+            number: _,
+            sockets: _,
+            hurried: _,
+            heard: _,
+        } = self;
+    }
+}
+
+impl ClientStart {
+    /// What no thread was started with yet: these sockets, one for each. Errors: out of memory.
+    fn new(
+        alloc: Global,
+        kit: ClientKit,
+        sockets: Vec<ClientSocket>,
+        hurried: Vec<oneshot::Receiver<()>>,
+    ) -> Result<ClientStart, AllocError> {
+        match Vec::with_capacity(alloc, sockets.len()) {
+            Ok(heard) => Ok(ClientStart {
+                kit,
+                number: 0,
+                sockets: sockets.into_iter(),
+                hurried: hurried.into_iter(),
+                heard,
+            }),
+            Err(fault) => {
+                drop(kit);
+                drop(sockets);
+                drop(hurried);
+                Err(fault)
+            }
+        }
     }
 
-    /// What one of the threads that serve clients has of the shared state, and how it and this one hear of each other.
+    /// What the next thread is started with. `None` if all are started.
+    fn next_place(&mut self) -> Option<ClientPlace> {
+        let number = self.number;
+        let socket = self.sockets.next()?;
+        match self.hurried.next() {
+            Some(hurried) => {
+                self.number = number.saturating_add(1);
+                Some(ClientPlace {
+                    number,
+                    socket,
+                    hurried,
+                })
+            }
+            None => {
+                drop(socket);
+                None
+            }
+        }
+    }
+}
+
+impl<R, S: Shared, L: Ledger> Opening<R, S, L> {
+    /// The task of a thread that serves clients at this place, and what this one has of it.
+    fn client_task(
+        &mut self,
+        kit: &ClientKit,
+        place: ClientPlace,
+    ) -> Result<(ClientTask<S, L>, ServerLine), ServeFault> {
+        match self.client_parts(kit) {
+            Ok((share, there, here)) => Ok((task_of(self.config, share, place, there), here)),
+            Err(fault) => {
+                drop(place);
+                Err(fault)
+            }
+        }
+    }
+
+    /// What a thread that serves clients has of the shared state, and how it and this one hear of each other.
     fn client_parts(
         &mut self,
         kit: &ClientKit,
@@ -102,40 +172,171 @@ impl<R, S: Shared, L: Ledger> Opening<R, S, L> {
             }
         }
     }
+
+    /// What a thread that serves clients has of the shared state.
+    fn client_share(&mut self, kit: &ClientKit) -> Result<ClientShare<S, L>, ServeFault> {
+        let (kit, name) = self.named(kit)?;
+        match self.share_and_seat() {
+            Ok((proxy, seat)) => Ok(ClientShare {
+                kit,
+                name,
+                proxy,
+                seat,
+            }),
+            Err(fault) => {
+                drop(kit);
+                drop(name);
+                Err(fault)
+            }
+        }
+    }
+
+    /// This kit for one more thread, and the name of the cache.
+    fn named(&self, kit: &ClientKit) -> Result<(ClientKit, String), ServeFault> {
+        let Ok(kit) = kit.share() else {
+            return Err(ServeFault::NoMemory);
+        };
+        let name = self.site.proxy.outward().name.as_str();
+        match String::from_str(self.alloc, name) {
+            Ok(name) => Ok((kit, name)),
+            Err(_) => {
+                drop(kit);
+                Err(ServeFault::NoMemory)
+            }
+        }
+    }
 }
 
-impl<R: Wait + Net + AllocGlobal, S: Shared, L: Ledger> Opening<R, S, L> {
-    /// What each thread that serves clients is started with: a handle to the one socket for them, and to that at an address of IPv6. Errors
-    /// also if too few files may be open for any client.
-    fn client_places(
+impl<R, S: Drop, L: Ledger + Send + Sync + 'static> Opening<R, S, L> {
+    /// Keeps the handle of a thread that serves clients, if it was started, with what ends it; `start` keeps what hears from it.
+    fn keep_client(
         &mut self,
+        begun: Begun<L>,
+        here: ServerLine,
+        start: &mut ClientStart,
+    ) -> Result<(), ServeFault> {
+        match begun {
+            Ok(thread) => {
+                let ServerLine { heard, stop } = here;
+                // (these have the capacity for all of these threads)
+                drop(self.site.clients.push(thread));
+                drop(self.site.stop_clients.push(stop));
+                drop(start.heard.push(heard));
+                Ok(())
+            }
+            Err(fault) => {
+                drop(here);
+                Err(fault)
+            }
+        }
+    }
+}
+
+impl<R: Net + AllocGlobal, S: Drop, L: Ledger> Opening<R, S, L> {
+    /// What the threads that serve clients are started with, if the query sockets are bound, and where those are.
+    fn client_start(
+        &self,
+        queries: Result<(Outbox, QueryEnds), ServeFault>,
+        rules: FrontRules,
         hurried: Vec<oneshot::Receiver<()>>,
-    ) -> Result<Vec<ClientPlace>, ServeFault> {
-        let config = self.config;
-        let (limits, threads) = (config.limits.clients.connections, config.client_threads);
+    ) -> Result<(ClientStart, QueryEnds), ServeFault> {
+        match kit_of(self.alloc, queries, rules) {
+            Ok((kit, ends)) => match self.start_with(kit, hurried) {
+                Ok(start) => Ok((start, ends)),
+                Err(fault) => Err(fault),
+            },
+            Err(fault) => {
+                drop(hurried);
+                Err(fault)
+            }
+        }
+    }
+
+    /// What the threads that serve clients are started with.
+    fn start_with(
+        &self,
+        kit: ClientKit,
+        hurried: Vec<oneshot::Receiver<()>>,
+    ) -> Result<ClientStart, ServeFault> {
+        match self.bound_sockets() {
+            Ok(sockets) => match ClientStart::new(self.alloc, kit, sockets, hurried) {
+                Ok(start) => Ok(start),
+                Err(_) => Err(ServeFault::NoMemory),
+            },
+            Err(fault) => {
+                drop(kit);
+                drop(hurried);
+                Err(fault)
+            }
+        }
+    }
+
+    /// A handle to the one socket for clients, and to that at an address of IPv6, for each thread that serves them. Errors also if too few
+    /// files may be open for any client.
+    fn bound_sockets(&self) -> Result<Vec<ClientSocket>, ServeFault> {
+        let (limits, threads) = (
+            self.config.limits.clients.connections,
+            self.config.client_threads,
+        );
         if limits.most == 0 {
             return Err(ServeFault::Bind(Port::Clients, ErrorKind::Uncategorized));
         }
-        let mut sockets = client_sockets(&self.rt, config.clients, limits, threads).map_err(
-            |error| socket_fault(Port::Clients, &error),
-        )?;
-        if let Some(address) = config.six {
-            listen_at_six(&self.rt, &mut sockets, address).map_err(|error| socket_fault(
-                Port::SixClients,
-                &error,
-            ))?;
+        match client_sockets(&self.rt, self.config.clients, limits, threads) {
+            Ok(sockets) => self.with_six(sockets),
+            Err(error) => Err(fault_at(Port::Clients, error)),
         }
-        places_of(self.alloc, sockets, hurried).map_err(no_memory)
     }
 
-    /// Waits until all threads that serve clients do. Returns where.
+    /// These sockets, which also have handles to that at an address of IPv6 then, if there is to be one.
+    fn with_six(&self, sockets: Vec<ClientSocket>) -> Result<Vec<ClientSocket>, ServeFault> {
+        let mut sockets = sockets;
+        match self.listen_at_six(&mut sockets) {
+            Ok(()) => Ok(sockets),
+            Err(fault) => {
+                drop(sockets);
+                Err(fault)
+            }
+        }
+    }
+
+    /// Listens for clients at an address of IPv6 too, if there is one.
+    fn listen_at_six(&self, sockets: &mut [ClientSocket]) -> Result<(), ServeFault> {
+        let Some(address) = self.config.six else {
+            return Ok(());
+        };
+        match listen_at_six(&self.rt, sockets, address) {
+            Ok(()) => Ok(()),
+            Err(error) => Err(fault_at(Port::SixClients, error)),
+        }
+    }
+}
+
+impl<R: Wait + Clock + Copy, S: AtDesk<L>, L: Ledger> Opening<R, S, L> {
+    /// Waits until all threads that serve clients do, if they were started. Returns where, and where the query sockets are bound.
     fn opened_clients(
         &self,
-        heard: Vec<Receiver<SocketAddr, Global>>,
+        start: ClientStart,
+        begun: Result<(), ServeFault>,
+        queries: QueryEnds,
+    ) -> Result<FrontEnds, ServeFault> {
+        let opened = self.heard_of_clients(begun, start.heard.as_slice());
+        drop(start);
+        let clients = opened?;
+        self.add_own(clients)?;
+        self.note_own_six(clients);
+        Ok(FrontEnds { queries, clients })
+    }
+
+    /// Where clients are served, once all threads do that report it here, if they were started.
+    fn heard_of_clients(
+        &self,
+        begun: Result<(), ServeFault>,
+        heard: &[Receiver<SocketAddr, Global>],
     ) -> Result<SocketAddr, ServeFault> {
+        begun?;
         let mut address = self.config.clients;
-        for heard in heard {
-            let Ok(bound) = heard.recv(&self.rt) else {
+        for line in heard {
+            let Ok(bound) = line.recv(&self.rt) else {
                 return Err(ServeFault::Bind(Port::Clients, ErrorKind::Other));
             };
             address = bound;
@@ -147,135 +348,135 @@ impl<R: Wait + Net + AllocGlobal, S: Shared, L: Ledger> Opening<R, S, L> {
 impl<R, S, L> Opening<R, S, L>
 where
     L: Ledger + Send + Sync + 'static,
-    S: AtDesk<L> + Overseen + Send + Sync + 'static,
-    R: Threads
-        + Wait
-        + Net
-        + Clock
-        + RandomSource
-        + AllocGlobal
-        + Files
-        + Print
-        + Eprint
-        + Copy
-        + Send
-        + 'static,
+    S: AtDesk<L> + Send + Sync + 'static,
+    R: Threads + Wait + Net + Clock + RandomSource + AllocGlobal + Copy + Send + 'static,
     R::Stream: Send + 'static,
     R::Listener: Send + 'static,
-    R::File: Send + 'static,
-    R::Dir: Send + 'static,
 {
-    /// Binds the sockets for clients, and starts the threads that serve them there. Returns where that of IPv4 is bound, once all of them do.
+    /// Binds the sockets for clients, if those for queries are bound, and starts the threads that serve clients there. Returns where both
+    /// are, that of IPv4 for clients, once all of these threads serve them.
     pub(super) fn open_clients(
         &mut self,
-        kit: &ClientKit,
+        queries: Result<(Outbox, QueryEnds), ServeFault>,
+        rules: FrontRules,
         hurried: Vec<oneshot::Receiver<()>>,
-    ) -> Result<SocketAddr, ServeFault> {
-        let places = self.client_places(hurried)?;
-        let heard = self.begin_clients(kit, places)?;
-        self.opened_clients(heard)
+    ) -> Result<FrontEnds, ServeFault> {
+        let (mut start, ends) = self.client_start(queries, rules, hurried)?;
+        let begun = self.begin_clients(&mut start);
+        self.opened_clients(start, begun, ends)
     }
-}
 
-impl<R, S, L> Opening<R, S, L>
-where
-    L: Ledger + Send + Sync + 'static,
-    S: AtDesk<L> + Overseen + Send + Sync + 'static,
-    R: Threads
-        + Wait
-        + Net
-        + Clock
-        + RandomSource
-        + AllocGlobal
-        + Files
-        + Print
-        + Eprint
-        + Copy
-        + Send
-        + 'static,
-    R::Stream: Send + 'static,
-    R::Listener: Send + 'static,
-    R::File: Send + 'static,
-    R::Dir: Send + 'static,
-{
-    /// Starts the threads that serve clients. Returns what hears from each where it serves them.
-    fn begin_clients(
-        &mut self,
-        kit: &ClientKit,
-        places: Vec<ClientPlace>,
-    ) -> Result<Vec<Receiver<SocketAddr, Global>>, ServeFault> {
-        let mut heard = Vec::with_capacity(self.alloc, places.len()).map_err(no_memory)?;
-        for place in places {
-            let bound = self.begin_client(kit, place)?;
-            let _ = heard.push(bound);
+    /// Starts the threads that serve clients.
+    fn begin_clients(&mut self, start: &mut ClientStart) -> Result<(), ServeFault> {
+        for _ in 0..self.config.client_threads {
+            let Some(place) = start.next_place() else {
+                return Ok(());
+            };
+            self.begin_client(start, place)?;
         }
-        Ok(heard)
+        Ok(())
     }
 
-    /// Starts one of the threads that serve clients. Returns what hears from it where it serves them.
+    /// Starts a thread that serves clients at this place.
     fn begin_client(
         &mut self,
-        kit: &ClientKit,
+        start: &mut ClientStart,
         place: ClientPlace,
-    ) -> Result<Receiver<SocketAddr, Global>, ServeFault> {
-        let (clients, here) = match self.client_parts(kit) {
-            Ok((share, there, here)) => (client_task(self.config, share, place, there), here),
-            Err(fault) => {
-                drop(place);
-                return Err(fault);
-            }
-        };
-        let thread = begin(self.rt, Work::Clients(clients))?;
-        let ServerLine { heard, stop } = here;
-        // Both have the capacity for all of these threads.
-        let _ = self.site.clients.push(thread);
-        let _ = self.site.stop_clients.push(stop);
-        Ok(heard)
+    ) -> Result<(), ServeFault> {
+        let (task, here) = self.client_task(&start.kit, place)?;
+        let begun = begin(self.rt, task);
+        self.keep_client(begun, here, start)
     }
 }
 
-/// What the threads that serve clients are started with. Errors: out of memory.
-fn places_of(
+/// What all threads that serve clients by these rules have, if the query sockets are bound, and where those are.
+fn kit_of(
     alloc: Global,
-    sockets: Vec<ClientSocket>,
-    hurried: Vec<oneshot::Receiver<()>>,
-) -> Result<Vec<ClientPlace>, AllocError> {
-    let mut places = Vec::with_capacity(alloc, sockets.len())?;
-    for (number, (socket, hurried)) in sockets.into_iter().zip(hurried).enumerate() {
-        places.push(ClientPlace {
-            number: number as u64,
-            socket,
-            hurried,
-        })?;
+    queries: Result<(Outbox, QueryEnds), ServeFault>,
+    rules: FrontRules,
+) -> Result<(ClientKit, QueryEnds), ServeFault> {
+    match queries {
+        Ok((outbox, ends)) => match ClientKit::new(alloc, rules, outbox) {
+            Ok(kit) => Ok((kit, ends)),
+            Err(_) => Err(ServeFault::NoMemory),
+        },
+        Err(fault) => {
+            drop(rules);
+            Err(fault)
+        }
     }
-    Ok(places)
+}
+
+/// Rules for several threads. Errors: out of memory.
+fn shared_rules(alloc: Global, rules: FrontRules) -> Result<Arc<FrontRules>, AllocError> {
+    Ok(Arc::new(alloc, rules)?)
+}
+
+/// The same way for datagrams for one more thread. Errors: out of memory.
+fn share_of(outbox: &Outbox) -> Result<Outbox, AllocError> {
+    let to = outbox.to.clone()?;
+    match outbox.bell.share() {
+        Ok(bell) => Ok(Outbox { to, bell }),
+        Err(fault) => {
+            drop(to);
+            Err(fault)
+        }
+    }
 }
 
 /// The task of a thread that serves clients.
-fn client_task<S: Drop, L: Ledger>(
+fn task_of<S: Drop, L: Ledger>(
     config: ThreadConfig,
     share: ClientShare<S, L>,
     place: ClientPlace,
     there: ServerEnd,
 ) -> ClientTask<S, L> {
+    let ClientShare {
+        kit,
+        name,
+        proxy,
+        seat,
+    } = share;
+    let ClientKit { rules, outbox } = kit;
+    let (serving, number, end) = serving_of(name, place, there);
     ClientTask {
-        seat: share.seat,
-        outbox: share.outbox,
+        seat,
+        outbox,
         front: FrontTask {
-            proxy: share.proxy,
-            rules: share.rules,
-            number: place.number,
+            proxy,
+            rules,
+            config,
+            number,
         },
-        serving: ServingTask {
-            name: share.name,
-            socket: place.socket,
-            bound: there.bound,
-            stops: Stops {
-                stop: there.stopped,
-                hurry: place.hurried,
-            },
-        },
-        config,
-        end: there.end,
+        serving,
+        end,
     }
+}
+
+/// What a thread serves clients with at this place, the number of the thread, and what asks the proxy to end.
+fn serving_of(
+    name: String,
+    place: ClientPlace,
+    there: ServerEnd,
+) -> (ServingTask, u64, Sender<(), Global>) {
+    let ClientPlace {
+        number,
+        socket,
+        hurried,
+    } = place;
+    let ServerEnd {
+        bound,
+        stopped,
+        end,
+    } = there;
+    let serving = ServingTask {
+        name,
+        socket,
+        bound,
+        stops: Stops {
+            stop: stopped,
+            hurry: hurried,
+        },
+    };
+    (serving, number, end)
 }

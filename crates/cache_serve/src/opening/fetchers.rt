@@ -1,18 +1,16 @@
 //! Starting the threads that fetch.
 use super::Opening;
-use crate::tasks::{FetchTask, Work};
+use crate::fetches::{FetchShares, FetchTask, Fetching};
+use crate::starting::begin;
 use crossbeam_channel::{Receiver, Sender, bounded};
 use futures::channel::mpsc;
 use http_fetches::Budget;
 use http_traffic::Job;
 use name_lookup::NameDesk;
 use proxy_node::AtDesk;
-use proxy_panel::Overseen;
-use proxy_site::{FETCHERS, ServeFault, no_memory};
+use proxy_site::{FETCHERS, ServeFault};
 use proxy_state::{Lanes, Shared};
 use std::alloc::{AllocError, AllocGlobal, Global};
-use std::fs::Files;
-use std::io::{Eprint, Print};
 use std::net::Net;
 use std::random::RandomSource;
 use std::sync::ledger::Ledger;
@@ -20,40 +18,175 @@ use std::sync::{Arc, Wait};
 use std::thread::Threads;
 use std::time::Clock;
 
-impl<R, S: Shared, L: Ledger> Opening<R, S, L> {
-    /// The octets that bodies under way may have, for all fetch threads.
-    fn budget(&self) -> Result<Arc<Budget>, AllocError> {
-        let budget = Budget::new(self.alloc, self.config.fetch_octets);
-        Ok(Arc::new(self.alloc, budget)?)
+/// What the threads that fetch are started with.
+struct LaneKit {
+    /// To each of those that were started, by index.
+    jobs: Vec<mpsc::UnboundedSender<Job>>,
+    /// The octets that bodies under way may have, for all of them.
+    budget: Arc<Budget>,
+    /// Receives a message of each once it takes jobs.
+    opened: Sender<(), Global>,
+    heard: Receiver<(), Global>,
+}
+
+// Written by hand, so that what lets it go is one call for the prover (docs/GATE.md).
+impl Drop for LaneKit {
+    fn drop(self) {
+        let Self {
+            jobs: _,
+            budget: _,
+            opened: _,
+            heard: _,
+        } = self;
+    }
+}
+
+impl LaneKit {
+    /// What no thread was started with yet, with so many octets for bodies under way. Errors: out of memory.
+    fn new(alloc: Global, octets: usize) -> Result<LaneKit, AllocError> {
+        let (opened, heard) = bounded(alloc, FETCHERS)?;
+        let budget = Arc::new(alloc, Budget::new(alloc, octets))?;
+        Ok(LaneKit {
+            jobs: Vec::with_capacity(alloc, FETCHERS)?,
+            budget,
+            opened,
+            heard,
+        })
     }
 
-    /// The task of a fetch thread that takes these jobs.
-    fn fetch_task(
-        &mut self,
-        jobs: mpsc::UnboundedReceiver<Job>,
-        budget: Arc<Budget>,
-        opened: Sender<(), Global>,
-    ) -> Result<FetchTask<S, L>, ServeFault> {
-        let changes = Arc::try_clone(&self.site.proxy.mail().changes).map_err(no_memory)?;
-        Ok(FetchTask {
+    /// The ways to the threads that were started, and what hears that they take jobs, when no more are started.
+    fn into_ends(self) -> (Vec<mpsc::UnboundedSender<Job>>, Receiver<(), Global>) {
+        let Self {
+            jobs,
+            budget,
+            opened,
+            heard,
+        } = self;
+        drop(budget);
+        drop(opened);
+        (jobs, heard)
+    }
+}
+
+/// How a fetch thread hears of its jobs, and what it tells other threads by.
+#[derive(Drop)]
+struct Lane {
+    jobs: mpsc::UnboundedReceiver<Job>,
+    opened: Sender<(), Global>,
+    end: Sender<(), Global>,
+}
+
+impl<R, S: Shared, L: Ledger> Opening<R, S, L> {
+    /// What the threads that fetch are started with, and what has names looked up, if that is there.
+    fn lane_kit(
+        &self,
+        names: Result<NameDesk, ServeFault>,
+    ) -> Result<(LaneKit, NameDesk), ServeFault> {
+        match names {
+            Ok(names) => match LaneKit::new(self.alloc, self.config.fetch_octets) {
+                Ok(kit) => Ok((kit, names)),
+                Err(_) => {
+                    drop(names);
+                    Err(ServeFault::NoMemory)
+                }
+            },
+            Err(fault) => Err(fault),
+        }
+    }
+
+    /// The task of one more fetch thread.
+    fn fetch_task(&mut self, kit: &mut LaneKit) -> Result<FetchTask<S, L>, ServeFault> {
+        let fetching = self.fetching(kit)?;
+        match self.site.seat() {
+            Ok(seat) => Ok(FetchTask { seat, fetching }),
+            Err(fault) => {
+                drop(fetching);
+                Err(fault)
+            }
+        }
+    }
+
+    /// What one more fetch thread fetches with.
+    fn fetching(&self, kit: &mut LaneKit) -> Result<Fetching<S>, ServeFault> {
+        let shares = self.fetch_shares(&kit.budget)?;
+        match self.lane(kit) {
+            Ok(Lane { jobs, opened, end }) => Ok(Fetching {
+                jobs,
+                shares,
+                config: self.config,
+                opened,
+                end,
+            }),
+            Err(fault) => {
+                drop(shares);
+                Err(fault)
+            }
+        }
+    }
+
+    /// What one more fetch thread has together with others.
+    fn fetch_shares(&self, budget: &Arc<Budget>) -> Result<FetchShares<S>, ServeFault> {
+        let Ok(changes) = Arc::try_clone(&self.site.proxy.mail().changes) else {
+            return Err(ServeFault::NoMemory);
+        };
+        let Ok(budget) = Arc::try_clone(budget) else {
+            return Err(ServeFault::NoMemory);
+        };
+        Ok(FetchShares {
             proxy: self.site.share()?,
             judged: self.site.share()?,
-            end: self.site.ender()?,
-            seat: self.site.seat()?,
-            jobs,
             changes,
             budget,
-            octets: self.config.body_limit,
-            limits: self.config.limits,
-            streams: self.config.streams,
-            opened,
         })
+    }
+
+    /// How one more fetch thread hears of its jobs, the way to which the kit has then.
+    fn lane(&self, kit: &mut LaneKit) -> Result<Lane, ServeFault> {
+        let Ok(opened) = kit.opened.clone() else {
+            return Err(ServeFault::NoMemory);
+        };
+        let end = self.site.ender()?;
+        let Ok((to, jobs)) = mpsc::unbounded(self.alloc) else {
+            return Err(ServeFault::NoMemory);
+        };
+        // (there is the capacity for all of these threads)
+        drop(kit.jobs.push(to));
+        Ok(Lane { jobs, opened, end })
     }
 }
 
 impl<R: Wait, S: Shared, L: Ledger> Opening<R, S, L> {
-    /// Waits until all fetch threads take jobs. Errors: one of them has ended.
-    fn wait_for_lanes(&self, heard: &Receiver<(), Global>) -> Result<(), ServeFault> {
+    /// Has jobs sent to the fetch threads, if they were started, once all of them take some.
+    fn open_lanes(
+        &self,
+        kit: LaneKit,
+        names: NameDesk,
+        begun: Result<(), ServeFault>,
+    ) -> Result<(), ServeFault> {
+        let (jobs, heard) = kit.into_ends();
+        let opened = self.wait_for_lanes(begun, &heard);
+        drop(heard);
+        match opened {
+            Ok(()) => {
+                let lanes = Lanes { names, jobs };
+                self.site.proxy.fetchers().open(&self.rt, lanes);
+                Ok(())
+            }
+            Err(fault) => {
+                drop(names);
+                drop(jobs);
+                Err(fault)
+            }
+        }
+    }
+
+    /// Waits until all fetch threads take jobs. Errors: they were not started, or one of them has ended.
+    fn wait_for_lanes(
+        &self,
+        begun: Result<(), ServeFault>,
+        heard: &Receiver<(), Global>,
+    ) -> Result<(), ServeFault> {
+        begun?;
         for _ in 0..FETCHERS {
             if heard.recv(&self.rt).is_err() {
                 return Err(ServeFault::NoMemory);
@@ -66,73 +199,33 @@ impl<R: Wait, S: Shared, L: Ledger> Opening<R, S, L> {
 impl<R, S, L> Opening<R, S, L>
 where
     L: Ledger + Send + Sync + 'static,
-    S: AtDesk<L> + Overseen + Send + Sync + 'static,
-    R: Threads
-        + Wait
-        + Net
-        + Clock
-        + RandomSource
-        + AllocGlobal
-        + Files
-        + Print
-        + Eprint
-        + Copy
-        + Send
-        + 'static,
+    S: AtDesk<L> + Send + Sync + 'static,
+    R: Threads + Wait + Net + Clock + RandomSource + AllocGlobal + Copy + Send + 'static,
     R::Stream: Send + 'static,
     R::Listener: Send + 'static,
-    R::File: Send + 'static,
-    R::Dir: Send + 'static,
 {
-    /// Starts the threads that fetch, for which `names` looks up names.
-    pub(super) fn open_fetchers(&mut self, names: NameDesk) -> Result<(), ServeFault> {
-        let jobs = match self.open_lanes() {
-            Ok(jobs) => jobs,
-            Err(fault) => {
-                drop(names);
-                return Err(fault);
-            }
-        };
-        self.site
-            .proxy
-            .fetchers()
-            .open(&self.rt, Lanes { names, jobs });
+    /// Starts the threads that fetch, for which `names` looks up names, if that is there.
+    pub(super) fn open_fetchers(
+        &mut self,
+        names: Result<NameDesk, ServeFault>,
+    ) -> Result<(), ServeFault> {
+        let (mut kit, names) = self.lane_kit(names)?;
+        let begun = self.begin_fetchers(&mut kit);
+        self.open_lanes(kit, names, begun)
+    }
+
+    /// Starts the fetch threads, to each of which the kit has the way then.
+    fn begin_fetchers(&mut self, kit: &mut LaneKit) -> Result<(), ServeFault> {
+        for _ in 0..FETCHERS {
+            self.begin_fetcher(kit)?;
+        }
         Ok(())
     }
 
-    /// Starts the fetch threads, and waits until all of them take jobs. Returns what takes these.
-    fn open_lanes(&mut self) -> Result<Vec<mpsc::UnboundedSender<Job>>, ServeFault> {
-        let (opened, heard) = bounded(self.alloc, FETCHERS).map_err(no_memory)?;
-        let lanes = self.start_lanes(opened)?;
-        self.wait_for_lanes(&heard)?;
-        Ok(lanes)
-    }
-
-    /// Starts the fetch threads, each of which has a message to `opened` once it takes jobs.
-    fn start_lanes(
-        &mut self,
-        opened: Sender<(), Global>,
-    ) -> Result<Vec<mpsc::UnboundedSender<Job>>, ServeFault> {
-        let budget = self.budget().map_err(no_memory)?;
-        let mut lanes = Vec::with_capacity(self.alloc, FETCHERS).map_err(no_memory)?;
-        for _ in 0..FETCHERS {
-            let opened = opened.clone().map_err(no_memory)?;
-            let lane = self.open_lane(&budget, opened)?;
-            let _ = lanes.push(lane);
-        }
-        Ok(lanes)
-    }
-
-    /// Starts a fetch thread. Returns what takes its jobs.
-    fn open_lane(
-        &mut self,
-        budget: &Arc<Budget>,
-        opened: Sender<(), Global>,
-    ) -> Result<mpsc::UnboundedSender<Job>, ServeFault> {
-        let budget = Arc::try_clone(budget).map_err(no_memory)?;
-        let (to, jobs) = mpsc::unbounded(self.alloc).map_err(no_memory)?;
-        let fetches = self.fetch_task(jobs, budget, opened)?;
-        self.keep(Work::Fetches(fetches))?;
-        Ok(to)
+    /// Starts one more fetch thread.
+    fn begin_fetcher(&mut self, kit: &mut LaneKit) -> Result<(), ServeFault> {
+        let task = self.fetch_task(kit)?;
+        let begun = begin(self.rt, task);
+        self.keep(begun)
     }
 }
