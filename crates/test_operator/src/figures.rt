@@ -1,7 +1,10 @@
 //! Buckets, classes and kinds, and counters near their end (`traffic_figures`).
+use crate::rows::{Question, all_hold};
+use std::alloc::{AllocError, Global};
 use std::test::Fail;
 use traffic_figures::{
-    AnswerNote, Course, Figures, ReplyKind, StatusClass, bucket_of, class_of, htcp_reply, icp_reply,
+    AnswerNote, Course, Figures, ReplyKind, Snapshot, StatusClass, bucket_of, class_of, htcp_reply,
+    icp_reply,
 };
 
 /// Times in microseconds, and the places of their buckets.
@@ -20,12 +23,18 @@ const PLACES: [(u64, usize); 12] = [
     (18_446_744_073_709_551_615, 14),
 ];
 
+// A time is in the bucket of its row.
+struct BucketOf;
+
+impl Question<(u64, usize)> for BucketOf {
+    fn holds(&self, _alloc: Global, row: &(u64, usize)) -> Result<bool, Fail> {
+        Ok(bucket_of(row.0) == row.1)
+    }
+}
+
 #[test]
 fn a_bound_belongs_to_its_bucket(rt: HostRuntime) -> Result<(), Fail> {
-    for (micros, place) in &PLACES {
-        assert_eq!(rt; bucket_of(*micros), *place);
-    }
-    Ok(())
+    all_hold(rt.alloc(), &PLACES, &BucketOf)
 }
 
 /// Statuses and their classes.
@@ -41,12 +50,18 @@ const CLASSES: [(u16, StatusClass); 9] = [
     (65_535, StatusClass::ServerError),
 ];
 
+// A status has the class of its row.
+struct ClassOf;
+
+impl Question<(u16, StatusClass)> for ClassOf {
+    fn holds(&self, _alloc: Global, row: &(u16, StatusClass)) -> Result<bool, Fail> {
+        Ok(class_of(row.0) == row.1)
+    }
+}
+
 #[test]
 fn the_class_of_a_status(rt: HostRuntime) -> Result<(), Fail> {
-    for (status, class) in &CLASSES {
-        assert_eq!(rt; class_of(*status), *class);
-    }
-    Ok(())
+    all_hold(rt.alloc(), &CLASSES, &ClassOf)
 }
 
 /// Opcodes of ICP (RFC 2186), and the kinds of replies that they are.
@@ -67,16 +82,24 @@ const ICP: [(u8, Option<ReplyKind>); 14] = [
     (255, Some(ReplyKind::Other)),
 ];
 
+// An opcode is a reply of its row's kind.
+struct IcpKind;
+
+impl Question<(u8, Option<ReplyKind>)> for IcpKind {
+    fn holds(&self, _alloc: Global, row: &(u8, Option<ReplyKind>)) -> Result<bool, Fail> {
+        Ok(icp_reply(row.0) == row.1)
+    }
+}
+
 #[test]
 fn the_kind_of_an_icp_reply(rt: HostRuntime) -> Result<(), Fail> {
-    for (opcode, kind) in &ICP {
-        assert!(rt; icp_reply(*opcode) == *kind, "{opcode}");
-    }
-    Ok(())
+    all_hold(rt.alloc(), &ICP, &IcpKind)
 }
 
 /// Opcodes of HTCP (RFC 2756), response codes and whether MO is set, and the kinds of responses that they are.
-const HTCP: [(u8, u8, bool, ReplyKind); 8] = [
+type Response = (u8, u8, bool, ReplyKind);
+
+const HTCP: [Response; 8] = [
     (1, 0, false, ReplyKind::Found),
     (1, 1, false, ReplyKind::NotFound),
     (1, 2, false, ReplyKind::Other),
@@ -87,21 +110,27 @@ const HTCP: [(u8, u8, bool, ReplyKind); 8] = [
     (4, 0, false, ReplyKind::Other),
 ];
 
-#[test]
-fn the_kind_of_an_htcp_response(rt: HostRuntime) -> Result<(), Fail> {
-    for (opcode, code, is_overall, kind) in &HTCP {
-        assert!(rt;
-            htcp_reply(*opcode, *code, *is_overall) == *kind,
-            "{opcode} {code}"
-        );
+// A response has the kind of its row.
+struct HtcpKind;
+
+impl Question<Response> for HtcpKind {
+    fn holds(&self, _alloc: Global, row: &Response) -> Result<bool, Fail> {
+        Ok(htcp_reply(row.0, row.1, row.2) == row.3)
     }
-    Ok(())
 }
 
 #[test]
-fn counters_near_their_end(rt: HostRuntime) -> Result<(), Fail> {
-    let figures = Figures::new(rt.alloc(), 0)?;
-    for octets in &[18_446_744_073_709_551_610_u64, 4, 3] {
+fn the_kind_of_an_htcp_response(rt: HostRuntime) -> Result<(), Fail> {
+    all_hold(rt.alloc(), &HTCP, &HtcpKind)
+}
+
+// Octets of three answers, which are their microseconds too.
+const OCTETS: [u64; 3] = [18_446_744_073_709_551_610, 4, 3];
+
+// What the counters hold after these answers.
+fn counted(alloc: Global) -> Result<Snapshot, AllocError> {
+    let figures = Figures::new(alloc, 0)?;
+    for octets in &OCTETS {
         figures.note_answer(AnswerNote {
             course: Course::Miss,
             status: 200,
@@ -109,14 +138,20 @@ fn counters_near_their_end(rt: HostRuntime) -> Result<(), Fail> {
             micros: Some(*octets),
         });
     }
-    let snapshot = figures.snapshot(rt.alloc())?;
+    let snapshot = figures.snapshot(alloc);
+    drop(figures);
+    snapshot
+}
+
+#[test]
+fn counters_near_their_end(rt: HostRuntime) -> Result<(), Fail> {
+    let snapshot = counted(rt.alloc())?;
+    let (content, forwarded) = (snapshot.content, snapshot.forwarded);
+    drop(snapshot);
     // They go on from 0, each by itself.
-    assert_eq!(rt; snapshot.content, [0, 1, 0, 0, 0]);
-    assert_eq!(rt; snapshot.forwarded.micros, 1);
+    assert!(rt; content == [0, 1, 0, 0, 0]);
+    assert!(rt; forwarded.micros == 1);
     // 3 and 4 stand in the first bucket, and the other time in the last.
-    assert_eq!(rt;
-        snapshot.forwarded.counts,
-        [2, 0, 0, 0, 0, 0, 0, 0, 0, 0, 0, 0, 0, 0, 1]
-    );
+    assert!(rt; forwarded.counts == [2, 0, 0, 0, 0, 0, 0, 0, 0, 0, 0, 0, 0, 0, 1]);
     Ok(())
 }

@@ -15,3 +15,5 @@ mod log_lines;
 mod node_texts;
 #[cfg(test)]
 mod pages;
+#[cfg(test)]
+mod rows;

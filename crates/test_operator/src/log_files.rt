@@ -131,21 +131,49 @@ fn lines_are_lost_where_nothing_can_be_written(rt: HostRuntime) -> Result<(), Fa
     Ok(())
 }
 
+// The moment so many milliseconds after another.
+fn after(start: Instant, millis: u64) -> Instant {
+    start
+        .checked_add(Duration::from_millis(millis))
+        .unwrap_or(start)
+}
+
+// Milliseconds after the first line, and how many lines were left out before the one that is admitted then, if it is.
+const ADMITTED: [(u64, Option<u64>); 5] = [
+    (20, None),
+    (999, None),
+    (1_000, Some(2)),
+    (1_001, Some(0)),
+    (5_000, Some(0)),
+];
+
+// Whether twenty lines are admitted, one each millisecond.
+fn admits_twenty(pace: &mut Pace, start: Instant) -> bool {
+    for millis in 0..20u64 {
+        if pace.admit(after(start, millis)) != Some(0) {
+            return false;
+        }
+    }
+    true
+}
+
+// Whether the lines behind these are admitted as they should be.
+fn admits_rows(pace: &mut Pace, start: Instant) -> bool {
+    for (millis, left_out) in &ADMITTED {
+        if pace.admit(after(start, *millis)) != *left_out {
+            return false;
+        }
+    }
+    true
+}
+
 // Twenty lines of a second are admitted. The first of the next second tells how many were left out.
 #[test]
 fn lines_are_paced(rt: HostRuntime) -> Result<(), Fail> {
     let start = Instant::now(&rt)?;
-    let at = |millis: u64| start
-        .checked_add(Duration::from_millis(millis))
-        .unwrap_or(start);
     let mut pace = Pace::new(20);
-    for millis in 0..20u64 {
-        assert_eq!(rt; pace.admit(at(millis)), Some(0));
-    }
-    assert_eq!(rt; pace.admit(at(20)), None);
-    assert_eq!(rt; pace.admit(at(999)), None);
-    assert_eq!(rt; pace.admit(at(1_000)), Some(2));
-    assert_eq!(rt; pace.admit(at(1_001)), Some(0));
-    assert_eq!(rt; pace.admit(at(5_000)), Some(0));
+    let are_paced = admits_twenty(&mut pace, start) && admits_rows(&mut pace, start);
+    drop(pace);
+    assert!(rt; are_paced);
     Ok(())
 }

@@ -1,8 +1,10 @@
 //! The counters of a node and its neighbours as JSON (`node_figures`).
+use crate::rows::{Question, all_hold};
 use filter_slots::{End, Socket};
 use node_book::NeighbourView;
 use node_core::{Counters, Stats};
 use node_figures::{neighbour_figures_text, neighbours_text, stats_text};
+use std::alloc::Global;
 use std::test::Fail;
 use traffic_figures::NeighbourCounts;
 
@@ -31,7 +33,9 @@ fn the_counters_of_both_sockets(rt: HostRuntime) -> Result<(), Fail> {
 }
 
 /// Times in eighths of a millisecond, and how they are shown.
-const TIMES: [(Option<u32>, &'static str); 12] = [
+type Time = (Option<u32>, &'static str);
+
+const TIMES: [Time; 12] = [
     (None, "null"),
     (Some(0), "0"),
     (Some(1), "0.125"),
@@ -61,18 +65,26 @@ fn view(time: Option<u32>) -> NeighbourView {
     }
 }
 
+/// The time in the JSON of one neighbour.
+fn time_in(text: &str) -> Option<&str> {
+    let (_, rest) = text.split_once("\"time_ms\":")?;
+    let (number, _) = rest.split_once(",\"misses\"")?;
+    Some(number)
+}
+
+/// A time is shown as in its row.
+struct ShownAs;
+
+impl Question<Time> for ShownAs {
+    fn holds(&self, alloc: Global, row: &Time) -> Result<bool, Fail> {
+        let text = neighbours_text(alloc, &[view(row.0)]).ok_or("the view is printed")?;
+        Ok(time_in(text.as_str()) == Some(row.1))
+    }
+}
+
 #[test]
 fn a_time_has_three_decimals_or_none(rt: HostRuntime) -> Result<(), Fail> {
-    for (time, shown) in &TIMES {
-        let text = neighbours_text(rt.alloc(), &[view(*time)]).ok_or("the view is printed")?;
-        let (_, rest) = text
-            .as_str()
-            .split_once("\"time_ms\":")
-            .ok_or("it has a time")?;
-        let (number, _) = rest.split_once(",\"misses\"").ok_or("it has misses")?;
-        assert!(rt; number == *shown);
-    }
-    Ok(())
+    all_hold(rt.alloc(), &TIMES, &ShownAs)
 }
 
 #[test]

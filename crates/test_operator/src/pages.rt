@@ -1,11 +1,12 @@
 //! The metrics and the JSON of a page (`traffic_figures`).
+use crate::rows::{Question, all_hold};
 use json::Writer;
 use std::alloc::{AllocError, Global};
 use std::test::Fail;
 use traffic_figures::{
     AnswerNote, Course, FetchNote, FetchOutcome, FetchedFrom, Figures, LogLines, NeighbourCounts,
-    NeighbourFigures, NeighbourState, Page, ReplyKind, SocketFigures, Sockets, clients_text,
-    metrics_text, write_neighbour_counts,
+    NeighbourFigures, NeighbourState, Page, ReplyKind, Snapshot, SocketFigures, Sockets,
+    clients_text, metrics_text, write_neighbour_counts,
 };
 
 /// Answers: course, status, octets and microseconds.
@@ -54,18 +55,23 @@ const REPLIES: [(usize, ReplyKind, u32); 10] = [
     (2, ReplyKind::Hit, 1),
 ];
 
-fn figures(alloc: Global) -> Result<Figures, AllocError> {
-    let figures = Figures::new(alloc, 2)?;
+fn note_queries(figures: &Figures) {
     for (neighbour, times) in &QUERIES {
         for _ in 0..*times {
             figures.note_query(*neighbour);
         }
     }
+}
+
+fn note_replies(figures: &Figures) {
     for (neighbour, kind, times) in &REPLIES {
         for _ in 0..*times {
             figures.note_reply(*neighbour, *kind);
         }
     }
+}
+
+fn note_answers(figures: &Figures) {
     for (course, status, octets, micros) in &ANSWERS {
         figures.note_answer(AnswerNote {
             course: *course,
@@ -74,6 +80,9 @@ fn figures(alloc: Global) -> Result<Figures, AllocError> {
             micros: *micros,
         });
     }
+}
+
+fn note_fetches(figures: &Figures) {
     for (from, outcome, octets, micros) in &FETCHES {
         figures.note_fetch(FetchNote {
             from: *from,
@@ -82,7 +91,23 @@ fn figures(alloc: Global) -> Result<Figures, AllocError> {
             micros: *micros,
         });
     }
+}
+
+// The counters after all of these.
+fn figures(alloc: Global) -> Result<Figures, AllocError> {
+    let figures = Figures::new(alloc, 2)?;
+    note_queries(&figures);
+    note_replies(&figures);
+    note_answers(&figures);
+    note_fetches(&figures);
     Ok(figures)
+}
+
+fn snapshot(alloc: Global) -> Result<Snapshot, AllocError> {
+    let figures = figures(alloc)?;
+    let snapshot = figures.snapshot(alloc);
+    drop(figures);
+    snapshot
 }
 
 fn socket(first: u64) -> SocketFigures {
@@ -118,8 +143,10 @@ const VERSION: &'static str = "1.0 \"a\\b\"\n";
 
 // Some figures are known, and some are not.
 fn page(alloc: Global) -> Result<Page, AllocError> {
+    let neighbours = neighbours(alloc)?;
+    let figures = snapshot(alloc)?;
     Ok(Page {
-        figures: figures(alloc)?.snapshot(alloc)?,
+        figures,
         version: VERSION,
         uptime: 90,
         started: Some(1_700_000_000),
@@ -129,7 +156,7 @@ fn page(alloc: Global) -> Result<Page, AllocError> {
             icp: socket(11),
             htcp: socket(21),
         }),
-        neighbours: neighbours(alloc)?,
+        neighbours,
         connections: Some(3),
         fetching: Some(2),
         waiting: None,
@@ -179,22 +206,36 @@ fn counts(alloc: Global) -> Result<Vec<NeighbourCounts>, AllocError> {
     counts
 }
 
+fn write_counts(json: &mut Writer, counts: &NeighbourCounts) -> Result<(), AllocError> {
+    json.begin_object()?;
+    write_neighbour_counts(json, counts)?;
+    json.end_object()
+}
+
 fn counts_as_json(alloc: Global, counts: &NeighbourCounts) -> Result<Vec<u8>, AllocError> {
     let mut json = Writer::new(Vec::new(alloc));
-    json.begin_object()?;
-    write_neighbour_counts(&mut json, counts)?;
-    json.end_object()?;
-    Ok(json.into_inner())
+    let written = write_counts(&mut json, counts);
+    let text = json.into_inner();
+    written?;
+    Ok(text)
+}
+
+// Whether the counts of both neighbours are written as they should be.
+fn are_written(alloc: Global, counts: &[NeighbourCounts]) -> Result<bool, AllocError> {
+    for (counts, text) in counts.iter().zip(&NEIGHBOURS) {
+        if counts_as_json(alloc, counts)?.as_slice() != text.as_bytes() {
+            return Ok(false);
+        }
+    }
+    Ok(counts.len() == 2)
 }
 
 #[test]
 fn the_counts_of_neighbours_as_json(rt: HostRuntime) -> Result<(), Fail> {
     let counts = counts(rt.alloc())?;
-    assert_eq!(rt; counts.len(), 2);
-    for (counts, text) in counts.iter().zip(&NEIGHBOURS) {
-        let written = counts_as_json(rt.alloc(), counts)?;
-        assert!(rt; written.as_slice() == text.as_bytes(), "{text}");
-    }
+    let are_written = are_written(rt.alloc(), &counts);
+    drop(counts);
+    assert!(rt; are_written?);
     Ok(())
 }
 
@@ -276,26 +317,59 @@ fn metrics(alloc: Global, version: &'static str, micros: u64) -> Result<Vec<u8>,
 
 fn has_line(text: &[u8], line: &str) -> bool {
     let text = str::from_utf8(text).unwrap_or("");
-    text.lines().any(|shown| shown == line)
+    for shown in text.lines() {
+        if shown == line {
+            return true;
+        }
+    }
+    false
+}
+
+// The metrics have the line.
+#[derive(Drop)]
+struct HasLine<'a> {
+    text: &'a [u8],
+}
+
+impl Question<&'static str> for HasLine<'_> {
+    fn holds(&self, _alloc: Global, row: &&'static str) -> Result<bool, Fail> {
+        Ok(has_line(self.text, *row))
+    }
 }
 
 #[test]
 fn the_metrics(rt: HostRuntime) -> Result<(), Fail> {
     let text = metrics(rt.alloc(), VERSION, 2_001)?;
-    for line in &LINES {
-        assert!(rt; has_line(text.as_slice(), line), "{line}");
+    let question = HasLine {
+        text: text.as_slice(),
+    };
+    let told = all_hold(rt.alloc(), &LINES, &question);
+    drop(text);
+    told
+}
+
+// The metrics have no such sample.
+#[derive(Drop)]
+struct LeavesOut<'a> {
+    text: &'a str,
+}
+
+impl Question<&'static str> for LeavesOut<'_> {
+    fn holds(&self, _alloc: Global, row: &&'static str) -> Result<bool, Fail> {
+        Ok(!self.text.contains(*row))
     }
-    Ok(())
 }
 
 #[test]
 fn what_is_not_known_is_left_out(rt: HostRuntime) -> Result<(), Fail> {
     let text = metrics(rt.alloc(), VERSION, 2_001)?;
     let text = String::from_utf8(text).ok().ok_or("it is text")?;
-    for start in &ABSENT {
-        assert!(rt; !text.as_str().contains(*start), "{start}");
-    }
-    Ok(())
+    let question = LeavesOut {
+        text: text.as_str(),
+    };
+    let told = all_hold(rt.alloc(), &ABSENT, &question);
+    drop(text);
+    told
 }
 
 /// Values of labels, and how they are written.
@@ -306,15 +380,22 @@ const ESCAPES: [(&'static str, &'static str); 4] = [
     ("\n\n\u{e9}", "\\n\\n\u{e9}"),
 ];
 
+// A version is written as the value of a label as in its row.
+struct EscapedAs;
+
+impl Question<(&'static str, &'static str)> for EscapedAs {
+    fn holds(&self, alloc: Global, row: &(&'static str, &'static str)) -> Result<bool, Fail> {
+        let (version, written) = *row;
+        let text = metrics(alloc, version, 0)?;
+        let line = format!(in alloc; "wabretos_build_info{{version=\"{written}\"}} 1")?;
+        Ok(has_line(text.as_slice(), line.as_str()))
+    }
+}
+
 // The version is the value of a label.
 #[test]
 fn the_values_of_labels(rt: HostRuntime) -> Result<(), Fail> {
-    for (value, written) in &ESCAPES {
-        let text = metrics(rt.alloc(), value, 0)?;
-        let line = format!(in rt.alloc(); "wabretos_build_info{{version=\"{written}\"}} 1")?;
-        assert!(rt; has_line(text.as_slice(), line.as_str()), "{line}");
-    }
-    Ok(())
+    all_hold(rt.alloc(), &ESCAPES, &EscapedAs)
 }
 
 /// Microseconds, and how they are written in seconds.
@@ -325,12 +406,19 @@ const SECONDS: [(u64, &'static str); 4] = [
     (18_446_744_073_709_551_615, "18446744073709.551615"),
 ];
 
+// Microseconds are written as in their row.
+struct WrittenAs;
+
+impl Question<(u64, &'static str)> for WrittenAs {
+    fn holds(&self, alloc: Global, row: &(u64, &'static str)) -> Result<bool, Fail> {
+        let (micros, written) = *row;
+        let text = metrics(alloc, VERSION, micros)?;
+        let line = format!(in alloc; "wabretos_hit_duration_seconds_sum {written}")?;
+        Ok(has_line(text.as_slice(), line.as_str()))
+    }
+}
+
 #[test]
 fn seconds_have_six_decimals(rt: HostRuntime) -> Result<(), Fail> {
-    for (micros, written) in &SECONDS {
-        let text = metrics(rt.alloc(), VERSION, *micros)?;
-        let line = format!(in rt.alloc(); "wabretos_hit_duration_seconds_sum {written}")?;
-        assert!(rt; has_line(text.as_slice(), line.as_str()), "{line}");
-    }
-    Ok(())
+    all_hold(rt.alloc(), &SECONDS, &WrittenAs)
 }
