@@ -98,6 +98,14 @@ impl<A: Admit> Tend for Doorman<A> {
     }
 }
 
+/// Follows the content of an answer once its head is known. What reads contents is generic over this, since the prover does not look behind
+/// a type parameter (docs/GATE.md).
+pub trait Offers: Follow {
+    /// This, for an answer with this status, these fields, and a content of this length if that is known; nothing is left here. An answer
+    /// whose Connection fields name too many others is not given, nor is one where memory is short.
+    fn of_answer(&mut self, status: u16, fields: &HeaderMap, length: Option<u64>) -> Self;
+}
+
 /// Gives the answer of a fetch to the client that began it, while it is collected: that of status 200 with an announced length of 128 KiB
 /// or more, from its first octets on. Collecting never waits for the client: what it is behind is handed over at once when the answer is
 /// whole. An answer that does not become whole is cut for it.
@@ -150,25 +158,6 @@ impl Early {
         }
     }
 
-    /// This, for an answer with this status, these fields, and a content of this length if that is known; nothing is left here. An answer
-    /// whose Connection fields name too many others is not given, nor is one where memory is short.
-    pub fn of_answer(&mut self, status: u16, fields: &HeaderMap, length: Option<u64>) -> Early {
-        let gate = self.gate.take();
-        let offer = match length {
-            Some(length) if gate.is_some() && status == 200 && FEWEST_OCTETS <= length => {
-                offer_of(self.alloc, fields, length)
-            }
-            _ => None,
-        };
-        Early {
-            alloc: self.alloc,
-            fetch: self.fetch,
-            gate,
-            offer,
-            reader: None,
-        }
-    }
-
     // Offers the answer to the client that began the fetch. Returns `None` if there is nothing to offer, or if out of memory.
     fn begin(&mut self) -> Option<Reader> {
         let gate = self.gate.take()?;
@@ -207,6 +196,25 @@ impl Offer {
 fn offer_of(alloc: Global, fields: &HeaderMap, length: u64) -> Option<Offer> {
     let fields = end_to_end(alloc, fields).ok()?;
     Some(Offer { fields, length })
+}
+
+impl Offers for Early {
+    fn of_answer(&mut self, status: u16, fields: &HeaderMap, length: Option<u64>) -> Early {
+        let gate = self.gate.take();
+        let offer = match length {
+            Some(length) if gate.is_some() && status == 200 && FEWEST_OCTETS <= length => {
+                offer_of(self.alloc, fields, length)
+            }
+            _ => None,
+        };
+        Early {
+            alloc: self.alloc,
+            fetch: self.fetch,
+            gate,
+            offer,
+            reader: None,
+        }
+    }
 }
 
 impl Follow for Early {

@@ -230,11 +230,15 @@ pub struct Keeper<R> {
 impl<R: Drop> Drop for Keeper<R> {
     fn drop(self) {
         let Self {
-            rt: _,
-            kept: _,
-            timers: _,
-            sleep: _,
+            rt,
+            kept,
+            timers,
+            sleep,
         } = self;
+        drop(rt);
+        drop(kept);
+        drop(timers);
+        drop(sleep);
     }
 }
 
