@@ -75,12 +75,15 @@ pub struct Dialer<R, A> {
 impl<R: Drop, A: Drop> Drop for Dialer<R, A> {
     fn drop(self) {
         let Self {
-            rt: _,
-            handle: _,
+            rt,
+            handle,
             connecting: _,
-            rules: _,
+            rules,
             is_origin: _,
         } = self;
+        drop(rt);
+        drop(handle);
+        drop(rules);
     }
 }
 

@@ -1,7 +1,7 @@
 //! An answer that is given to the client that began its fetch, while it is collected.
 ghost use Rattle.futures.specs.Task.{Keeps};
 
-use crate::fetching::FetchRules;
+use crate::fetching::{FetchRules, put};
 use fetch_chain::Tend;
 use futures::Stream;
 use futures::channel::mpsc;
@@ -124,10 +124,13 @@ impl Drop for Early {
         let Self {
             alloc: _,
             fetch: _,
-            gate: _,
-            offer: _,
-            reader: _,
+            gate,
+            offer,
+            reader,
         } = self;
+        drop(gate);
+        drop(offer);
+        drop(reader);
     }
 }
 
@@ -220,14 +223,15 @@ impl Offers for Early {
 impl Follow for Early {
     fn follow(&mut self, cx: &mut Context<'_>, octets: &[u8]) {
         if self.offer.is_some() && !octets.is_empty() {
-            self.reader = self.begin();
+            let reader = self.begin();
+            put(&mut self.reader, reader);
         }
         let reads_on = match &mut self.reader {
             Some(reader) => reader.hand_over(self.alloc, cx, octets),
             None => return,
         };
         if !reads_on {
-            self.reader = None;
+            put(&mut self.reader, None);
         }
     }
 

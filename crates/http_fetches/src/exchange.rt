@@ -183,7 +183,8 @@ impl<C: Connect, T: Talk> Call<C, T> {
     {
         match connected {
             Ok(socket) => {
-                self.talking = self.talk.talk(socket);
+                let talking = self.talk.talk(socket);
+                put(&mut self.talking, talking);
                 Ok(())
             }
             Err(fault) => Err(fault),
@@ -362,7 +363,7 @@ impl<R: Clock + Copy, P: Drop, X: Ask<Purse = P>> Talk for Get<R, X> {
     type Talking = Borne<R, X::Answer, X::Connection>;
 
     fn talk(&mut self, socket: Paced) -> Option<Self::Talking> {
-        self.used = None;
+        put(&mut self.used, None);
         let Some((moves, other)) = Moves::pair(self.alloc) else {
             drop(socket);
             return None;
@@ -377,7 +378,7 @@ impl<R: Clock + Copy, P: Drop, X: Ask<Purse = P>> Talk for Get<R, X> {
             return None;
         };
         let begun = self.begin(Noted::used(socket, other), &moves);
-        self.used = Some(moves);
+        put(&mut self.used, Some(moves));
         begun
     }
 
@@ -450,7 +451,7 @@ impl<R: Drop, A: Drop, C: Future<Output = hyper::Result<Parts<Noted>>>> Borne<R,
             return;
         };
         if let Poll::Ready(ended) = conn.poll(cx) {
-            self.conn = None;
+            put(&mut self.conn, None);
             put(&mut self.left, ended.ok());
         }
     }
@@ -511,7 +512,9 @@ pub struct Beside<A, B> {
 
 impl<A: Drop, B: Drop> Drop for Beside<A, B> {
     fn drop(self) {
-        let Self { first: _, other: _ } = self;
+        let Self { first, other } = self;
+        drop(first);
+        drop(other);
     }
 }
 
@@ -541,7 +544,7 @@ impl<A: Drop, T: Drop, B: Future<Output = T>> Beside<A, B> {
             return;
         };
         if other.poll(cx).is_ready() {
-            self.other = None;
+            put(&mut self.other, None);
         }
     }
 }

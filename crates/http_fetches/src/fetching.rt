@@ -288,13 +288,20 @@ impl<R: Wait + Net + Clock + Copy, A: Admit> Means for Getter<R, A> {
     type Watch = Watching<R>;
 
     fn dialer(&self, is_origin: bool) -> Option<Dialer<R, A>> {
-        Some(Dialer {
-            rt: self.rt,
-            handle: self.handle.clone().ok()?,
-            connecting: self.limits.connecting,
-            rules: self.rules.clone().ok()?,
-            is_origin,
-        })
+        let rules = self.rules.clone().ok()?;
+        match self.handle.clone() {
+            Ok(handle) => Some(Dialer {
+                rt: self.rt,
+                handle,
+                connecting: self.limits.connecting,
+                rules,
+                is_origin,
+            }),
+            Err(_) => {
+                drop(rules);
+                None
+            }
+        }
     }
 
     fn get(&self, fetch: u32, asked: Asked, is_early: bool) -> Get<R, Asker<Allowance<R>>> {

@@ -3,6 +3,7 @@ ghost use Rattle.std.specs.Prelude.{◌≡◌, ⊤};
 ghost use Rattle.futures.specs.Task.{Keeps};
 ghost use Rattle.tokio.specs.Net.{stream_readable, stream_writable};
 
+use crate::fetching::put;
 use futures::Future;
 use futures::task::{Context, Poll};
 use paced_stream::Paced;
@@ -261,7 +262,8 @@ impl<R: Clock + Drop> Patience<R> {
             return true;
         };
         if self.sleep.is_none() {
-            self.sleep = self.timer(deadline);
+            let sleep = self.timer(deadline);
+            put(&mut self.sleep, sleep);
         }
         match &mut self.sleep {
             Some(sleep) => has_come(sleep, cx, deadline),

@@ -6,7 +6,7 @@ ghost use Rattle.futures.specs.Task.{Covers, Keeps};
 
 use crate::dialing::Dial;
 use crate::exchange::{Beside, Talk};
-use crate::fetching::boxed;
+use crate::fetching::{boxed, put};
 use crate::moves::{Moves, Noted, Patience};
 use crate::reply::Head;
 use crate::speaking::Deliverer;
@@ -45,10 +45,11 @@ pub struct Sent {
 impl Drop for Sent {
     fn drop(self) {
         let Self {
-            coming: _,
+            coming,
             left: _,
             is_bare: _,
         } = self;
+        drop(coming);
     }
 }
 
@@ -93,7 +94,7 @@ impl Body for Sent {
                 Poll::Ready(Some(frame_of(octets)))
             }
             Some(Piece::End) => {
-                self.coming = None;
+                put(&mut self.coming, None);
                 Poll::Ready(None)
             }
             None => Poll::Ready(Some(Err(io::Error::from(ErrorKind::UnexpectedEof)))),
@@ -173,7 +174,7 @@ impl Outlet {
             length,
             wanted: keep,
         };
-        self.wanted = Some(wanted);
+        put(&mut self.wanted, Some(wanted));
         let Some(head) = self.head.take() else {
             drop(passed);
             return None;

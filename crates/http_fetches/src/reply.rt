@@ -87,10 +87,12 @@ impl<A: Drop> Drop for Reply<A> {
     fn drop(self) {
         let Self {
             alloc: _,
-            answer: _,
-            head: _,
+            answer,
+            head,
             lasts: _,
         } = self;
+        drop(answer);
+        drop(head);
     }
 }
 

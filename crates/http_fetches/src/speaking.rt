@@ -97,9 +97,11 @@ impl<P: Drop, W: Drop> Drop for Metered<P, W> {
             alloc: _,
             limit: _,
             free: _,
-            purse: _,
-            follower: _,
+            purse,
+            follower,
         } = self;
+        drop(purse);
+        drop(follower);
     }
 }
 
