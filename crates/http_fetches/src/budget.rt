@@ -2,6 +2,7 @@
 ghost use Rattle.futures.specs.Poll.{OnPending};
 ghost use Rattle.futures.specs.Task.{Covers, Keeps};
 
+use crate::fetching::put;
 use crate::moves::Moves;
 use futures::Future;
 use futures::channel::oneshot;
@@ -101,7 +102,7 @@ impl<R: Wait + Copy> Share<R> {
     /// This share, whose payments are told.
     pub fn told(self, moves: Moves) -> Share<R> {
         let mut share = self;
-        share.moves = Some(moves);
+        put(&mut share.moves, Some(moves));
         share
     }
 
@@ -116,7 +117,8 @@ impl<R: Wait + Copy> Share<R> {
             self.held = self.held.saturating_add(octets);
             return Some(Ok(()));
         }
-        self.turn = left.wait(self.alloc);
+        let turn = left.wait(self.alloc);
+        put(&mut self.turn, turn);
         match &self.turn {
             Some(_) => None,
             None => Some(Err(ReadFault::NoMemory)),
@@ -134,7 +136,7 @@ impl<R: Wait + Copy> Share<R> {
         if turn.poll(cx).is_pending() {
             return Poll::Pending;
         }
-        self.turn = None;
+        put(&mut self.turn, None);
         Poll::Ready(())
     }
 }

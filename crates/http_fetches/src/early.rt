@@ -1,7 +1,7 @@
 //! An answer that is given to the client that began its fetch, while it is collected.
 ghost use Rattle.futures.specs.Task.{Keeps};
 
-use crate::fetching::FetchRules;
+use crate::fetching::{FetchRules, put};
 use fetch_chain::Tend;
 use futures::Stream;
 use futures::channel::mpsc;
@@ -98,6 +98,14 @@ impl<A: Admit> Tend for Doorman<A> {
     }
 }
 
+/// Follows the content of an answer once its head is known. What reads contents is generic over this, since the prover does not look behind
+/// a type parameter (docs/GATE.md).
+pub trait Offers: Follow {
+    /// This, for an answer with this status, these fields, and a content of this length if that is known; nothing is left here. An answer
+    /// whose Connection fields name too many others is not given, nor is one where memory is short.
+    fn of_answer(&mut self, status: u16, fields: &HeaderMap, length: Option<u64>) -> Self;
+}
+
 /// Gives the answer of a fetch to the client that began it, while it is collected: that of status 200 with an announced length of 128 KiB
 /// or more, from its first octets on. Collecting never waits for the client: what it is behind is handed over at once when the answer is
 /// whole. An answer that does not become whole is cut for it.
@@ -116,10 +124,13 @@ impl Drop for Early {
         let Self {
             alloc: _,
             fetch: _,
-            gate: _,
-            offer: _,
-            reader: _,
+            gate,
+            offer,
+            reader,
         } = self;
+        drop(gate);
+        drop(offer);
+        drop(reader);
     }
 }
 
@@ -146,25 +157,6 @@ impl Early {
             fetch,
             gate,
             offer: None,
-            reader: None,
-        }
-    }
-
-    /// This, for an answer with this status, these fields, and a content of this length if that is known; nothing is left here. An answer
-    /// whose Connection fields name too many others is not given, nor is one where memory is short.
-    pub fn of_answer(&mut self, status: u16, fields: &HeaderMap, length: Option<u64>) -> Early {
-        let gate = self.gate.take();
-        let offer = match length {
-            Some(length) if gate.is_some() && status == 200 && FEWEST_OCTETS <= length => {
-                offer_of(self.alloc, fields, length)
-            }
-            _ => None,
-        };
-        Early {
-            alloc: self.alloc,
-            fetch: self.fetch,
-            gate,
-            offer,
             reader: None,
         }
     }
@@ -209,17 +201,37 @@ fn offer_of(alloc: Global, fields: &HeaderMap, length: u64) -> Option<Offer> {
     Some(Offer { fields, length })
 }
 
+impl Offers for Early {
+    fn of_answer(&mut self, status: u16, fields: &HeaderMap, length: Option<u64>) -> Early {
+        let gate = self.gate.take();
+        let offer = match length {
+            Some(length) if gate.is_some() && status == 200 && FEWEST_OCTETS <= length => {
+                offer_of(self.alloc, fields, length)
+            }
+            _ => None,
+        };
+        Early {
+            alloc: self.alloc,
+            fetch: self.fetch,
+            gate,
+            offer,
+            reader: None,
+        }
+    }
+}
+
 impl Follow for Early {
     fn follow(&mut self, cx: &mut Context<'_>, octets: &[u8]) {
         if self.offer.is_some() && !octets.is_empty() {
-            self.reader = self.begin();
+            let reader = self.begin();
+            put(&mut self.reader, reader);
         }
         let reads_on = match &mut self.reader {
             Some(reader) => reader.hand_over(self.alloc, cx, octets),
             None => return,
         };
         if !reads_on {
-            self.reader = None;
+            put(&mut self.reader, None);
         }
     }
 

@@ -3,34 +3,20 @@ ghost use Rattle.std.specs.Prelude.{◌≡◌, IfOk, IfSome};
 ghost use Rattle.futures.specs.Poll.{IfReady, OnPending};
 ghost use Rattle.futures.specs.Task.{Covers, Keeps};
 
-use crate::budget::{Budget, Share};
-use crate::early::{Early, Offered};
+use crate::dialing::Connect;
 use crate::fetching::put;
 use crate::kept::Kept;
-use crate::moves::{Moves, Noted, Patience};
-use crate::reply::{Read, Reply};
-use bytes::Bytes;
+use crate::moves::{Moves, Noted, Patience, Stillness};
+use crate::reply::{Answer, Reply};
 use futures::Future;
-use futures::channel::mpsc::UnboundedSender;
 use futures::task::{Context, Poll};
-use http_body::Body;
-use http_body_util::Empty;
-use http_content::{Content, Gathered, add_fields};
-use http_rules::{lasts, may_retry};
+use http_rules::may_retry;
 use http_traffic::{FetchFault, Page};
-use hyper::body::Incoming;
-use hyper::client::conn::http1;
-use hyper::client::conn::http1::{Parts, WithoutShutdown};
-use hyper::{HeaderMap, Request, header};
-use paced_stream::{FETCH_TURN, Paced};
+use hyper::client::conn::http1::Parts;
+use paced_stream::Paced;
 use std::alloc::Global;
-use std::io;
 use std::net::SocketAddr;
-use std::sync::{Arc, Wait};
-use std::time::{Clock, Duration};
-use tokio::net::{ConnectFuture, TcpStream};
-use tokio::time::error::Elapsed;
-use tokio::time::{Handle, Timeout};
+use std::time::Clock;
 
 /// A page, and the share of the budget that its body takes.
 pub struct Paid<P> {
@@ -46,11 +32,14 @@ pub struct Paid<P> {
 impl<P: Drop> Drop for Paid<P> {
     fn drop(self) {
         let Self {
-            page: _,
-            purse: _,
+            page,
+            purse,
             lasts: _,
-            socket: _,
+            socket,
         } = self;
+        drop(page);
+        drop(purse);
+        drop(socket);
     }
 }
 
@@ -98,7 +87,7 @@ pub trait Talk: Drop {
     type Talking: Future<Output = Result<Self::Page, FetchFault>>;
 
     /// Starts the exchange over a new connection. Returns `None` if the request cannot be made.
-    fn talk(&mut self, socket: TcpStream) -> Option<Self::Talking>
+    fn talk(&mut self, socket: Paced) -> Option<Self::Talking>
         ensures { IfSome result Self.Talking.can_poll };
 
     /// Starts the exchange over a connection to this server that was kept. Returns `None` if there is none, or if the request cannot be
@@ -114,27 +103,30 @@ pub trait Talk: Drop {
 }
 
 /// Connects, then runs the exchange.
-pub struct Call<T: Talk> {
+pub struct Call<C, T: Talk> {
     server: SocketAddr,
-    connecting: Option<Timeout<ConnectFuture>>,
+    connecting: Option<C>,
     talk: T,
     talking: Option<T::Talking>,
 }
 
-impl<T: Talk> Drop for Call<T> {
+impl<C: Drop, T: Talk> Drop for Call<C, T> {
     fn drop(self) {
         let Self {
             server: _,
-            connecting: _,
-            talk: _,
-            talking: _,
+            connecting,
+            talk,
+            talking,
         } = self;
+        drop(connecting);
+        drop(talk);
+        drop(talking);
     }
 }
 
-impl<T: Talk> Call<T> {
+impl<C: Connect, T: Talk> Call<C, T> {
     /// A call to this server over this connection attempt; `None` fails, as out of memory.
-    pub fn new(server: SocketAddr, connecting: Option<Timeout<ConnectFuture>>, talk: T) -> Call<T>
+    pub fn new(server: SocketAddr, connecting: Option<C>, talk: T) -> Call<C, T>
         ensures { IfSome result.talking T.Talking.can_poll }
     {
         Call {
@@ -146,7 +138,7 @@ impl<T: Talk> Call<T> {
     }
 
     /// A call to this server that has begun, over a connection that was kept. Errors: the exchange, if that cannot be.
-    pub fn over_kept(server: SocketAddr, talk: T) -> Result<Call<T>, T>
+    pub fn over_kept(server: SocketAddr, talk: T) -> Result<Call<C, T>, T>
         ensures { IfOk result (λ c. IfSome c.talking T.Talking.can_poll) }
     {
         let mut talk = talk;
@@ -157,7 +149,7 @@ impl<T: Talk> Call<T> {
     }
 
     // A call to this server that has begun, over a connection that was kept.
-    fn resumed(server: SocketAddr, talk: T, talking: T::Talking) -> Call<T>
+    fn resumed(server: SocketAddr, talk: T, talking: T::Talking) -> Call<C, T>
         requires { T.Talking.can_poll talking }
         ensures { IfSome result.talking T.Talking.can_poll }
     {
@@ -179,39 +171,42 @@ impl<T: Talk> Call<T> {
         let Some(connecting) = &mut self.connecting else {
             return Poll::Ready(Err(FetchFault::NoMemory));
         };
-        match connecting.poll(cx) {
+        match connecting.poll_connected(cx) {
             Poll::Ready(connected) => Poll::Ready(self.begin(connected)),
             Poll::Pending => Poll::Pending,
         }
     }
 
     // Begins the exchange over this connection. Errors: there is none.
-    fn begin(&mut self, connected: Result<io::Result<TcpStream>, Elapsed>) -> Result<(), FetchFault>
+    fn begin(&mut self, connected: Result<Paced, FetchFault>) -> Result<(), FetchFault>
         ensures { IfOk result (λ _. IfSome self.new.talking T.Talking.can_poll) }
     {
         match connected {
-            Ok(Ok(socket)) => {
-                self.talking = self.talk.talk(socket);
+            Ok(socket) => {
+                let talking = self.talk.talk(socket);
+                put(&mut self.talking, talking);
                 Ok(())
             }
-            failed => {
-                drop(failed);
-                Err(FetchFault::Connect)
-            }
+            Err(fault) => Err(fault),
         }
     }
 
-    /// The server of this call, which has failed, and its exchange, to be started once more.
-    pub fn into_talk(self) -> (SocketAddr, T) {
+    /// The server of this call.
+    pub fn server(&self) -> SocketAddr {
+        self.server
+    }
+
+    /// The exchange of this call, which has failed, to be started once more.
+    pub fn into_talk(self) -> T {
         let Call {
-            server,
+            server: _server,
             connecting,
             talk,
             talking,
         } = self;
         drop(connecting);
         drop(talking);
-        (server, talk)
+        talk
     }
 
     /// Whether this call, which has failed so, may be made once more.
@@ -227,7 +222,7 @@ impl<T: Talk> Call<T> {
     }
 }
 
-impl<T: Talk> Future for Call<T> {
+impl<C: Connect, T: Talk> Future for Call<C, T> {
     type Output = Result<T::Page, FetchFault>;
 
     ghost can_poll = { λ c. IfSome c.talking T.Talking.can_poll };
@@ -247,186 +242,133 @@ impl<T: Talk> Future for Call<T> {
     }
 }
 
-/// A GET request for one page.
-pub struct Get<R: Wait + Copy> {
-    pub rt: R,
-    pub alloc: Global,
-    pub http: http1::Builder,
+/// What a GET request asks for.
+pub struct Asked {
+    /// The value of its Host field.
     pub host: String,
     pub target: String,
+    /// Its other fields.
     pub fields: Vec<(Vec<u8>, Vec<u8>)>,
-    /// The most octets of the body.
-    pub limit: usize,
-    /// How many of them need not be paid for.
-    pub free: usize,
-    /// How long its connection may be without an octet, if that is limited.
-    pub idle: Option<Duration>,
-    /// None if out of memory, and where nothing is limited.
-    pub timers: Option<Handle>,
-    /// What pays for the body. None if out of memory.
-    pub budget: Option<Arc<Budget>>,
-    /// Where its connection is kept. None where none is.
-    pub kept: Option<Kept<R>>,
-    /// What is noted of the connection that was kept and that the exchange has begun on.
-    pub used: Option<Moves>,
-    /// The number of the fetch.
-    pub fetch: u32,
-    /// Where the answer is offered to the client that began the fetch, while it is collected. None where no client may have it.
-    pub gate: Option<UnboundedSender<Offered>>,
 }
 
-impl<R: Wait + Copy> Drop for Get<R> {
+impl Drop for Asked {
     fn drop(self) {
         let Self {
-            rt: _,
-            alloc: _,
-            http: _,
             host: _,
             target: _,
             fields: _,
-            limit: _,
-            free: _,
-            idle: _,
-            timers: _,
-            budget: _,
-            kept: _,
-            used: _,
-            fetch: _,
-            gate: _,
         } = self;
     }
 }
 
-impl<R: Wait + Copy> Get<R> {
-    // The request to be sent. Returns `None` if a part of it is no valid HTTP, or if out of memory.
-    fn request(&self) -> Option<Request<Empty<Bytes>>> {
-        let mut request = Request::get(self.alloc, self.target.as_str())
-            .header(header::HOST, self.host.as_str())
-            .body(Empty::<Bytes>::new())
-            .ok()?;
-        match add_fields(self.alloc, request.headers_mut(), self.fields.as_slice()) {
-            Some(()) => Some(request),
-            None => {
-                drop(request);
-                None
+impl Asked {
+    // Whether one of its fields is Authorization.
+    fn has_credentials(&self) -> bool {
+        for (name, _) in self.fields.as_slice() {
+            if name.as_slice() == b"authorization".as_slice() {
+                return true;
             }
         }
+        false
+    }
+
+    // Takes the value of its Host field out.
+    fn take_host(&mut self, alloc: Global) -> String {
+        std::mem::replace(&mut self.host, String::new(alloc))
     }
 }
 
-impl<R: Wait + Copy> Get<R> {
+/// Sends the request of a fetch over a connection. What makes fetches is generic over this, since what the library asks of the types of a
+/// connection is laid out anew for the prover by each function that names them, and not behind a type parameter (docs/GATE.md).
+pub trait Ask: Drop {
+    /// What the content of the answer is paid for with.
+    type Purse: Drop;
+
+    /// Brings the answer.
+    type Answer: Answer<Purse = Self::Purse>;
+
+    /// The connection, which gives what is left of it.
+    type Connection: Future<Output = hyper::Result<Parts<Noted>>>;
+
+    /// Sends the request. What pays for the answer's content notes that in `moves`. Returns `None` if a part of the request is no valid
+    /// HTTP, or if out of memory.
+    fn ask(
+        &self,
+        noted: Noted,
+        asked: &Asked,
+        moves: &Moves,
+    ) -> Option<(Self::Answer, Self::Connection)>
+        ensures { IfSome result (λ ends. Self.Connection.can_poll ends.1) };
+}
+
+/// A GET request for one page, which `X` sends.
+pub struct Get<R, X> {
+    pub alloc: Global,
+    pub http: X,
+    pub asked: Asked,
+    /// How long its connection may be without an octet.
+    pub stillness: Stillness<R>,
+    /// Where its connection is kept. None where none is.
+    pub kept: Option<Kept<R>>,
+    /// What is noted of the connection that was kept and that the exchange has begun on.
+    pub used: Option<Moves>,
+}
+
+impl<R: Drop, X: Drop> Drop for Get<R, X> {
+    fn drop(self) {
+        let Self {
+            alloc: _,
+            http,
+            asked,
+            stillness,
+            kept,
+            used,
+        } = self;
+        drop(http);
+        drop(asked);
+        drop(stillness);
+        drop(kept);
+        drop(used);
+    }
+}
+
+impl<R: Clock + Copy, X: Ask> Get<R, X> {
     // Whether its connection may be kept: connections are, and the request has no credentials. There are servers that take those for
     // the credentials of all requests on their connection (RFC 9110, section 3.3), so that another client would be taken for this one.
     fn may_last(&self) -> bool {
-        self.kept.is_some() && !has_credentials(self.fields.as_slice())
-    }
-}
-
-// Whether one of these fields is Authorization.
-fn has_credentials(fields: &[(Vec<u8>, Vec<u8>)]) -> bool {
-    for (name, _) in fields {
-        if name.as_slice() == b"authorization".as_slice() {
-            return true;
-        }
-    }
-    false
-}
-
-impl<R: Wait + Clock + Copy> Get<R> {
-    // The patience with a connection whose octets are noted here, if it is limited.
-    fn patience(&self, moves: &Moves) -> Option<Patience<R>> {
-        let still = self.idle?;
-        let moves = moves.share().ok();
-        Some(Patience::new(self.rt, self.timers(), moves, still))
-    }
-
-    // The timers of its patience. Returns `None` if out of memory.
-    fn timers(&self) -> Option<Handle> {
-        match &self.timers {
-            Some(timers) => timers.clone().ok(),
-            None => None,
-        }
-    }
-
-    // What pays for the body. Returns `None` if out of memory.
-    fn share(&self, moves: &Moves) -> Option<Share<R>> {
-        match &self.budget {
-            Some(budget) => Some(
-                Share::new(self.rt, self.alloc, budget)
-                    .ok()?
-                    .told(moves.share().ok()?),
-            ),
-            None => None,
-        }
-    }
-
-    // What gives the answer to the client that began the fetch. Where there are too many handles, no client has it.
-    fn early(&self) -> Early {
-        let gate = match &self.gate {
-            Some(gate) => gate.clone().ok(),
-            None => None,
-        };
-        Early::new(self.alloc, gate, self.fetch)
-    }
-
-    // What reads the body.
-    fn metered(&self, moves: &Moves) -> Metered<R> {
-        Metered {
-            alloc: self.alloc,
-            limit: self.limit,
-            free: self.free,
-            share: self.share(moves),
-            early: self.early(),
-        }
+        self.kept.is_some() && !self.asked.has_credentials()
     }
 
     // A connection to this server that was kept.
     fn kept_one(&self, server: SocketAddr) -> Option<Paced> {
         match &self.kept {
-            Some(kept) => kept.take(server, self.host.as_str()),
+            Some(kept) => kept.take(server, self.asked.host.as_str()),
             None => None,
         }
     }
 
     // Starts the exchange over this connection. Returns `None` if the request cannot be made.
-    fn begin(&self, noted: Noted, moves: &Moves) -> Option<Patient<R, Getting<R>>>
-        ensures { IfSome result ⟦<Patient<R, Getting<R>> as Future>⟧.can_poll }
+    fn begin(&self, noted: Noted, moves: &Moves) -> Option<Borne<R, X::Answer, X::Connection>>
+        ensures { IfSome result (λ b. IfSome b.conn X.Connection.can_poll) }
     {
-        let getting = self.getting(noted, moves)?;
-        Some(Patient::new(getting, self.patience(moves)))
-    }
-
-    // As `begin`, without its patience.
-    fn getting(&self, noted: Noted, moves: &Moves) -> Option<Getting<R>>
-        ensures { IfSome result ⟦<Getting<R> as Future>⟧.can_poll }
-    {
-        match self.request() {
-            Some(request) => {
-                let metered = self.metered(moves);
-                begun(&self.http, noted, request, metered, self.may_last())
-            }
-            None => {
-                drop(noted);
-                None
-            }
-        }
+        let (answer, conn) = self.http.ask(noted, &self.asked, moves)?;
+        let reply = Reply::new(self.alloc, answer, self.may_last());
+        Some(Borne::new(reply, conn, self.stillness.patience(moves)))
     }
 }
 
-impl<R: Wait + Clock + Copy> Talk for Get<R> {
-    type Page = Paid<Share<R>>;
+impl<R: Clock + Copy, P: Drop, X: Ask<Purse = P>> Talk for Get<R, X> {
+    type Page = Paid<P>;
 
-    type Talking = Patient<R, Getting<R>>;
+    type Talking = Borne<R, X::Answer, X::Connection>;
 
-    fn talk(&mut self, socket: TcpStream) -> Option<Self::Talking> {
-        let _ = socket.set_nodelay(true);
-        self.used = None;
+    fn talk(&mut self, socket: Paced) -> Option<Self::Talking> {
+        put(&mut self.used, None);
         let Some((moves, other)) = Moves::pair(self.alloc) else {
             drop(socket);
             return None;
         };
-        let noted = Noted::new(Paced::new(socket, FETCH_TURN), other);
-        self.begin(noted, &moves)
+        self.begin(Noted::new(socket, other), &moves)
     }
 
     fn resume(&mut self, server: SocketAddr) -> Option<Self::Talking> {
@@ -435,9 +377,9 @@ impl<R: Wait + Clock + Copy> Talk for Get<R> {
             drop(socket);
             return None;
         };
-        let getting = self.begin(Noted::used(socket, other), &moves);
-        self.used = Some(moves);
-        getting
+        let begun = self.begin(Noted::used(socket, other), &moves);
+        put(&mut self.used, Some(moves));
+        begun
     }
 
     fn may_retry(&self, fault: FetchFault) -> bool {
@@ -447,112 +389,83 @@ impl<R: Wait + Clock + Copy> Talk for Get<R> {
         }
     }
 
-    fn keep(&mut self, server: SocketAddr, page: &mut Paid<Share<R>>) {
+    fn keep(&mut self, server: SocketAddr, page: &mut Paid<P>) {
         if let Some(kept) = &self.kept
             && let Some(socket) = page.socket.take()
         {
-            let host = std::mem::replace(&mut self.host, String::new(self.alloc));
+            let host = self.asked.take_host(self.alloc);
             kept.keep(server, host, socket);
         }
     }
 }
 
-/// The exchange of a fetch, its reply beside its connection. A type of its own, since its parts have large ones that are elaborated anew
-/// wherever they are named.
-pub struct Getting<R: Wait + Copy> {
-    exchange: Borne<Reply<Metered<R>>, WithoutShutdown<Noted, Empty<Bytes>>>,
-}
-
-impl<R: Wait + Copy> Drop for Getting<R> {
-    fn drop(self) {
-        let Self { exchange: _ } = self;
-    }
-}
-
-impl<R: Wait + Copy> Future for Getting<R> {
-    type Output = Result<Paid<Share<R>>, FetchFault>;
-
-    ghost can_poll = { λ g. ⟦<Borne<Reply<Metered<R>>, WithoutShutdown<Noted, Empty<Bytes>>> as Future>⟧.can_poll g.exchange };
-
-    fn poll(&mut self, cx: &mut Context<'_>) -> Poll<Result<Paid<Share<R>>, FetchFault>> {
-        self.exchange.poll(cx)
-    }
-}
-
-// Begins an exchange over this connection. Returns `None` if out of memory.
-fn begun<R: Wait + Copy>(
-    http: &http1::Builder,
-    noted: Noted,
-    request: Request<Empty<Bytes>>,
-    metered: Metered<R>,
-    may_last: bool,
-) -> Option<Getting<R>>
-    ensures { IfSome result ⟦<Getting<R> as Future>⟧.can_poll }
-{
-    match http.handshake(noted) {
-        Ok((sender, conn)) => {
-            let mut sender = sender;
-            let answer = sender.send_request(request);
-            drop(sender);
-            let reply = Reply::new(metered.alloc, answer, metered, may_last);
-            let exchange = Borne::new(reply, conn.without_shutdown());
-            Some(Getting { exchange })
-        }
-        Err(error) => {
-            drop(error);
-            drop(metered);
-            drop(request);
-            None
-        }
-    }
-}
-
-/// A reply beside the connection that brings it, which is given back with the page once nothing of it is left unread.
-pub struct Borne<A, B> {
-    reply: A,
-    conn: Option<B>,
+/// A reply beside the connection that brings it, which is given back with the page once nothing of it is left unread. Ends with a fault
+/// where nothing has moved on the connection for too long.
+pub struct Borne<R, A, C> {
+    reply: Reply<A>,
+    conn: Option<C>,
     // What is left of the connection, once it has ended.
     left: Option<Parts<Noted>>,
+    // None if that is not limited.
+    patience: Option<Patience<R>>,
 }
 
-impl<A: Drop, B: Drop> Drop for Borne<A, B> {
+impl<R: Drop, A: Drop, C: Drop> Drop for Borne<R, A, C> {
     fn drop(self) {
-        let Self { reply, conn, left } = self;
+        let Self {
+            reply,
+            conn,
+            left,
+            patience,
+        } = self;
         drop(reply);
         drop(conn);
         drop(left);
+        drop(patience);
     }
 }
 
-impl<A: Future, B: Future> Borne<A, B> {
-    /// Both, of which neither has ended.
-    pub fn new(reply: A, conn: B) -> Borne<A, B>
-        requires reply { A.can_poll reply }
-        requires conn { B.can_poll conn }
-        ensures { A.can_poll result.reply × IfSome result.conn B.can_poll }
+impl<R: Drop, A: Drop, C: Future> Borne<R, A, C> {
+    /// Both, of which neither has ended, with this patience.
+    pub fn new(reply: Reply<A>, conn: C, patience: Option<Patience<R>>) -> Borne<R, A, C>
+        requires { C.can_poll conn }
+        ensures { IfSome result.conn C.can_poll }
     {
         Borne {
             reply,
             conn: Some(conn),
             left: None,
+            patience,
         }
     }
 }
 
-impl<A: Drop, B: Future<Output = hyper::Result<Parts<Noted>>>> Borne<A, B> {
+impl<R: Drop, A: Drop, C: Future<Output = hyper::Result<Parts<Noted>>>> Borne<R, A, C> {
     // Polls the connection, and keeps what is left of it once it has ended.
     fn poll_conn(&mut self, cx: &mut Context<'_>)
-        requires { IfSome self.old.conn B.can_poll }
-        ensures conn { IfSome self.new.conn B.can_poll }
-        ensures same { self.new.reply ≡ self.old.reply }
+        requires { IfSome self.old.conn C.can_poll }
+        ensures conn { IfSome self.new.conn C.can_poll }
         ensures kept { Keeps cx.old cx.new }
     {
         let Some(conn) = &mut self.conn else {
             return;
         };
         if let Poll::Ready(ended) = conn.poll(cx) {
-            self.conn = None;
+            put(&mut self.conn, None);
             put(&mut self.left, ended.ok());
+        }
+    }
+}
+
+impl<R: Clock + Drop, A: Drop, C: Drop> Borne<R, A, C> {
+    // Whether nothing has moved for too long.
+    fn is_over(&mut self, cx: &mut Context<'_>) -> bool
+        ensures kept { Keeps cx.old cx.new }
+        ensures same { self.new.conn ≡ self.old.conn }
+    {
+        match &mut self.patience {
+            Some(patience) => patience.is_over(cx),
+            None => false,
         }
     }
 }
@@ -571,113 +484,23 @@ fn unspent(left: Option<Parts<Noted>>) -> Option<Paced> {
 }
 
 impl<
+    R: Clock + Drop,
     P: Drop,
-    A: Future<Output = Result<Paid<P>, FetchFault>>,
-    B: Future<Output = hyper::Result<Parts<Noted>>>,
-> Future for Borne<A, B> {
+    A: Answer<Purse = P>,
+    C: Future<Output = hyper::Result<Parts<Noted>>>,
+> Future for Borne<R, A, C> {
     type Output = Result<Paid<P>, FetchFault>;
 
-    ghost can_poll = { λ b. A.can_poll b.reply × IfSome b.conn B.can_poll };
+    ghost can_poll = { λ b. IfSome b.conn C.can_poll };
 
     fn poll(&mut self, cx: &mut Context<'_>) -> Poll<Result<Paid<P>, FetchFault>> {
         self.poll_conn(cx);
         match self.reply.poll(cx) {
             Poll::Ready(Ok(paid)) => Poll::Ready(Ok(paid.with(unspent(self.left.take())))),
             Poll::Ready(Err(fault)) => Poll::Ready(Err(fault)),
-            Poll::Pending => Poll::Pending,
-        }
-    }
-}
-
-/// Ends an exchange with a fault where nothing has moved on its connection for too long.
-pub struct Patient<R, F> {
-    exchange: F,
-    // None if that is not limited.
-    patience: Option<Patience<R>>,
-}
-
-impl<R: Drop, F: Drop> Drop for Patient<R, F> {
-    fn drop(self) {
-        let Self {
-            exchange: _,
-            patience: _,
-        } = self;
-    }
-}
-
-impl<R: Clock + Drop, F: Future> Patient<R, F> {
-    /// This exchange, with this patience.
-    pub fn new(exchange: F, patience: Option<Patience<R>>) -> Patient<R, F>
-        requires { F.can_poll exchange }
-        ensures { F.can_poll result.exchange }
-    {
-        Patient { exchange, patience }
-    }
-
-    // Whether nothing has moved for too long.
-    fn is_over(&mut self, cx: &mut Context<'_>) -> bool
-        ensures kept { Keeps cx.old cx.new }
-        ensures same { self.new.exchange ≡ self.old.exchange }
-    {
-        match &mut self.patience {
-            Some(patience) => patience.is_over(cx),
-            None => false,
-        }
-    }
-}
-
-impl<R: Clock + Drop, P: Drop, F: Future<Output = Result<P, FetchFault>>> Future for Patient<R, F> {
-    type Output = Result<P, FetchFault>;
-
-    ghost can_poll = { λ p. F.can_poll p.exchange };
-
-    fn poll(&mut self, cx: &mut Context<'_>) -> Poll<Result<P, FetchFault>> {
-        match self.exchange.poll(cx) {
-            Poll::Ready(ended) => Poll::Ready(ended),
             Poll::Pending if self.is_over(cx) => Poll::Ready(Err(FetchFault::Time)),
             Poll::Pending => Poll::Pending,
         }
-    }
-}
-
-/// Reads one body of at most `limit` octets. The share pays for what is beyond the first `free`.
-pub struct Metered<R: Wait + Copy> {
-    alloc: Global,
-    limit: usize,
-    free: usize,
-    share: Option<Share<R>>,
-    early: Early,
-}
-
-impl<R: Wait + Copy> Drop for Metered<R> {
-    fn drop(self) {
-        let Self {
-            alloc: _,
-            limit: _,
-            free: _,
-            share: _,
-            early: _,
-        } = self;
-    }
-}
-
-impl<R: Wait + Copy> Read for Metered<R> {
-    type Body = Incoming<Noted>;
-
-    type Content = Content<Share<R>>;
-
-    type Reading = Gathered<Incoming<Noted>, Share<R>, Early>;
-
-    fn read(
-        &mut self,
-        status: u16,
-        fields: &HeaderMap,
-        body: Incoming<Noted>,
-    ) -> Gathered<Incoming<Noted>, Share<R>, Early> {
-        let length = body.size_hint().exact();
-        let early = self.early.of_answer(status, fields, length);
-        let share = self.share.take();
-        Gathered::new(self.alloc, body, self.limit, self.free, share, early)
     }
 }
 
@@ -689,7 +512,9 @@ pub struct Beside<A, B> {
 
 impl<A: Drop, B: Drop> Drop for Beside<A, B> {
     fn drop(self) {
-        let Self { first: _, other: _ } = self;
+        let Self { first, other } = self;
+        drop(first);
+        drop(other);
     }
 }
 
@@ -719,7 +544,7 @@ impl<A: Drop, T: Drop, B: Future<Output = T>> Beside<A, B> {
             return;
         };
         if other.poll(cx).is_ready() {
-            self.other = None;
+            put(&mut self.other, None);
         }
     }
 }

@@ -1,36 +1,37 @@
 //! Fetches from origin servers and neighbours, many concurrently on one thread.
-ghost use Rattle.std.specs.Prelude.{◌≡◌, ◌<◌, IfSome, box_value, true};
-ghost use Rattle.futures.specs.Poll.{OnPending};
-ghost use Rattle.futures.specs.Task.{Covers, Keeps};
+ghost use Rattle.std.specs.Prelude.{◌≡◌, ◌<◌, IfSome, box_value};
+ghost use Rattle.futures.specs.Task.{Keeps};
+ghost use Rattle.futures.specs.declared.future.either.Either.TheVariants.{Left, Right};
 ghost use Rattle.tokio.specs.Timers.{timeout_future};
 
 use crate::budget::{Budget, Share};
-use crate::early::{Doorman, Offered, gate};
-use crate::exchange::{Beside, Call, Get, Getting, Paid, Patient, Talk};
+use crate::dialing::{Dial, Dialer};
+use crate::early::{Doorman, Early, Offered, gate};
+use crate::exchange::{Asked, Get, Paid, Talk};
 use crate::kept::{Keeper, Kept};
-use crate::moves::Noted;
-use crate::passing::{Answering, Pass, Plan, Post, Sent};
+use crate::moves::{Moves, Stillness};
+use crate::passing::{Pass, Plan, Post, Sent, Watch, Watching, plan_of};
+use crate::speaking::{Asker, Deliverer, Meter, Metered};
+use crate::visit::{Visit, Visited};
 use fetch_chain::{Begin, Submit, Tend};
+use futures::Future;
 use futures::channel::mpsc::{UnboundedReceiver, UnboundedSender};
 use futures::channel::oneshot;
 use futures::future::Either;
 use futures::task::{Context, Poll};
-use futures::{Future, ready};
-use http_traffic::{
-    Addresses, Admit, FetchEnd, FetchFault, Fetched, Job, Order, Passage, Server, Work,
-};
+use http_traffic::{Admit, FetchEnd, FetchFault, Fetched, Job, Order, Passage, Server, Work};
+use hyper::Request;
 use hyper::client::conn::http1;
-use hyper::client::conn::http1::Connection;
 use std::alloc::{AllocGlobal, Global};
 use std::hash::RandomState;
 use std::io;
-use std::net::{Net, SocketAddr};
+use std::net::Net;
 use std::random::RandomSource;
 use std::rc::Rc;
 use std::sync::{Arc, Wait};
 use std::time::{Clock, Duration, Instant};
-use tokio::net::{ConnectFuture, TcpStream};
 use tokio::runtime::{Handle, LocalRuntime};
+use tokio::time;
 use tokio::time::Timeout;
 use tokio::time::error::Elapsed;
 
@@ -72,7 +73,176 @@ impl<A: Drop> Drop for FetchRules<A> {
     }
 }
 
-// Starts fetches.
+/// A value in a box, so that what has it is small where it is moved and cleared. Returns `None` if out of memory.
+pub(crate) fn boxed<T: Drop>(alloc: Global, value: T) -> Option<Box<T>>
+    ensures { IfSome result (λ b. box_value b ≡ value) }
+{
+    Box::new(alloc, value).ok()
+}
+
+/// Puts a value in the place of another, which is let go of by a call: an assignment would lay out its parts for the prover.
+pub(crate) fn put<T: Drop>(place: &mut T, value: T)
+    ensures { place.new ≡ value }
+{
+    *place = value;
+}
+
+// A future with the time that it has. Returns `None` if out of memory. Of the future no more is known here than that it can be dropped: the parts of
+// a visit are elaborated anew wherever it is named.
+fn timed<F: Drop>(
+    timers: &time::Handle,
+    alloc: Global,
+    deadline: Instant,
+    future: F,
+) -> Option<Box<Timeout<F>>>
+    ensures { IfSome result (λ b. timeout_future (box_value b) ≡ future) }
+{
+    match timers.timeout_at(deadline, future) {
+        Ok(timed) => boxed(alloc, timed),
+        Err(_) => None,
+    }
+}
+
+// Makes what jobs are done with. What starts jobs is generic over this, and with it over each of these types: the prover does not look
+// behind a type parameter, and lays out what is in a connection anew for each function that names it (docs/GATE.md).
+trait Means: Drop {
+    // Connects to servers.
+    type Dialer: Dial;
+
+    // What the content of a page is paid for with.
+    type Purse: Drop;
+
+    // The exchange of a fetch.
+    type Get: Talk<Page = Paid<Self::Purse>>;
+
+    // The exchange of a request that is passed on.
+    type Post: Talk<Page = ()>;
+
+    // Watches over that.
+    type Watch: Watch;
+
+    // What connects one job. Returns `None` if out of memory.
+    fn dialer(&self, is_origin: bool) -> Option<Self::Dialer>;
+
+    // The exchange of this fetch. The client that began it may have the answer while it is collected if it is early.
+    fn get(&self, fetch: u32, asked: Asked, is_early: bool) -> Self::Get;
+
+    // How this request is passed on.
+    fn plan(&self, passage: Passage) -> Plan<Self::Watch, Self::Post>;
+
+    // The timers of the thread.
+    fn timers(&self) -> &time::Handle;
+}
+
+// Starts jobs.
+struct Starter<M> {
+    alloc: Global,
+    means: M,
+}
+
+impl<M: Drop> Drop for Starter<M> {
+    fn drop(self) {
+        let Self { alloc: _, means: _ } = self;
+    }
+}
+
+impl<M: Means> Begin for Starter<M> {
+    type Job = Job;
+
+    type Done = Done<M::Purse>;
+
+    type Running = Doing<M::Watch, M::Dialer, M::Get, M::Post>;
+
+    fn begin(&mut self, job: Job) -> Doing<M::Watch, M::Dialer, M::Get, M::Post> {
+        let Job { server, work } = job;
+        match work {
+            Work::Fetch(order) => Doing {
+                doing: Either::Left(self.fetch(server, order)),
+            },
+            Work::Pass(passage) => Doing {
+                doing: Either::Right(self.pass(server, passage)),
+            },
+        }
+    }
+}
+
+impl<M: Means> Starter<M> {
+    // Begins a fetch from this server.
+    fn fetch(&self, server: Server, order: Order) -> Fetch<M::Dialer, M::Get>
+        ensures { IfSome result.visit (λ t. IfSome (timeout_future (box_value t)).call (λ c. IfSome c.talking M.Get.Talking.can_poll)) }
+    {
+        let Order {
+            fetch,
+            attempt,
+            host,
+            target,
+            fields,
+            is_origin,
+            is_early,
+            deadline,
+            wanted,
+        } = order;
+        let asked = Asked {
+            host,
+            target,
+            fields,
+        };
+        let get = self.means.get(fetch, asked, is_early);
+        let visit = Visit::new(server, self.means.dialer(is_origin), get);
+        Fetch {
+            fetch,
+            attempt,
+            wanted,
+            visit: timed(self.means.timers(), self.alloc, deadline, visit),
+        }
+    }
+
+    // Begins to pass on a request to this server.
+    fn pass(&self, server: Server, passage: Passage) -> Pass<M::Watch, M::Dialer, M::Post>
+        ensures { IfSome result.visit (λ v. IfSome (box_value v).call (λ c. IfSome c.talking M.Post.Talking.can_poll)) }
+    {
+        let dialer = self.means.dialer(passage.is_origin);
+        let plan = self.means.plan(passage);
+        Pass::new(self.alloc, server, dialer, plan)
+    }
+}
+
+// A job in progress.
+struct Doing<W, D: Dial, T: Talk, U: Talk> {
+    doing: Either<Fetch<D, T>, Pass<W, D, U>>,
+}
+
+impl<W: Drop, D: Dial, T: Talk, U: Talk> Drop for Doing<W, D, T, U> {
+    fn drop(self) {
+        let Self { doing } = self;
+        match doing {
+            Either::Left(fetch) => drop(fetch),
+            Either::Right(pass) => drop(pass),
+        }
+    }
+}
+
+impl<P: Drop, W: Watch, D: Dial, T: Talk<Page = Paid<P>>, U: Talk<Page = ()>> Future
+    for Doing<W, D, T, U> {
+    type Output = Done<P>;
+
+    ghost can_poll = { λ d. elim d.doing [
+      | Left f ↦ ⟦<Fetch<D, T> as Future>⟧.can_poll f
+      | Right p ↦ ⟦<Pass<W, D, U> as Future>⟧.can_poll p
+    ] };
+
+    fn poll(&mut self, cx: &mut Context<'_>) -> Poll<Done<P>> {
+        match &mut self.doing {
+            Either::Left(fetch) => fetch.poll(cx),
+            Either::Right(pass) => match pass.poll(cx) {
+                Poll::Ready(()) => Poll::Ready(ended()),
+                Poll::Pending => Poll::Pending,
+            },
+        }
+    }
+}
+
+// Has what fetches and passages are made with on one thread.
 struct Getter<R, A> {
     rt: R,
     alloc: Global,
@@ -89,151 +259,93 @@ struct Getter<R, A> {
 impl<R: Drop, A: Drop> Drop for Getter<R, A> {
     fn drop(self) {
         let Self {
-            rt: _,
+            rt,
             alloc: _,
-            handle: _,
+            handle,
             http: _,
             limits: _,
-            rules: _,
-            kept: _,
-            gate: _,
+            rules,
+            kept,
+            gate,
         } = self;
+        drop(rt);
+        drop(handle);
+        drop(rules);
+        drop(kept);
+        drop(gate);
+    }
+}
+
+impl<R: Wait + Net + Clock + Copy, A: Admit> Means for Getter<R, A> {
+    type Dialer = Dialer<R, A>;
+
+    type Purse = Share<R>;
+
+    type Get = Get<R, Asker<Allowance<R>>>;
+
+    type Post = Post<Deliverer, Request<Sent>>;
+
+    type Watch = Watching<R>;
+
+    fn dialer(&self, is_origin: bool) -> Option<Dialer<R, A>> {
+        let rules = self.rules.clone().ok()?;
+        match self.handle.clone() {
+            Ok(handle) => Some(Dialer {
+                rt: self.rt,
+                handle,
+                connecting: self.limits.connecting,
+                rules,
+                is_origin,
+            }),
+            Err(_) => {
+                drop(rules);
+                None
+            }
+        }
+    }
+
+    fn get(&self, fetch: u32, asked: Asked, is_early: bool) -> Get<R, Asker<Allowance<R>>> {
+        Get {
+            alloc: self.alloc,
+            http: Asker {
+                alloc: self.alloc,
+                http: self.http,
+                meter: self.allowance(fetch, is_early),
+            },
+            asked,
+            stillness: self.stillness(),
+            kept: self.kept(),
+            used: None,
+        }
+    }
+
+    fn plan(&self, passage: Passage) -> Plan<Watching<R>, Post<Deliverer, Request<Sent>>> {
+        let timers = self.handle.time().clone().ok();
+        plan_of(self.rt, self.alloc, self.http, timers, passage)
+    }
+
+    fn timers(&self) -> &time::Handle {
+        self.handle.time()
     }
 }
 
 impl<R: Copy, A: Drop> Getter<R, A> {
-    // What connects one fetch. Returns `None` if out of memory.
-    fn dialer(&self, is_origin: bool) -> Option<Dialer<R, A>> {
-        Some(Dialer {
-            rt: self.rt,
-            handle: self.handle.clone().ok()?,
-            connecting: self.limits.connecting,
-            rules: self.rules.clone().ok()?,
-            is_origin,
-        })
-    }
-}
-
-// A future with the time that it has. Returns `None` if out of memory. Of the future no more is known here than that it can be dropped: the parts of
-// a visit are elaborated anew wherever it is named.
-fn timed<F: Drop>(
-    handle: &Handle,
-    alloc: Global,
-    deadline: Instant,
-    future: F,
-) -> Option<Box<Timeout<F>>>
-    ensures { IfSome result (λ b. timeout_future (box_value b) ≡ future) }
-{
-    match handle.time().timeout_at(deadline, future) {
-        Ok(timed) => boxed(alloc, timed),
-        Err(_) => None,
-    }
-}
-
-/// A value in a box, so that what has it is small where it is moved and cleared. Returns `None` if out of memory.
-pub(crate) fn boxed<T: Drop>(alloc: Global, value: T) -> Option<Box<T>>
-    ensures { IfSome result (λ b. box_value b ≡ value) }
-{
-    Box::new(alloc, value).ok()
-}
-
-/// Puts a value in the place of another, which is let go of by a call: an assignment would lay out its parts for the prover.
-pub(crate) fn put<T: Drop>(place: &mut T, value: T)
-    ensures { place.new ≡ value }
-{
-    *place = value;
-}
-
-impl<R: Wait + Net + Clock + Copy, A: Admit> Begin for Getter<R, A> {
-    type Job = Job;
-
-    type Done = Done<Share<R>>;
-
-    type Running = Doing<R, A>;
-
-    fn begin(&mut self, job: Job) -> Doing<R, A> {
-        let Job { server, work } = job;
-        match work {
-            Work::Fetch(order) => Doing {
-                doing: Either::Left(self.fetch(server, order)),
-            },
-            Work::Pass(passage) => Doing {
-                doing: Either::Right(self.pass(server, passage)),
-            },
-        }
-    }
-}
-
-// A job in progress. A type of its own, since its parts have large ones that are elaborated anew wherever they are named.
-struct Doing<R: Wait + Clock + Copy, A: Admit> {
-    doing: Either<Fetch<R, A, Get<R>>, Pass<R, A, Post>>,
-}
-
-impl<R: Wait + Clock + Copy, A: Admit> Drop for Doing<R, A> {
-    fn drop(self) {
-        let Self { doing: _ } = self;
-    }
-}
-
-impl<R: Wait + Net + Clock + Copy, A: Admit> Future for Doing<R, A> {
-    type Output = Done<Share<R>>;
-
-    ghost can_poll = { λ d. ⟦<Either<Fetch<R, A, Get<R>>, Pass<R, A, Post>> as Future>⟧.can_poll d.doing };
-
-    fn poll(&mut self, cx: &mut Context<'_>) -> Poll<Done<Share<R>>> {
-        self.doing.poll(cx)
-    }
-}
-
-impl<R: Wait + Clock + Copy, A: Admit> Getter<R, A> {
-    // Begins a fetch from this server.
-    fn fetch(&self, server: Server, order: Order) -> Fetch<R, A, Get<R>>
-        ensures { IfSome result.visit (λ t. IfSome (timeout_future (box_value t)).call (λ c. IfSome c.talking ⟦<Patient<R, Getting<R>> as Future>⟧.can_poll)) }
-    {
-        let Order {
-            fetch,
-            attempt,
-            host,
-            target,
-            fields,
-            is_origin,
-            is_early,
-            deadline,
-            wanted,
-        } = order;
-        let gate = self.gate(is_early);
-        let get = self.get(fetch, host, target, fields, gate);
-        let visit = Visit::new(server, self.dialer(is_origin), get);
-        Fetch {
-            fetch,
-            attempt,
-            wanted,
-            visit: timed(&self.handle, self.alloc, deadline, visit),
-        }
-    }
-
-    // Begins to pass on a request to this server.
-    fn pass(&self, server: Server, passage: Passage) -> Pass<R, A, Post>
-        ensures { IfSome result.visit (λ v. IfSome (box_value v).call (λ c. IfSome c.talking ⟦<Beside<Answering, Connection<Noted, Sent>> as Future>⟧.can_poll)) }
-    {
-        let dialer = self.dialer(passage.is_origin);
-        let timers = self.handle.time().clone().ok();
-        let plan = Plan::new(self.rt, self.alloc, self.http, timers, passage);
-        Pass::new(self.alloc, server, dialer, plan)
-    }
-}
-
-impl<R: Wait + Copy, A: Drop> Getter<R, A> {
-    // The timers of a fetch's patience, if that is limited. `None` also if there are too many handles.
-    fn timers(&self) -> Option<tokio::time::Handle> {
-        match self.limits.idle {
+    // How long the connection of a fetch may be without an octet. It has no timers where that is not limited, and if there are too many
+    // handles.
+    fn stillness(&self) -> Stillness<R> {
+        let timers = match self.limits.idle {
             Some(_) => self.handle.time().clone().ok(),
             None => None,
+        };
+        Stillness {
+            rt: self.rt,
+            idle: self.limits.idle,
+            timers,
         }
     }
 
     // The timers of what looks after connections that are kept. `None` also if there are too many handles.
-    fn keep_timers(&self) -> Option<tokio::time::Handle> {
+    fn keep_timers(&self) -> Option<time::Handle> {
         match &self.kept {
             Some(_) => self.handle.time().clone().ok(),
             None => None,
@@ -257,328 +369,114 @@ impl<R: Wait + Copy, A: Drop> Getter<R, A> {
         }
     }
 
-    // The exchange of a fetch, whose answer is offered at this gate to the client that began it.
-    fn get(
-        &self,
-        fetch: u32,
-        host: String,
-        target: String,
-        fields: Vec<(Vec<u8>, Vec<u8>)>,
-        gate: Option<UnboundedSender<Offered>>,
-    ) -> Get<R> {
-        Get {
+    // What may be read of the answer of this fetch.
+    fn allowance(&self, fetch: u32, is_early: bool) -> Allowance<R> {
+        Allowance {
             rt: self.rt,
             alloc: self.alloc,
-            http: self.http,
-            host,
-            target,
-            fields,
             limit: self.limits.octets,
             free: self.limits.free,
-            idle: self.limits.idle,
-            timers: self.timers(),
             budget: Arc::try_clone(&self.rules.budget).ok(),
-            kept: self.kept(),
-            used: None,
             fetch,
-            gate,
+            gate: self.gate(is_early),
         }
     }
 }
 
-/// Connects to a server.
-pub struct Dialer<R, A> {
+// What may be read of the answer of a fetch, and who has it meanwhile.
+struct Allowance<R> {
     rt: R,
-    handle: Handle,
-    connecting: Duration,
-    rules: Rc<FetchRules<A>>,
-    is_origin: bool,
+    alloc: Global,
+    // The most octets of the content.
+    limit: usize,
+    // How many of them need not be paid for.
+    free: usize,
+    // What pays for the content. None if out of memory.
+    budget: Option<Arc<Budget>>,
+    // The number of the fetch.
+    fetch: u32,
+    // Where the answer is offered to the client that began the fetch, while it is collected. None where no client may have it.
+    gate: Option<UnboundedSender<Offered>>,
 }
 
-impl<R: Drop, A: Drop> Drop for Dialer<R, A> {
+impl<R: Drop> Drop for Allowance<R> {
     fn drop(self) {
         let Self {
-            rt: _,
-            handle: _,
-            connecting: _,
-            rules: _,
-            is_origin: _,
+            rt,
+            alloc: _,
+            limit: _,
+            free: _,
+            budget,
+            fetch: _,
+            gate,
         } = self;
+        drop(rt);
+        drop(budget);
+        drop(gate);
     }
 }
 
-impl<R: Drop, A: Admit> Dialer<R, A> {
-    // Whether this server may be connected to.
-    fn admits(&self, server: SocketAddr) -> bool {
-        !self.is_origin || self.rules.admit.admits(server)
-    }
-}
-
-impl<R: Net + Clock + Copy, A: Drop> Dialer<R, A> {
-    // Connects to this address, with a timeout. Returns `None` if out of memory.
-    fn connect(&self, server: SocketAddr) -> Option<Timeout<ConnectFuture>> {
-        let connecting = TcpStream::connect(&self.rt, server, self.handle.reactor());
-        let time = self.handle.time();
-        time.timeout(&self.rt, self.connecting, connecting).ok()
-    }
-}
-
-/// How a visit ended.
-#[derive(Drop)]
-pub enum Visited<P> {
-    /// With what the exchange brought.
-    Whole(P),
-    /// The server is not admitted.
-    Refused,
-    /// Without it.
-    Failed(FetchFault),
-}
-
-/// Waits for the addresses of the server, then makes the call. Where the server cannot be connected to at the first, the other has its
-/// turn.
-pub struct Visit<R, A, T: Talk> {
-    server: Server,
-    dialer: Option<Dialer<R, A>>,
-    talk: Option<T>,
-    // The address that has its turn where the server of the call is not connected to.
-    other: Option<SocketAddr>,
-    // The call, once it has begun.
-    call: Option<Call<T>>,
-}
-
-impl<R: Drop, A: Drop, T: Talk> Drop for Visit<R, A, T> {
-    fn drop(self) {
-        let Self {
-            server: _,
-            dialer: _,
-            talk: _,
-            other: _,
-            call: _,
-        } = self;
-    }
-}
-
-impl<R: Drop, A: Admit, T: Talk> Visit<R, A, T> {
-    /// A visit that has not begun; without a dialer it fails, as out of memory.
-    pub fn new(server: Server, dialer: Option<Dialer<R, A>>, talk: T) -> Visit<R, A, T>
-        ensures { IfSome result.call (λ c. IfSome c.talking T.Talking.can_poll) }
-    {
-        Visit {
-            server,
-            dialer,
-            talk: Some(talk),
-            other: None,
-            call: None,
+impl<R: Wait + Copy> Allowance<R> {
+    // What pays for the content. Returns `None` if out of memory.
+    fn share(&self, moves: &Moves) -> Option<Share<R>> {
+        match &self.budget {
+            Some(budget) => Some(
+                Share::new(self.rt, self.alloc, budget)
+                    .ok()?
+                    .told(moves.share().ok()?),
+            ),
+            None => None,
         }
     }
 
-    // Waits for the addresses of the server. `None` if its name has none.
-    fn poll_server(&mut self, cx: &mut Context<'_>) -> Poll<Option<Addresses>>
-        ensures same { self.new.call ≡ self.old.call }
-        ensures registered { OnPending result (Covers cx.new (λ _. ⊥)) }
-        ensures kept { Keeps cx.old cx.new }
-    {
-        match &mut self.server {
-            Server::At(server) => Poll::Ready(Some(Addresses::one(*server))),
-            Server::Sought(sought) => Poll::Ready(ready!(sought.poll(cx)).ok()),
-        }
-    }
-
-    // Those of these addresses that are not known to be refused. `None` if there is none.
-    fn admitted(&self, servers: Addresses) -> Option<Addresses> {
-        let Some(dialer) = &self.dialer else {
-            return Some(servers);
+    // What gives the answer to the client that began the fetch. Where there are too many handles, no client has it.
+    fn early(&self) -> Early {
+        let gate = match &self.gate {
+            Some(gate) => gate.clone().ok(),
+            None => None,
         };
-        let is_other = match servers.other {
-            Some(other) => dialer.admits(other),
-            None => false,
-        };
-        servers.admitted(dialer.admits(servers.first), is_other)
-    }
-
-    // Whether the call, which has failed so, may be made once more over a new connection.
-    fn may_retry(&self, fault: FetchFault) -> bool {
-        match &self.call {
-            Some(call) => call.may_retry(fault),
-            None => false,
-        }
-    }
-
-    // Whether the other address has its turn, after the call has failed so.
-    fn turns(&self, fault: FetchFault) -> bool {
-        fault == FetchFault::Connect && self.other.is_some()
+        Early::new(self.alloc, gate, self.fetch)
     }
 }
 
-impl<R: Net + Clock + Copy, A: Admit, T: Talk> Visit<R, A, T> {
-    // Makes the call to one of these addresses, if `call` gives one.
-    fn begin(&mut self, servers: Addresses)
-        ensures { IfSome self.new.call (λ c. IfSome c.talking T.Talking.can_poll) }
-    {
-        let call = self.call(servers);
-        put(&mut self.call, call);
-    }
+impl<R: Wait + Copy> Meter for Allowance<R> {
+    type Purse = Share<R>;
 
-    // The call to one of these addresses: over a connection to either that was kept, or to the first. Returns `None` if it has begun
-    // before, or if out of memory.
-    fn call(&mut self, servers: Addresses) -> Option<Call<T>>
-        ensures { IfSome result (λ c. IfSome c.talking T.Talking.can_poll) }
-    {
-        let Addresses { first, other } = servers;
-        if let Some(dialer) = &mut self.dialer {
-            dialer.connecting = servers.share(dialer.connecting);
+    type Follower = Early;
+
+    fn metered(&self, moves: &Moves) -> Metered<Share<R>, Early> {
+        Metered {
+            alloc: self.alloc,
+            limit: self.limit,
+            free: self.free,
+            purse: self.share(moves),
+            follower: self.early(),
         }
-        let talk = self.talk.take()?;
-        self.other = other;
-        match Call::over_kept(first, talk) {
-            Ok(call) => Some(call),
-            Err(talk) => self.call_second(first, other, talk),
-        }
-    }
-
-    // As `call`, where no connection to the first address was kept.
-    fn call_second(
-        &mut self,
-        first: SocketAddr,
-        other: Option<SocketAddr>,
-        talk: T,
-    ) -> Option<Call<T>>
-        ensures { IfSome result (λ c. IfSome c.talking T.Talking.can_poll) }
-    {
-        let Some(second) = other else {
-            return self.new_call(first, talk);
-        };
-        match Call::over_kept(second, talk) {
-            Ok(call) => {
-                self.other = Some(first);
-                Some(call)
-            }
-            Err(talk) => self.new_call(first, talk),
-        }
-    }
-
-    // The call to this address over a new connection. Returns `None` if out of memory.
-    fn new_call(&self, server: SocketAddr, talk: T) -> Option<Call<T>>
-        ensures { IfSome result (λ c. IfSome c.talking T.Talking.can_poll) }
-    {
-        match &self.dialer {
-            Some(dialer) => Some(Call::new(server, dialer.connect(server), talk)),
-            None => {
-                drop(talk);
-                None
-            }
-        }
-    }
-
-    // Makes the call, which has failed, once more over a new connection. It is gone if out of memory.
-    fn retry(&mut self)
-        ensures { IfSome self.new.call (λ c. IfSome c.talking T.Talking.can_poll) }
-    {
-        let Some(call) = self.call.take() else {
-            return;
-        };
-        let (server, talk) = call.into_talk();
-        let call = self.new_call(server, talk);
-        put(&mut self.call, call);
-    }
-
-    // Makes the call, whose server was not connected to, to the other address. It is gone if there is none, or if out of memory.
-    fn turn(&mut self)
-        ensures { IfSome self.new.call (λ c. IfSome c.talking T.Talking.can_poll) }
-    {
-        let Some(other) = self.other.take() else {
-            drop(self.call.take());
-            return;
-        };
-        let Some(call) = self.call.take() else {
-            return;
-        };
-        let (_, talk) = call.into_talk();
-        let call = self.new_call(other, talk);
-        put(&mut self.call, call);
-    }
-
-    // Polls the call, and makes it once more where it has failed and may be.
-    fn poll_call(&mut self, cx: &mut Context<'_>) -> Poll<Visited<T::Page>>
-        requires { IfSome self.old.call (λ c. IfSome c.talking T.Talking.can_poll) }
-        ensures again { OnPending result (IfSome self.new.call (λ c. IfSome c.talking T.Talking.can_poll)) }
-        ensures registered { OnPending result (Covers cx.new (λ _. ⊥)) }
-        ensures kept { Keeps cx.old cx.new }
-    {
-        let Some(call) = &mut self.call else {
-            return Poll::Ready(Visited::Failed(FetchFault::NoMemory));
-        };
-        match call.poll(cx) {
-            Poll::Ready(Ok(page)) => {
-                let mut page = page;
-                call.keep(&mut page);
-                Poll::Ready(Visited::Whole(page))
-            }
-            Poll::Ready(Err(fault)) => {
-                if self.makes_again(fault) {
-                    return cx.yield_now();
-                }
-                Poll::Ready(Visited::Failed(fault))
-            }
-            Poll::Pending => Poll::Pending,
-        }
-    }
-
-    // Makes the call, which has failed so, once more, if it may be. Returns whether it has.
-    fn makes_again(&mut self, fault: FetchFault) -> bool
-        ensures { result ≡ true → IfSome self.new.call (λ c. IfSome c.talking T.Talking.can_poll) }
-    {
-        if self.may_retry(fault) {
-            self.retry();
-            return true;
-        }
-        if self.turns(fault) {
-            self.turn();
-            return true;
-        }
-        false
-    }
-}
-
-impl<R: Net + Clock + Copy, A: Admit, T: Talk> Future for Visit<R, A, T> {
-    type Output = Visited<T::Page>;
-
-    ghost can_poll = { λ v. IfSome v.call (λ c. IfSome c.talking T.Talking.can_poll) };
-
-    fn poll(&mut self, cx: &mut Context<'_>) -> Poll<Visited<T::Page>> {
-        if self.call.is_none() {
-            let Some(servers) = ready!(self.poll_server(cx)) else {
-                return Poll::Ready(Visited::Failed(FetchFault::Lookup));
-            };
-            let Some(servers) = self.admitted(servers) else {
-                return Poll::Ready(Visited::Refused);
-            };
-            self.begin(servers);
-        }
-        self.poll_call(cx)
     }
 }
 
 // A fetch in progress.
-struct Fetch<R, A, T: Talk> {
+struct Fetch<D: Dial, T: Talk> {
     fetch: u32,
     attempt: u16,
     wanted: oneshot::Receiver<()>,
-    visit: Option<Box<Timeout<Visit<R, A, T>>>>,
+    visit: Option<Box<Timeout<Visit<D, T>>>>,
 }
 
-impl<R: Drop, A: Drop, T: Talk> Drop for Fetch<R, A, T> {
+impl<D: Dial, T: Talk> Drop for Fetch<D, T> {
     fn drop(self) {
         let Self {
             fetch: _,
             attempt: _,
-            wanted: _,
-            visit: _,
+            wanted,
+            visit,
         } = self;
+        drop(wanted);
+        drop(visit);
     }
 }
 
-impl<R: Net + Clock + Copy, A: Admit, P: Drop, T: Talk<Page = Paid<P>>> Future for Fetch<R, A, T> {
+impl<P: Drop, D: Dial, T: Talk<Page = Paid<P>>> Future for Fetch<D, T> {
     type Output = Done<P>;
 
     ghost can_poll = { λ f. IfSome f.visit (λ t. IfSome (timeout_future (box_value t)).call (λ c. IfSome c.talking T.Talking.can_poll)) };
@@ -597,7 +495,7 @@ impl<R: Net + Clock + Copy, A: Admit, P: Drop, T: Talk<Page = Paid<P>>> Future f
     }
 }
 
-impl<R: Drop, A: Drop, T: Talk> Fetch<R, A, T> {
+impl<D: Dial, T: Talk> Fetch<D, T> {
     // The result of the fetch, whose visit has ended so, or has had its time.
     fn ended<P: Drop>(&self, visited: Result<Visited<Paid<P>>, Elapsed>) -> Done<P> {
         match visited {
@@ -642,6 +540,14 @@ fn finished<P: Drop>(fetch: u32, attempt: u16, end: FetchEnd, purse: Option<P>) 
     Done { fetched, purse }
 }
 
+// The result of a request that was passed on: its client has it.
+fn ended<P: Drop>() -> Done<P> {
+    Done {
+        fetched: None,
+        purse: None,
+    }
+}
+
 // Passes on results. What a body takes of the budget is given back once its result has been taken.
 #[derive(Drop)]
 struct PassOn<'a, S> {
@@ -670,7 +576,7 @@ fn kept_of<R: Copy>(rt: R, alloc: Global, keep: Option<Duration>) -> io::Result<
     }
 }
 
-// What starts the fetches of a runtime, and what gives their answers to clients while they are collected. Errors: there are no random
+// What the fetches of a runtime are made with, and what gives their answers to clients while they are collected. Errors: there are no random
 // numbers, or out of memory.
 fn getter_of<R, A>(
     rt: R,
@@ -684,38 +590,64 @@ where
 {
     let alloc = rt.alloc();
     let rules = Rc::new(alloc, rules)?;
-    let (gate, doorman) = gate(alloc, &rules)?;
-    match getter_at(rt, alloc, runtime, rules, gate, limits) {
-        Ok(getter) => Ok((getter, doorman)),
+    match gate(alloc, &rules) {
+        Ok((gate, doorman)) => { getter_beside(rt, alloc, runtime, rules, gate, limits, doorman) }
         Err(error) => {
-            drop(doorman);
-            Err(error)
+            drop(rules);
+            Err(io::Error::from(error))
         }
     }
 }
 
-// What starts the fetches of a runtime by these rules, and offers their answers at this gate. Errors: as `getter_of`.
-fn getter_at<R: RandomSource + Copy, A: Drop>(
+// As `getter_of`, beside what gives the answers that are offered at this gate.
+fn getter_beside<R: RandomSource + Copy, A: Drop>(
     rt: R,
     alloc: Global,
     runtime: &LocalRuntime,
     rules: Rc<FetchRules<A>>,
     gate: UnboundedSender<Offered>,
     limits: FetchLimits,
-) -> io::Result<Getter<R, A>> {
-    let kept = kept_of(rt, alloc, limits.keep)?;
-    let handle = runtime.handle().clone()?;
+    doorman: Doorman<A>,
+) -> io::Result<(Getter<R, A>, Doorman<A>)> {
+    match parts_of(rt, alloc, runtime, limits.keep) {
+        Ok((http, handle, kept)) => {
+            let getter = Getter {
+                rt,
+                alloc,
+                handle,
+                http,
+                limits,
+                rules,
+                kept,
+                gate,
+            };
+            Ok((getter, doorman))
+        }
+        Err(error) => {
+            drop(gate);
+            drop(rules);
+            drop(doorman);
+            Err(error)
+        }
+    }
+}
+
+// What connections are made with, a handle to the runtime, and where connections are kept for so long. Errors: as `getter_of`.
+fn parts_of<R: RandomSource + Copy>(
+    rt: R,
+    alloc: Global,
+    runtime: &LocalRuntime,
+    keep: Option<Duration>,
+) -> io::Result<(http1::Builder, Handle, Option<Kept<R>>)> {
     let http = http1::Builder::new(alloc, RandomState::new(&rt)?);
-    Ok(Getter {
-        rt,
-        alloc,
-        handle,
-        http,
-        limits,
-        rules,
-        kept,
-        gate,
-    })
+    let kept = kept_of(rt, alloc, keep)?;
+    match runtime.handle().clone() {
+        Ok(handle) => Ok((http, handle, kept)),
+        Err(error) => {
+            drop(kept);
+            Err(io::Error::from(error))
+        }
+    }
 }
 
 // Looks after the connections that are kept, and after answers that are given while they are collected.
@@ -758,10 +690,19 @@ where
     A: Admit,
     requires { 0 < limits.at_once }
 {
-    let mut runtime = LocalRuntime::new(&rt)?;
-    let ran = run_on(rt, &mut runtime, jobs, seat, rules, limits);
-    drop(runtime);
-    ran
+    match LocalRuntime::new(&rt) {
+        Ok(runtime) => {
+            let mut runtime = runtime;
+            let ran = run_on(rt, &mut runtime, jobs, seat, rules, limits);
+            drop(runtime);
+            ran
+        }
+        Err(error) => {
+            drop(rules);
+            drop(jobs);
+            Err(error)
+        }
+    }
 }
 
 // As `run_fetches`, on this runtime.
@@ -779,12 +720,39 @@ where
     A: Admit,
     requires { 0 < limits.at_once }
 {
-    let (getter, doorman) = getter_of(rt, runtime, rules, limits)?;
-    let tending = Tending {
-        keeper: Keeper::new(rt, getter.kept(), getter.keep_timers()),
-        doorman,
-    };
+    match getter_of(rt, runtime, rules, limits) {
+        Ok((getter, doorman)) => {
+            let keeper = Keeper::new(rt, getter.kept(), getter.keep_timers());
+            let tending = Tending { keeper, doorman };
+            run_with(rt, runtime, jobs, seat, getter, tending, limits.at_once)
+        }
+        Err(error) => {
+            drop(jobs);
+            Err(error)
+        }
+    }
+}
+
+// As `run_on`, with these means, of whose type nothing more is known here.
+fn run_with<R, S, M, T>(
+    rt: R,
+    runtime: &mut LocalRuntime,
+    jobs: UnboundedReceiver<Job>,
+    seat: &mut S,
+    means: M,
+    tending: T,
+    at_once: usize,
+) -> io::Result<()>
+where
+    R: Wait + Clock + RandomSource + AllocGlobal + Copy,
+    S: Submit<Fetched>,
+    M: Means,
+    T: Tend,
+    requires { 0 < at_once }
+{
+    let alloc = rt.alloc();
     let mut seat = PassOn { seat };
-    let most = limits.at_once.saturating_add(MOST_PASSAGES);
-    fetch_chain::run(&rt, runtime, jobs, getter, &mut seat, tending, most)
+    let most = at_once.saturating_add(MOST_PASSAGES);
+    let starter = Starter { alloc, means };
+    fetch_chain::run(&rt, runtime, jobs, starter, &mut seat, tending, most)
 }

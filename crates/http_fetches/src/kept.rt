@@ -1,6 +1,7 @@
 //! Connections that are kept after an answer for further requests, in one thread.
 ghost use Rattle.futures.specs.Task.{Keeps};
 
+use crate::fetching::put;
 use fetch_chain::Tend;
 use futures::Future;
 use futures::task::{Context, Poll};
@@ -230,11 +231,15 @@ pub struct Keeper<R> {
 impl<R: Drop> Drop for Keeper<R> {
     fn drop(self) {
         let Self {
-            rt: _,
-            kept: _,
-            timers: _,
-            sleep: _,
+            rt,
+            kept,
+            timers,
+            sleep,
         } = self;
+        drop(rt);
+        drop(kept);
+        drop(timers);
+        drop(sleep);
     }
 }
 
@@ -262,7 +267,8 @@ impl<R: Clock + Copy> Keeper<R> {
         ensures { Keeps cx.old cx.new }
     {
         if self.sleep.is_none() {
-            self.sleep = self.timer();
+            let sleep = self.timer();
+            put(&mut self.sleep, sleep);
         }
         match &mut self.sleep {
             Some(sleep) => sleep.poll(cx).is_ready(),
@@ -294,7 +300,7 @@ impl<R: Clock + Copy + Drop> Tend for Keeper<R> {
             return;
         }
         self.look();
-        self.sleep = None;
+        put(&mut self.sleep, None);
         if self.has_some() {
             let _ = self.is_due(cx);
         }

@@ -8,6 +8,7 @@
 #![tactic(auto)]
 
 mod budget;
+mod dialing;
 mod early;
 mod exchange;
 mod fetching;
@@ -15,6 +16,8 @@ mod kept;
 mod moves;
 mod passing;
 mod reply;
+mod speaking;
+mod visit;
 
 pub use budget::{Budget, Share};
 pub use fetching::{FetchLimits, FetchRules, MOST_PASSAGES, run_fetches};

@@ -3,6 +3,7 @@ ghost use Rattle.std.specs.Prelude.{◌≡◌, ⊤};
 ghost use Rattle.futures.specs.Task.{Keeps};
 ghost use Rattle.tokio.specs.Net.{stream_readable, stream_writable};
 
+use crate::fetching::put;
 use futures::Future;
 use futures::task::{Context, Poll};
 use paced_stream::Paced;
@@ -203,13 +204,17 @@ pub struct Patience<R> {
 impl<R: Drop> Drop for Patience<R> {
     fn drop(self) {
         let Self {
-            rt: _,
-            timers: _,
-            moves: _,
+            rt,
+            timers,
+            moves,
             still: _,
             deadline: _,
-            sleep: _,
+            sleep,
         } = self;
+        drop(rt);
+        drop(timers);
+        drop(moves);
+        drop(sleep);
     }
 }
 
@@ -257,7 +262,8 @@ impl<R: Clock + Drop> Patience<R> {
             return true;
         };
         if self.sleep.is_none() {
-            self.sleep = self.timer(deadline);
+            let sleep = self.timer(deadline);
+            put(&mut self.sleep, sleep);
         }
         match &mut self.sleep {
             Some(sleep) => has_come(sleep, cx, deadline),
@@ -269,6 +275,43 @@ impl<R: Clock + Drop> Patience<R> {
     fn timer(&self, deadline: Instant) -> Option<Sleep> {
         match &self.timers {
             Some(timers) => timers.sleep_until(deadline).ok(),
+            None => None,
+        }
+    }
+}
+
+/// How long the connection of an exchange may be without an octet, if that is limited.
+pub struct Stillness<R> {
+    pub rt: R,
+    pub idle: Option<Duration>,
+    /// None if out of memory, and where nothing is limited.
+    pub timers: Option<Handle>,
+}
+
+impl<R: Drop> Drop for Stillness<R> {
+    fn drop(self) {
+        let Self {
+            rt,
+            idle: _,
+            timers,
+        } = self;
+        drop(rt);
+        drop(timers);
+    }
+}
+
+impl<R: Clock + Copy> Stillness<R> {
+    /// The patience with a connection whose octets are noted here, if it is limited.
+    pub fn patience(&self, moves: &Moves) -> Option<Patience<R>> {
+        let still = self.idle?;
+        let moves = moves.share().ok();
+        Some(Patience::new(self.rt, self.timers(), moves, still))
+    }
+
+    // The timers of its patience. Returns `None` if out of memory.
+    fn timers(&self) -> Option<Handle> {
+        match &self.timers {
+            Some(timers) => timers.clone().ok(),
             None => None,
         }
     }

@@ -4,35 +4,31 @@ ghost use Rattle.futures.specs.Channel.{readable_source};
 ghost use Rattle.futures.specs.Poll.{OnPending};
 ghost use Rattle.futures.specs.Task.{Covers, Keeps};
 
-use crate::budget::Share;
+use crate::dialing::Dial;
 use crate::exchange::{Beside, Talk};
-use crate::fetching::{Dialer, Done, Visit, Visited, boxed, put};
+use crate::fetching::{boxed, put};
 use crate::moves::{Moves, Noted, Patience};
-use crate::reply::head_fault;
+use crate::reply::Head;
+use crate::speaking::Deliverer;
+use crate::visit::{Visit, Visited};
 use bytes::Bytes;
 use futures::channel::{mpsc, oneshot};
 use futures::stream::Stream;
 use futures::task::{Context, Poll};
 use futures::{Future, ready};
 use http_body::{Body, Frame, SizeHint};
-use http_content::{Relay, Relayed, add_field, add_fields, has_foreign_coding};
-use http_traffic::{
-    Admit, Coming, FetchFault, PassFault, Passage, PassedHead, Piece, Server, Ticket,
-};
-use hyper::body::Incoming;
+use http_content::{Relayed, add_field, add_fields};
+use http_traffic::{Coming, FetchFault, PassFault, Passage, PassedHead, Piece, Server, Ticket};
 use hyper::client::conn::http1;
-use hyper::client::conn::http1::{Connection, ResponseFuture};
-use hyper::{HeaderMap, Method, Request, Response, header};
-use paced_stream::{FETCH_TURN, Paced};
+use hyper::{HeaderMap, Method, Request, header};
+use paced_stream::Paced;
 use std::alloc::{AllocError, Global};
 use std::cell::RefCell;
 use std::io;
 use std::io::ErrorKind;
-use std::net::{Net, SocketAddr};
+use std::net::SocketAddr;
 use std::rc::Rc;
-use std::sync::Wait;
 use std::time::Clock;
-use tokio::net::TcpStream;
 use tokio::time::Handle;
 
 /// The content of the request, as it comes.
@@ -49,10 +45,11 @@ pub struct Sent {
 impl Drop for Sent {
     fn drop(self) {
         let Self {
-            coming: _,
+            coming,
             left: _,
             is_bare: _,
         } = self;
+        drop(coming);
     }
 }
 
@@ -97,7 +94,7 @@ impl Body for Sent {
                 Poll::Ready(Some(frame_of(octets)))
             }
             Some(Piece::End) => {
-                self.coming = None;
+                put(&mut self.coming, None);
                 Poll::Ready(None)
             }
             None => Poll::Ready(Some(Err(io::Error::from(ErrorKind::UnexpectedEof)))),
@@ -139,11 +136,14 @@ struct Outlet {
 impl Drop for Outlet {
     fn drop(self) {
         let Self {
-            head: _,
-            pieces: _,
-            wanted: _,
+            head,
+            pieces,
+            wanted,
             is_full: _,
         } = self;
+        drop(head);
+        drop(pieces);
+        drop(wanted);
     }
 }
 
@@ -174,7 +174,7 @@ impl Outlet {
             length,
             wanted: keep,
         };
-        self.wanted = Some(wanted);
+        put(&mut self.wanted, Some(wanted));
         let Some(head) = self.head.take() else {
             drop(passed);
             return None;
@@ -208,9 +208,20 @@ fn length_of(head: &HeaderMap) -> Option<u64> {
 struct SharedOutlet(Rc<RefCell<Outlet>>);
 
 impl SharedOutlet {
-    // This outlet, with one owner. Errors: out of memory.
-    fn new(alloc: Global, outlet: Outlet) -> Result<SharedOutlet, AllocError> {
-        Ok(SharedOutlet(Rc::new(alloc, RefCell::new(outlet))?))
+    // What takes an answer at these ends. Returns `None` if out of memory.
+    fn of(
+        alloc: Global,
+        head: oneshot::Sender<Result<PassedHead, PassFault>>,
+        pieces: mpsc::Sender<Piece>,
+    ) -> Option<SharedOutlet> {
+        let outlet = Outlet {
+            head: Some(head),
+            pieces: Some(pieces),
+            wanted: None,
+            is_full: false,
+        };
+        let shared = Rc::new(alloc, RefCell::new(outlet)).ok()?;
+        Some(SharedOutlet(shared))
     }
 
     // Another handle to the same. Errors: there are too many.
@@ -262,135 +273,154 @@ impl SharedOutlet {
     }
 }
 
-/// Receives the answer and passes it on.
-pub struct Answering {
-    alloc: Global,
-    answer: ResponseFuture<Noted>,
-    outlet: SharedOutlet,
-    // The content, once there is a head.
-    content: Option<Relay<Incoming<Noted>>>,
+/// Brings the answer to a request, whose content is passed on. What passes on requests is generic over this, since the prover does not look
+/// behind a type parameter (docs/GATE.md).
+pub trait Bring: Drop {
+    /// Waits for the head of the answer. Errors: why there is none.
+    fn poll_head(&mut self, cx: &mut Context<'_>) -> Poll<Result<Head, FetchFault>>
+        ensures registered { OnPending result (Covers cx.new (λ _. ⊥)) }
+        ensures kept { Keeps cx.old cx.new };
+
+    /// Has the content, after the head, passed on in these pieces.
+    fn begin(&mut self, pieces: mpsc::Sender<Piece>);
+
+    /// Goes on with the content. Ready once it has ended.
+    fn poll_relay(&mut self, cx: &mut Context<'_>) -> Poll<Relayed>
+        ensures registered { OnPending result (Covers cx.new (λ _. ⊥)) }
+        ensures kept { Keeps cx.old cx.new };
+
+    /// Whether the content waits for who takes it.
+    fn is_full(&self) -> bool;
 }
 
-impl Drop for Answering {
+/// Sends a request of type `Q` that is passed on. What does so is generic over this, for the same reason as over `Bring`.
+pub trait Deliver<Q>: Drop {
+    /// Brings the answer.
+    type Answer: Bring;
+
+    /// The connection.
+    type Connection: Future<Output = hyper::Result<()>>;
+
+    /// Sends this request over this connection. Returns `None` if out of memory.
+    fn deliver(&self, noted: Noted, request: Q) -> Option<(Self::Answer, Self::Connection)>
+        ensures { IfSome result (λ ends. Self.Connection.can_poll ends.1) };
+}
+
+/// Receives the answer and passes it on.
+pub struct Answering<A> {
+    alloc: Global,
+    answer: A,
+    outlet: SharedOutlet,
+    // Whether the content is passed on: once there is a head that somebody wants.
+    is_open: bool,
+}
+
+impl<A: Drop> Drop for Answering<A> {
     fn drop(self) {
         let Self {
             alloc: _,
             answer,
             outlet,
-            content,
+            is_open: _,
         } = self;
         drop(answer);
         drop(outlet);
-        drop(content);
     }
 }
 
-impl Answering {
+impl<A: Bring> Answering<A> {
     // Waits for the head of the answer, and passes it on as `begin` does. Errors: it is no answer to the request, or why there is none.
     fn poll_head(&mut self, cx: &mut Context<'_>) -> Poll<Result<(), FetchFault>>
         ensures registered { OnPending result (Covers cx.new (λ _. ⊥)) }
         ensures kept { Keeps cx.old cx.new }
     {
-        match self.answer.poll(cx) {
-            Poll::Ready(Ok(response)) => Poll::Ready(self.begin(response)),
-            Poll::Ready(Err(error)) => {
-                let fault = head_fault(&error);
-                drop(error);
-                Poll::Ready(Err(fault))
-            }
+        match self.answer.poll_head(cx) {
+            Poll::Ready(Ok(head)) => Poll::Ready(self.begin(head)),
+            Poll::Ready(Err(fault)) => Poll::Ready(Err(fault)),
             Poll::Pending => Poll::Pending,
         }
     }
 
     // Passes on the head of an answer, and begins with its content, unless nobody wants it. Errors: it is no answer to the request.
-    fn begin(&mut self, response: Response<Incoming<Noted>>) -> Result<(), FetchFault> {
-        if let Some(fault) = fault_of(&response) {
-            drop(response);
+    fn begin(&mut self, head: Head) -> Result<(), FetchFault> {
+        if let Some(fault) = fault_of(&head) {
+            drop(head);
             return Err(fault);
         }
-        self.open(response);
-        Ok(())
-    }
-
-    // As `begin`, with an answer to the request.
-    fn open(&mut self, response: Response<Incoming<Noted>>) {
-        let (parts, body) = response.into_parts();
-        let status = parts.status.as_u16();
-        match self.outlet.open(self.alloc, status, parts.headers) {
-            Some(pieces) => put(
-                &mut self.content,
-                Some(Relay::new(self.alloc, body, pieces)),
-            ),
-            None => drop(body),
+        let (status, fields) = head.into_parts();
+        if let Some(pieces) = self.outlet.open(self.alloc, status, fields) {
+            self.answer.begin(pieces);
+            self.is_open = true;
         }
+        Ok(())
     }
 }
 
-// Why this is no answer to a request.
-fn fault_of(response: &Response<Incoming<Noted>>) -> Option<FetchFault> {
-    if has_foreign_coding(response.headers()) {
+// Why this is no head of an answer to a request.
+fn fault_of(head: &Head) -> Option<FetchFault> {
+    if head.is_foreign() {
         return Some(FetchFault::NotHttp);
     }
-    if response.status().as_u16() < 200 {
+    if head.status < 200 {
         return Some(FetchFault::Cut);
     }
     None
 }
 
-impl Future for Answering {
+impl<A: Bring> Future for Answering<A> {
     type Output = Result<(), FetchFault>;
 
     fn poll(&mut self, cx: &mut Context<'_>) -> Poll<Result<(), FetchFault>> {
-        if self.content.is_none() {
+        if !self.is_open {
             match self.poll_head(cx) {
                 Poll::Ready(Ok(())) => {}
                 Poll::Ready(Err(fault)) => return Poll::Ready(Err(fault)),
                 Poll::Pending => return Poll::Pending,
             }
         }
-        let Some(content) = &mut self.content else {
+        if !self.is_open {
             return Poll::Ready(Ok(()));
-        };
-        let polled = content.poll(cx);
-        self.outlet.note_full(content.is_full());
+        }
+        let polled = self.answer.poll_relay(cx);
+        self.outlet.note_full(self.answer.is_full());
         match ready!(polled) {
             Relayed::Whole | Relayed::Broken | Relayed::Unwanted => Poll::Ready(Ok(())),
         }
     }
 }
 
-/// Sends one request as it is.
-pub struct Post {
+/// Sends one request as it is, which `Y` does.
+pub struct Post<Y, Q> {
     alloc: Global,
-    http: http1::Builder,
+    http: Y,
     // Until the exchange begins. None if it cannot be made.
-    request: Option<Request<Sent>>,
+    request: Option<Q>,
     outlet: SharedOutlet,
     moves: Moves,
 }
 
-impl Drop for Post {
+impl<Y: Drop, Q: Drop> Drop for Post<Y, Q> {
     fn drop(self) {
         let Self {
             alloc: _,
-            http: _,
+            http,
             request,
             outlet,
             moves,
         } = self;
+        drop(http);
         drop(request);
         drop(outlet);
         drop(moves);
     }
 }
 
-impl Talk for Post {
+impl<Q: Drop, Y: Deliver<Q>> Talk for Post<Y, Q> {
     type Page = ();
 
-    type Talking = Beside<Answering, Connection<Noted, Sent>>;
+    type Talking = Beside<Answering<Y::Answer>, Y::Connection>;
 
-    fn talk(&mut self, socket: TcpStream) -> Option<Self::Talking> {
-        let _ = socket.set_nodelay(true);
+    fn talk(&mut self, socket: Paced) -> Option<Self::Talking> {
         let Some(request) = self.request.take() else {
             drop(socket);
             return None;
@@ -400,8 +430,17 @@ impl Talk for Post {
             drop(socket);
             return None;
         };
-        let noted = Noted::new(Paced::new(socket, FETCH_TURN), moves);
-        posted(self.alloc, &self.http, noted, request, outlet)
+        let Some((answer, conn)) = self.http.deliver(Noted::new(socket, moves), request) else {
+            drop(outlet);
+            return None;
+        };
+        let answering = Answering {
+            alloc: self.alloc,
+            answer,
+            outlet,
+            is_open: false,
+        };
+        Some(Beside::new(answering, conn))
     }
 
     // What is passed on has a connection of its own.
@@ -422,37 +461,6 @@ fn handles(moves: &Moves, outlet: &SharedOutlet) -> Option<(Moves, SharedOutlet)
     let moves = moves.share().ok()?;
     let outlet = outlet.share().ok()?;
     Some((moves, outlet))
-}
-
-// Sends this request over this connection. Returns `None` if out of memory.
-fn posted(
-    alloc: Global,
-    http: &http1::Builder,
-    noted: Noted,
-    request: Request<Sent>,
-    outlet: SharedOutlet,
-) -> Option<Beside<Answering, Connection<Noted, Sent>>>
-    ensures { IfSome result ⟦<Beside<Answering, Connection<Noted, Sent>> as Future>⟧.can_poll }
-{
-    match http.handshake(noted) {
-        Ok((sender, conn)) => {
-            let mut sender = sender;
-            let answering = Answering {
-                alloc,
-                answer: sender.send_request(request),
-                outlet,
-                content: None,
-            };
-            drop(sender);
-            Some(Beside::new(answering, conn))
-        }
-        Err(error) => {
-            drop(error);
-            drop(outlet);
-            drop(request);
-            None
-        }
-    }
 }
 
 // The head of a request that is passed on.
@@ -497,154 +505,41 @@ fn add_head(alloc: Global, head: &mut HeaderMap, line: &Line, is_chunked: bool) 
     Some(())
 }
 
-/// How a request is passed on, once its server is known.
-#[derive(Drop)]
-pub struct Plan<R, T> {
+/// Watches over a request that is passed on.
+pub trait Watch: Drop {
+    /// Says why there is no head, unless there was one, where the visit has ended without an exchange.
+    fn end(&self, visited: &Visited<()>);
+
+    /// Whether nobody wants the answer any more, or nothing has moved for too long.
+    fn is_over(&mut self, cx: &mut Context<'_>) -> bool
+        ensures kept { Keeps cx.old cx.new };
+}
+
+/// Watches over a request that is passed on, with patience.
+pub struct Watching<R> {
     // None if out of memory.
-    talk: Option<T>,
     outlet: Option<SharedOutlet>,
     patience: Patience<R>,
-    ticket: Ticket,
 }
 
-impl<R: Clock + Copy> Plan<R, Post> {
-    /// Passes on this request. Without timers it fails, as out of memory.
-    pub fn new(
-        rt: R,
-        alloc: Global,
-        http: http1::Builder,
-        timers: Option<Handle>,
-        passage: Passage,
-    ) -> Plan<R, Post> {
-        let Passage {
-            method,
-            host,
-            target,
-            fields,
-            content,
-            is_origin: _,
-            still,
-            head,
-            pieces,
-            ticket,
-        } = passage;
-        let line = Line {
-            method,
-            host,
-            target,
-            fields,
-        };
-        let outlet = Outlet {
-            head: Some(head),
-            pieces: Some(pieces),
-            wanted: None,
-            is_full: false,
-        };
-        let outlet = SharedOutlet::new(alloc, outlet).ok();
-        let moves = Moves::new(alloc).ok();
-        let request = request_of(alloc, &line, content);
-        drop(line);
-        Plan {
-            talk: post_of(alloc, http, request, &outlet, &moves),
-            outlet,
-            patience: Patience::new(rt, timers, moves, still),
-            ticket,
-        }
-    }
-}
-
-/// A request that is being passed on.
-pub struct Pass<R, A, T: Talk> {
-    visit: Option<Box<Visit<R, A, T>>>,
-    outlet: Option<SharedOutlet>,
-    patience: Patience<R>,
-    // What it takes of those that may be under way, until it ends.
-    ticket: Ticket,
-}
-
-impl<R: Drop, A: Drop, T: Talk> Drop for Pass<R, A, T> {
+impl<R: Drop> Drop for Watching<R> {
     fn drop(self) {
-        let Self {
-            visit: _,
-            outlet: _,
-            patience: _,
-            ticket: _,
-        } = self;
+        let Self { outlet, patience } = self;
+        drop(outlet);
+        drop(patience);
     }
 }
 
-impl<R: Drop, A: Admit, T: Talk> Pass<R, A, T> {
-    /// Begins to pass on a request to this server. Without a dialer it fails, as out of memory.
-    pub fn new(
-        alloc: Global,
-        server: Server,
-        dialer: Option<Dialer<R, A>>,
-        plan: Plan<R, T>,
-    ) -> Pass<R, A, T>
-        ensures { IfSome result.visit (λ v. IfSome (box_value v).call (λ c. IfSome c.talking T.Talking.can_poll)) }
-    {
-        let Plan {
-            talk,
-            outlet,
-            patience,
-            ticket,
-        } = plan;
-        let visit = match talk {
-            Some(talk) => boxed(alloc, Visit::new(server, dialer, talk)),
-            None => None,
-        };
-        Pass {
-            visit,
-            outlet,
-            patience,
-            ticket,
-        }
-    }
-}
-
-// What sends this request. Returns `None` if out of memory.
-fn post_of(
-    alloc: Global,
-    http: http1::Builder,
-    request: Option<Request<Sent>>,
-    outlet: &Option<SharedOutlet>,
-    moves: &Option<Moves>,
-) -> Option<Post> {
-    match handles_of(outlet, moves) {
-        Some((moves, outlet)) => Some(Post {
-            alloc,
-            http,
-            request,
-            outlet,
-            moves,
-        }),
-        None => {
-            drop(request);
-            None
-        }
-    }
-}
-
-// Other handles to both, if both are there.
-fn handles_of(
-    outlet: &Option<SharedOutlet>,
-    moves: &Option<Moves>,
-) -> Option<(Moves, SharedOutlet)> {
-    match (outlet, moves) {
-        (Some(outlet), Some(moves)) => handles(moves, outlet),
-        _ => None,
-    }
-}
-
-impl<R: Clock + Drop, A: Drop, T: Talk> Pass<R, A, T> {
+impl<R: Clock + Drop> Watching<R> {
     // Says why there is no head, unless there was one.
     fn fail(&self, fault: PassFault) {
         if let Some(outlet) = &self.outlet {
             outlet.fail(fault);
         }
     }
+}
 
-    // Says why there is no head, unless there was one, where the visit has ended without an exchange.
+impl<R: Clock + Drop> Watch for Watching<R> {
     fn end(&self, visited: &Visited<()>) {
         match visited {
             Visited::Whole(()) => {}
@@ -653,12 +548,8 @@ impl<R: Clock + Drop, A: Drop, T: Talk> Pass<R, A, T> {
         }
     }
 
-    // Whether nobody wants the answer any more, or nothing has moved for too long. The time does not pass while the answer waits for the
-    // client, whose own limits end that.
-    fn is_over(&mut self, cx: &mut Context<'_>) -> bool
-        ensures kept { Keeps cx.old cx.new }
-        ensures same { self.new.visit ≡ self.old.visit }
-    {
+    // The time does not pass while the answer waits for the client, whose own limits end that.
+    fn is_over(&mut self, cx: &mut Context<'_>) -> bool {
         let Some(outlet) = &self.outlet else {
             return true;
         };
@@ -677,30 +568,154 @@ impl<R: Clock + Drop, A: Drop, T: Talk> Pass<R, A, T> {
     }
 }
 
-impl<R: Wait + Net + Clock + Copy, A: Admit, T: Talk<Page = ()>> Future for Pass<R, A, T> {
-    type Output = Done<Share<R>>;
+/// How a request is passed on, once its server is known.
+#[derive(Drop)]
+pub struct Plan<W, T> {
+    // None if out of memory.
+    talk: Option<T>,
+    watch: W,
+    ticket: Ticket,
+}
 
-    ghost can_poll = { λ p. IfSome p.visit (λ v. IfSome (box_value v).call (λ c. IfSome c.talking T.Talking.can_poll)) };
+/// How this request is passed on. Without timers it fails, as out of memory.
+pub fn plan_of<R: Clock + Copy>(
+    rt: R,
+    alloc: Global,
+    http: http1::Builder,
+    timers: Option<Handle>,
+    passage: Passage,
+) -> Plan<Watching<R>, Post<Deliverer, Request<Sent>>> {
+    let Passage {
+        method,
+        host,
+        target,
+        fields,
+        content,
+        is_origin: _,
+        still,
+        head,
+        pieces,
+        ticket,
+    } = passage;
+    let line = Line {
+        method,
+        host,
+        target,
+        fields,
+    };
+    let outlet = SharedOutlet::of(alloc, head, pieces);
+    let moves = Moves::new(alloc).ok();
+    let request = request_of(alloc, &line, content);
+    drop(line);
+    let http = Deliverer { alloc, http };
+    Plan {
+        talk: post_of(alloc, http, request, &outlet, &moves),
+        watch: Watching {
+            outlet,
+            patience: Patience::new(rt, timers, moves, still),
+        },
+        ticket,
+    }
+}
 
-    fn poll(&mut self, cx: &mut Context<'_>) -> Poll<Done<Share<R>>> {
-        let Some(visit) = &mut self.visit else {
-            return Poll::Ready(ended());
-        };
-        match visit.poll(cx) {
-            Poll::Ready(visited) => {
-                self.end(&visited);
-                Poll::Ready(ended())
-            }
-            Poll::Pending if self.is_over(cx) => Poll::Ready(ended()),
-            Poll::Pending => Poll::Pending,
+// What sends this request. Returns `None` if out of memory.
+fn post_of<Y: Drop, Q: Drop>(
+    alloc: Global,
+    http: Y,
+    request: Option<Q>,
+    outlet: &Option<SharedOutlet>,
+    moves: &Option<Moves>,
+) -> Option<Post<Y, Q>> {
+    match handles_of(outlet, moves) {
+        Some((moves, outlet)) => Some(Post {
+            alloc,
+            http,
+            request,
+            outlet,
+            moves,
+        }),
+        None => {
+            drop(request);
+            drop(http);
+            None
         }
     }
 }
 
-// The result of a request that was passed on: its client has it.
-fn ended<P: Drop>() -> Done<P> {
-    Done {
-        fetched: None,
-        purse: None,
+// Other handles to both, if both are there.
+fn handles_of(
+    outlet: &Option<SharedOutlet>,
+    moves: &Option<Moves>,
+) -> Option<(Moves, SharedOutlet)> {
+    match (outlet, moves) {
+        (Some(outlet), Some(moves)) => handles(moves, outlet),
+        _ => None,
+    }
+}
+
+/// A request that is being passed on. It has a result for its client alone.
+pub struct Pass<W, D: Dial, T: Talk> {
+    visit: Option<Box<Visit<D, T>>>,
+    watch: W,
+    // What it takes of those that may be under way, until it ends.
+    ticket: Ticket,
+}
+
+impl<W: Drop, D: Dial, T: Talk> Drop for Pass<W, D, T> {
+    fn drop(self) {
+        let Self {
+            visit,
+            watch,
+            ticket,
+        } = self;
+        drop(visit);
+        drop(watch);
+        drop(ticket);
+    }
+}
+
+impl<W: Drop, D: Dial, T: Talk> Pass<W, D, T> {
+    /// Begins to pass on a request to this server. Without a dialer it fails, as out of memory.
+    pub fn new(alloc: Global, server: Server, dialer: Option<D>, plan: Plan<W, T>) -> Pass<W, D, T>
+        ensures { IfSome result.visit (λ v. IfSome (box_value v).call (λ c. IfSome c.talking T.Talking.can_poll)) }
+    {
+        let Plan {
+            talk,
+            watch,
+            ticket,
+        } = plan;
+        let visit = match talk {
+            Some(talk) => boxed(alloc, Visit::new(server, dialer, talk)),
+            None => {
+                drop(dialer);
+                drop(server);
+                None
+            }
+        };
+        Pass {
+            visit,
+            watch,
+            ticket,
+        }
+    }
+}
+
+impl<W: Watch, D: Dial, T: Talk<Page = ()>> Future for Pass<W, D, T> {
+    type Output = ();
+
+    ghost can_poll = { λ p. IfSome p.visit (λ v. IfSome (box_value v).call (λ c. IfSome c.talking T.Talking.can_poll)) };
+
+    fn poll(&mut self, cx: &mut Context<'_>) -> Poll<()> {
+        let Some(visit) = &mut self.visit else {
+            return Poll::Ready(());
+        };
+        match visit.poll(cx) {
+            Poll::Ready(visited) => {
+                self.watch.end(&visited);
+                Poll::Ready(())
+            }
+            Poll::Pending if self.watch.is_over(cx) => Poll::Ready(()),
+            Poll::Pending => Poll::Pending,
+        }
     }
 }
