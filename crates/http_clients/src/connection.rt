@@ -1,9 +1,10 @@
 //! The HTTP connection of a client, as hyper has it.
 
+use crate::account::Telling;
 use crate::door::Door;
 use crate::reply::Reply;
-use crate::requests::Answers;
-use crate::tunnel::HandOver;
+use crate::requests::Serves;
+use crate::tunnel::{HandOver, KeepTunnel, KeptTunnel};
 use crate::upload::Upload;
 use bytes::{Bytes, BytesMut};
 use client_streams::Patient;
@@ -24,18 +25,28 @@ pub(crate) trait Connections<R, H>: Drop {
     /// The connection of a client.
     type Connection: Future<Output = hyper::Result<()>> + HandOver;
 
+    /// What keeps the tunnels of clients.
+    type Kept: KeepTunnel;
+
     /// Serves the client at this socket by the service behind this door.
-    fn serve(&self, socket: Patient<R>, door: Door<H>) -> Self::Connection
+    fn serve(&self, socket: Patient<R>, door: Door<H, Self::Kept>) -> Self::Connection
         ensures { Self.Connection.can_poll result };
 }
 
 // What the library makes of a client's socket and its service.
-type Spoken<R, H> = Connection<Patient<R>, Door<H>, Reply<H, Upload<Patient<R>>>, TokioTimer<R>>;
+type Spoken<R, H> = Connection<
+    Patient<R>,
+    Door<H, KeptTunnel>,
+    Reply<Telling<H, KeptTunnel>, Upload<Patient<R>>>,
+    TokioTimer<R>,
+>;
 
-impl<R: Net + Clock + Copy, H: Answers> Connections<R, H> for Builder<TokioTimer<R>> {
+impl<R: Net + Clock + Copy, H: Serves<KeptTunnel>> Connections<R, H> for Builder<TokioTimer<R>> {
     type Connection = Spoken<R, H>;
 
-    fn serve(&self, socket: Patient<R>, door: Door<H>) -> Spoken<R, H>
+    type Kept = KeptTunnel;
+
+    fn serve(&self, socket: Patient<R>, door: Door<H, KeptTunnel>) -> Spoken<R, H>
         ensures { ⟦<Spoken<R, H> as Future>⟧.can_poll result }
     {
         self.serve_connection(socket, door)

@@ -1,11 +1,12 @@
 //! An HTTP server that runs on the calling thread.
 
-use crate::account::{Counted, SharedFacts, Watched, Watching, tell_refused};
+use crate::account::{SharedFacts, Telling, tell_refused};
 use crate::connection::Connections;
 use crate::door::Door;
-use crate::requests::Answers;
+use crate::requests::{Answers, Serves};
 use crate::texts::{FORBIDDEN, forbidden};
-use crate::tunnel::Dialer;
+use crate::tunnel::{Copying, Dialer, HandOver, KeepTunnel, KeptTunnel, Opening};
+use crate::watched::{Counted, Tunnels, Watched, Watching};
 use client_streams::{
     Accept, AcceptedClients, ClientLimits, Listeners, Patient, Refusal, SeatShare, SharedStage,
     Stops, StreamTimeouts, seat_shares,
@@ -157,13 +158,20 @@ impl<K: Future<Output = ()>, R: Clock + Copy> Future for Client<K, R> {
     }
 }
 
+// What goes on beside a connection `C`, and after it.
+type Beside<C, R, H, K> = Tunnels<
+    Watching<R, H, K>,
+    Opening<R, H>,
+    Copying<<C as HandOver>::Socket, R, Telling<H, K>>,
+>;
+
 impl<R, H, B> Accept for Http<R, H, B>
 where
     R: Wait + Net + Clock + Copy,
     H: Answers,
     B: Connections<R, H>,
 {
-    type Serving = Client<Watched<B::Connection, R, H>, R>;
+    type Serving = Client<Watched<B::Connection, Beside<B::Connection, R, H, B::Kept>>, R>;
 
     fn opened(&mut self) {
         if let Some(bound) = self.bound.take() {
@@ -180,7 +188,7 @@ where
         socket: TcpStream,
         address: SocketAddr,
         stage: SharedStage,
-    ) -> Option<Client<Watched<B::Connection, R, H>, R>> {
+    ) -> Option<Self::Serving> {
         let _ = socket.set_nodelay(true);
         let from = address.ip();
         if !self.answers.allows(from) {
@@ -189,10 +197,11 @@ where
                 serving: Either::Right(refusal),
             });
         }
-        let (door, watching, patient, dialer) = self.parts(socket, from, stage)?;
+        let (door, watching, patient) = self.parts(socket, from, stage)?;
         let inner = self.builder.serve(patient, door);
+        let watched = Watched::new(self.alloc, inner, Tunnels::new(watching));
         Some(Client {
-            serving: Either::Left(Watched::new(inner, watching, dialer)),
+            serving: Either::Left(watched),
         })
     }
 }
@@ -214,57 +223,6 @@ impl<R: Clock + Copy, H: Answers, B> Http<R, H, B> {
         Some(Refusal::new(patient, text))
     }
 
-    // What serves the client at this address. Returns `None` if out of memory.
-    fn parts(
-        &self,
-        socket: TcpStream,
-        from: IpAddr,
-        stage: SharedStage,
-    ) -> Option<(Door<H>, Watching<H>, Patient<R>, Dialer<R>)> {
-        let Ok(shared) = stage.share() else {
-            drop(stage);
-            drop(socket);
-            return None;
-        };
-        let Some((door, watching)) = self.watched_door(from, stage) else {
-            drop(shared);
-            drop(socket);
-            return None;
-        };
-        match self.ends(socket, shared) {
-            Some((patient, dialer)) => Some((door, watching, patient, dialer)),
-            None => {
-                drop(watching);
-                drop(door);
-                None
-            }
-        }
-    }
-
-    // The client's connection, and what connects its tunnels. Returns `None` if out of memory.
-    fn ends(&self, socket: TcpStream, stage: SharedStage) -> Option<(Patient<R>, Dialer<R>)> {
-        let patient = self.patient(socket, stage)?;
-        match Dialer::new(self.rt, self.alloc, &self.handle) {
-            Ok(dialer) => Some((patient, dialer)),
-            Err(_) => {
-                drop(patient);
-                None
-            }
-        }
-    }
-
-    // The service of a connection from this address, and what watches over it. Returns `None` if out of memory.
-    fn watched_door(&self, from: IpAddr, stage: SharedStage) -> Option<(Door<H>, Watching<H>)> {
-        let door = self.door(from, stage)?;
-        match self.watching(&door) {
-            Some(watching) => Some((door, watching)),
-            None => {
-                drop(door);
-                None
-            }
-        }
-    }
-
     // The client's connection, which ends where the client is too slow. Returns `None` if out of memory.
     fn patient(&self, socket: TcpStream, stage: SharedStage) -> Option<Patient<R>> {
         Patient::new(
@@ -277,18 +235,79 @@ impl<R: Clock + Copy, H: Answers, B> Http<R, H, B> {
         .ok()
     }
 
-    // What is told of the requests at this door. Returns `None` if out of memory.
-    fn watching(&self, door: &Door<H>) -> Option<Watching<H>> {
+    // What serves the client at this address. Returns `None` if out of memory.
+    fn parts<K: KeepTunnel>(
+        &self,
+        socket: TcpStream,
+        from: IpAddr,
+        stage: SharedStage,
+    ) -> Option<(Door<H, K>, Watching<R, H, K>, Patient<R>)> {
+        let Ok(shared) = stage.share() else {
+            drop(stage);
+            drop(socket);
+            return None;
+        };
+        let Some((door, watching)) = self.watched_door(from, stage) else {
+            drop(shared);
+            drop(socket);
+            return None;
+        };
+        match self.patient(socket, shared) {
+            Some(patient) => Some((door, watching, patient)),
+            None => {
+                drop(watching);
+                drop(door);
+                None
+            }
+        }
+    }
+
+    // The service of a connection from this address, and what watches over it. Returns `None` if out of memory.
+    fn watched_door<K: KeepTunnel>(
+        &self,
+        from: IpAddr,
+        stage: SharedStage,
+    ) -> Option<(Door<H, K>, Watching<R, H, K>)> {
+        let door = self.door(from, stage)?;
+        match self.watching(&door.facts) {
+            Some(watching) => Some((door, watching)),
+            None => {
+                drop(door);
+                None
+            }
+        }
+    }
+
+    // What watches over the connection of these facts. Returns `None` if out of memory.
+    fn watching<K: KeepTunnel>(&self, facts: &SharedFacts<K>) -> Option<Watching<R, H, K>> {
+        let facts = facts.share().ok()?;
+        let Some((dialer, answers)) = self.means() else {
+            drop(facts);
+            return None;
+        };
         Some(Watching {
             alloc: self.alloc,
-            answers: self.answers.share().ok()?,
-            facts: door.facts.share().ok()?,
+            dialer,
+            answers,
+            facts,
             counted: self.counted(),
         })
     }
 
+    // What connects the tunnels of a client, and what answers it. Returns `None` if out of memory.
+    fn means(&self) -> Option<(Dialer<R>, H)> {
+        let answers = self.answers.share().ok()?;
+        match Dialer::new(self.rt, self.alloc, &self.handle) {
+            Ok(dialer) => Some((dialer, answers)),
+            Err(_) => {
+                drop(answers);
+                None
+            }
+        }
+    }
+
     // The service of a connection from this address. Returns `None` if out of memory.
-    fn door(&self, from: IpAddr, stage: SharedStage) -> Option<Door<H>> {
+    fn door<K: KeepTunnel>(&self, from: IpAddr, stage: SharedStage) -> Option<Door<H, K>> {
         let shared = stage.share().ok()?;
         Some(Door {
             alloc: self.alloc,
@@ -475,7 +494,7 @@ pub(crate) fn serve<R, H>(
 ) -> io::Result<()>
 where
     R: Wait + Clock + RandomSource + AllocGlobal + Net + Copy,
-    H: Answers,
+    H: Serves<KeptTunnel>,
 {
     match opened(rt, socket) {
         Ok((place, builder, handle)) => {

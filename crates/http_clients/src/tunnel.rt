@@ -2,7 +2,7 @@
 ghost use Rattle.futures.specs.Poll.{OnPending};
 ghost use Rattle.futures.specs.Task.{Covers, Keeps};
 
-use crate::account::Telling;
+use crate::account::Tally;
 use crate::requests::Answers;
 use bytes::BytesMut;
 use client_streams::Patience;
@@ -45,6 +45,64 @@ pub(crate) struct Opened {
     early: BytesMut,
     still: Duration,
     ticket: Ticket,
+}
+
+/// Keeps the tunnel that a request asks for. What has it is generic over this, since the prover does not look behind a type parameter
+/// (docs/GATE.md).
+pub(crate) trait KeepTunnel: Drop {
+    /// Keeps none.
+    fn empty() -> Self;
+
+    /// Keeps a tunnel that is asked for, until its way is begun.
+    fn put_wanted(&mut self, wanted: Box<Wanted>);
+
+    /// Takes the tunnel that is asked for.
+    fn take_wanted(&mut self) -> Option<Box<Wanted>>;
+
+    /// Keeps a tunnel from its connection to the server until the HTTP connection has handed over its socket.
+    fn put_opened(&mut self, opened: Box<Opened>);
+
+    /// Takes the tunnel whose server is connected.
+    fn take_opened(&mut self) -> Option<Box<Opened>>;
+
+    /// Whether it keeps a tunnel whose server is connected.
+    fn is_opened(&self) -> bool;
+}
+
+/// The tunnel that a request asks for, and the one whose server is connected.
+#[derive(Drop)]
+pub(crate) struct KeptTunnel {
+    wanted: Option<Box<Wanted>>,
+    opened: Option<Box<Opened>>,
+}
+
+impl KeepTunnel for KeptTunnel {
+    fn empty() -> KeptTunnel {
+        KeptTunnel {
+            wanted: None,
+            opened: None,
+        }
+    }
+
+    fn put_wanted(&mut self, wanted: Box<Wanted>) {
+        drop(self.wanted.replace(wanted));
+    }
+
+    fn take_wanted(&mut self) -> Option<Box<Wanted>> {
+        self.wanted.take()
+    }
+
+    fn put_opened(&mut self, opened: Box<Opened>) {
+        drop(self.opened.replace(opened));
+    }
+
+    fn take_opened(&mut self) -> Option<Box<Opened>> {
+        self.opened.take()
+    }
+
+    fn is_opened(&self) -> bool {
+        self.opened.is_some()
+    }
 }
 
 /// What connects tunnels.
@@ -448,10 +506,16 @@ impl<R: Net + Clock + Copy, H: Answers> Opening<R, H> {
     }
 }
 
-impl<R: Net + Clock + Copy, H: Answers> Future for Opening<R, H> {
-    type Output = Result<Box<Opened>, u16>;
+/// A way to the server of a tunnel. What goes it is generic over it, since the prover does not look behind a type parameter (docs/GATE.md).
+pub(crate) trait Reach: Drop {
+    /// Goes on. Ready with the tunnel once its server is connected. Errors: the status to answer.
+    fn poll_reached(&mut self, cx: &mut Context<'_>) -> Poll<Result<Box<Opened>, u16>>
+        ensures registered { OnPending result (Covers cx.new (λ _. ⊥)) }
+        ensures kept { Keeps cx.old cx.new };
+}
 
-    fn poll(&mut self, cx: &mut Context<'_>) -> Poll<Result<Box<Opened>, u16>> {
+impl<R: Net + Clock + Copy, H: Answers> Reach for Opening<R, H> {
+    fn poll_reached(&mut self, cx: &mut Context<'_>) -> Poll<Result<Box<Opened>, u16>> {
         if let Err(status) = ready!(self.poll_address(cx)) {
             return Poll::Ready(Err(status));
         }
@@ -579,7 +643,7 @@ impl Way {
 
 /// The octets of a tunnel, in both directions, until both ends are closed, one of them fails, or neither has moved one for too long.
 /// An end that closes only its own direction goes on to receive. What became of the tunnel is told when this is dropped.
-pub(crate) struct Copying<I, R, H: Answers> {
+pub(crate) struct Copying<I, R, L> {
     client: I,
     server: Paced,
     there: Way,
@@ -588,11 +652,11 @@ pub(crate) struct Copying<I, R, H: Answers> {
     still: Duration,
     ticket: Ticket,
     // The last to be dropped.
-    telling: Option<Telling<H>>,
+    telling: Option<L>,
 }
 
 // Written by hand, so that what lets it go is one call for the prover (docs/GATE.md). The fields go in the order in which they stand.
-impl<I: Drop, R: Drop, H: Answers> Drop for Copying<I, R, H> {
+impl<I: Drop, R: Drop, L: Drop> Drop for Copying<I, R, L> {
     fn drop(self) {
         let Self {
             client: _,
@@ -607,15 +671,15 @@ impl<I: Drop, R: Drop, H: Answers> Drop for Copying<I, R, H> {
     }
 }
 
-impl<I: AsyncRead + AsyncWrite, R: Clock + Copy, H: Answers> Copying<I, R, H> {
+impl<I: AsyncRead + AsyncWrite, R: Clock + Copy, L: Tally> Copying<I, R, L> {
     /// A tunnel to a client that has sent these octets already. Errors: out of memory.
     pub(crate) fn new(
         dialer: &Dialer<R>,
         client: I,
         sent: BytesMut,
         opened: Box<Opened>,
-        telling: Option<Telling<H>>,
-    ) -> Result<Copying<I, R, H>, AllocError> {
+        telling: Option<L>,
+    ) -> Result<Copying<I, R, L>, AllocError> {
         match dialer.patience() {
             Ok(patience) => Ok(Copying::over(patience, client, sent, opened, telling)),
             Err(fault) => {
@@ -634,8 +698,8 @@ impl<I: AsyncRead + AsyncWrite, R: Clock + Copy, H: Answers> Copying<I, R, H> {
         client: I,
         sent: BytesMut,
         opened: Box<Opened>,
-        telling: Option<Telling<H>>,
-    ) -> Copying<I, R, H> {
+        telling: Option<L>,
+    ) -> Copying<I, R, L> {
         let Opened {
             server,
             early,
@@ -694,10 +758,17 @@ impl<I: AsyncRead + AsyncWrite, R: Clock + Copy, H: Answers> Copying<I, R, H> {
     }
 }
 
-impl<I: AsyncRead + AsyncWrite, R: Clock + Copy, H: Answers> Future for Copying<I, R, H> {
-    type Output = ();
+/// A tunnel whose both ends are connected. What has it is generic over it, since the prover does not look behind a type parameter
+/// (docs/GATE.md).
+pub(crate) trait Carry: Drop {
+    /// Goes on. Ready once the tunnel has ended.
+    fn poll_carried(&mut self, cx: &mut Context<'_>) -> Poll<()>
+        ensures registered { OnPending result (Covers cx.new (λ _. ⊥)) }
+        ensures kept { Keeps cx.old cx.new };
+}
 
-    fn poll(&mut self, cx: &mut Context<'_>) -> Poll<()> {
+impl<I: AsyncRead + AsyncWrite, R: Clock + Copy, L: Tally> Carry for Copying<I, R, L> {
+    fn poll_carried(&mut self, cx: &mut Context<'_>) -> Poll<()> {
         let before = self.back.octets;
         let ended = self.poll_ways(cx);
         self.note(before);
