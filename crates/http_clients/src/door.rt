@@ -491,6 +491,13 @@ impl<L: Account, T: Read, U: RelayContent> Future for Serving<L, T, U> {
 // The target of a request as it is written (RFC 3986, section 5.3). Errors: out of memory.
 fn target_of(alloc: Global, uri: &Uri) -> Result<String, AllocError> {
     let mut text = String::with_capacity(alloc, USUAL_TARGET)?;
+    write_origin(&mut text, uri)?;
+    write_path(&mut text, uri)?;
+    Ok(text)
+}
+
+// Writes the scheme and the authority of a target, as far as it has them. Errors: out of memory.
+fn write_origin(text: &mut String, uri: &Uri) -> Result<(), AllocError> {
     if let Some(scheme) = uri.scheme_str() {
         text.push_str(scheme)?;
         text.push_str("://")?;
@@ -498,12 +505,17 @@ fn target_of(alloc: Global, uri: &Uri) -> Result<String, AllocError> {
     if let Some(authority) = uri.authority() {
         text.push_str(authority.as_str())?;
     }
+    Ok(())
+}
+
+// Writes the path of a target, and its query if it has one. Errors: out of memory.
+fn write_path(text: &mut String, uri: &Uri) -> Result<(), AllocError> {
     text.push_str(uri.path())?;
     if let Some(query) = uri.query() {
         text.push_str("?")?;
         text.push_str(query)?;
     }
-    Ok(text)
+    Ok(())
 }
 
 // A future in a box. Returns `None` if out of memory.

@@ -1,7 +1,7 @@
 //! An HTTP server that runs on the calling thread.
 
 use crate::account::{SharedFacts, Telling, tell_refused};
-use crate::connection::Connections;
+use crate::connection::{Connections, OfClient};
 use crate::door::Door;
 use crate::requests::{Answers, Serves};
 use crate::texts::{FORBIDDEN, forbidden};
@@ -15,10 +15,11 @@ use crossbeam_channel::Sender;
 use futures::Future;
 use futures::future::Either;
 use futures::task::{Context, Poll};
-use hyper::rt::TokioTimer;
+use hyper::rt::{Timer, TokioTimer};
 use hyper::server::conn::http1;
 use std::alloc::{AllocError, AllocGlobal, Global};
 use std::hash::RandomState;
+use std::marker::PhantomData;
 use std::net::{IpAddr, Ipv6Addr, Net, SocketAddr, SocketAddrV6};
 use std::random::RandomSource;
 use std::sync::atomic::AtomicUsize;
@@ -114,7 +115,7 @@ fn listen<R: Net>(rt: &R, address: SocketAddr) -> io::Result<net::TcpListener> {
 
 // Makes the HTTP connection of each client.
 #[derive(Drop)]
-struct Http<R, H, B> {
+struct Http<R, H, B, K, I> {
     rt: R,
     alloc: Global,
     handle: Handle,
@@ -125,6 +126,8 @@ struct Http<R, H, B> {
     open: Option<Arc<AtomicUsize>>,
     // Until the server is open.
     bound: Option<Bound>,
+    kept: PhantomData<K>,
+    socket: PhantomData<I>,
 }
 
 // Where a server listens, and who is told so once it is open.
@@ -165,13 +168,15 @@ type Beside<C, R, H, K> = Tunnels<
     Copying<<C as HandOver>::Socket, R, Telling<H, K>>,
 >;
 
-impl<R, H, B> Accept for Http<R, H, B>
+impl<R, H, B, K, I> Accept for Http<R, H, B, K, I>
 where
     R: Wait + Net + Clock + Copy,
     H: Answers,
-    B: Connections<R, H>,
+    B: Connections<I, H, K>,
+    K: KeepTunnel,
+    I: OfClient<R>,
 {
-    type Serving = Client<Watched<B::Connection, Beside<B::Connection, R, H, B::Kept>>, R>;
+    type Serving = Client<Watched<B::Connection, Beside<B::Connection, R, H, K>>, R>;
 
     fn opened(&mut self) {
         if let Some(bound) = self.bound.take() {
@@ -197,8 +202,8 @@ where
                 serving: Either::Right(refusal),
             });
         }
-        let (door, watching, patient) = self.parts(socket, from, stage)?;
-        let inner = self.builder.serve(patient, door);
+        let (door, watching, client) = self.parts(socket, from, stage)?;
+        let inner = self.builder.serve(client, door);
         let watched = Watched::new(self.alloc, inner, Tunnels::new(watching));
         Some(Client {
             serving: Either::Left(watched),
@@ -206,7 +211,7 @@ where
     }
 }
 
-impl<R: Clock + Copy, H: Answers, B> Http<R, H, B> {
+impl<R: Clock + Copy, H: Answers, B, K: KeepTunnel, I: OfClient<R>> Http<R, H, B, K, I> {
     // Refuses the client at this address, which is told so. Returns `None` if out of memory.
     fn refuse(&self, socket: TcpStream, from: IpAddr, stage: SharedStage) -> Option<Refusal<R>> {
         let Ok(text) = forbidden(self.alloc) else {
@@ -214,7 +219,13 @@ impl<R: Clock + Copy, H: Answers, B> Http<R, H, B> {
             drop(socket);
             return None;
         };
-        let Some(patient) = self.patient(socket, stage) else {
+        let Some(patient) = <Patient<R>>::over(
+            self.rt,
+            &self.handle,
+            socket,
+            self.limits.still,
+            stage,
+        ) else {
             drop(text);
             return None;
         };
@@ -223,25 +234,13 @@ impl<R: Clock + Copy, H: Answers, B> Http<R, H, B> {
         Some(Refusal::new(patient, text))
     }
 
-    // The client's connection, which ends where the client is too slow. Returns `None` if out of memory.
-    fn patient(&self, socket: TcpStream, stage: SharedStage) -> Option<Patient<R>> {
-        Patient::new(
-            self.rt,
-            self.handle.time(),
-            socket,
-            self.limits.still,
-            stage,
-        )
-        .ok()
-    }
-
     // What serves the client at this address. Returns `None` if out of memory.
-    fn parts<K: KeepTunnel>(
+    fn parts(
         &self,
         socket: TcpStream,
         from: IpAddr,
         stage: SharedStage,
-    ) -> Option<(Door<H, K>, Watching<R, H, K>, Patient<R>)> {
+    ) -> Option<(Door<H, K>, Watching<R, H, K>, I)> {
         let Ok(shared) = stage.share() else {
             drop(stage);
             drop(socket);
@@ -252,8 +251,8 @@ impl<R: Clock + Copy, H: Answers, B> Http<R, H, B> {
             drop(socket);
             return None;
         };
-        match self.patient(socket, shared) {
-            Some(patient) => Some((door, watching, patient)),
+        match I::over(self.rt, &self.handle, socket, self.limits.still, shared) {
+            Some(client) => Some((door, watching, client)),
             None => {
                 drop(watching);
                 drop(door);
@@ -263,7 +262,7 @@ impl<R: Clock + Copy, H: Answers, B> Http<R, H, B> {
     }
 
     // The service of a connection from this address, and what watches over it. Returns `None` if out of memory.
-    fn watched_door<K: KeepTunnel>(
+    fn watched_door(
         &self,
         from: IpAddr,
         stage: SharedStage,
@@ -279,7 +278,7 @@ impl<R: Clock + Copy, H: Answers, B> Http<R, H, B> {
     }
 
     // What watches over the connection of these facts. Returns `None` if out of memory.
-    fn watching<K: KeepTunnel>(&self, facts: &SharedFacts<K>) -> Option<Watching<R, H, K>> {
+    fn watching(&self, facts: &SharedFacts<K>) -> Option<Watching<R, H, K>> {
         let facts = facts.share().ok()?;
         let Some((dialer, answers)) = self.means() else {
             drop(facts);
@@ -307,7 +306,7 @@ impl<R: Clock + Copy, H: Answers, B> Http<R, H, B> {
     }
 
     // The service of a connection from this address. Returns `None` if out of memory.
-    fn door<K: KeepTunnel>(&self, from: IpAddr, stage: SharedStage) -> Option<Door<H, K>> {
+    fn door(&self, from: IpAddr, stage: SharedStage) -> Option<Door<H, K>> {
         let shared = stage.share().ok()?;
         Some(Door {
             alloc: self.alloc,
@@ -350,11 +349,15 @@ where
 {
     let timers = runtime.handle().time().clone()?;
     let state = RandomState::new(&rt)?;
-    let timer = TokioTimer::new(rt, timers);
-    let mut builder = http1::Builder::new(rt.alloc(), state).timer(timer);
+    Ok(builder_with(rt.alloc(), state, TokioTimer::new(rt, timers)))
+}
+
+// What HTTP connections are made with that have this timer.
+fn builder_with<T: Timer>(alloc: Global, state: RandomState, timer: T) -> http1::Builder<T> {
+    let mut builder = http1::Builder::new(alloc, state).timer(timer);
     builder.header_read_timeout(None);
     builder.max_buf_size(64 * 1024);
-    Ok(builder)
+    builder
 }
 
 // Where a server listens, and the event loop that it runs on.
@@ -496,9 +499,28 @@ where
     R: Wait + Clock + RandomSource + AllocGlobal + Net + Copy,
     H: Serves<KeptTunnel>,
 {
+    serve_with::<R, H, KeptTunnel, Patient<R>>(rt, socket, answers, bound, stops, open, limits)
+}
+
+// Serves as `serve` does, with what keeps tunnels as `K` does, and clients at sockets `I`.
+fn serve_with<R, H, K, I>(
+    rt: R,
+    socket: ClientSocket,
+    answers: H,
+    bound: Sender<SocketAddr, Global>,
+    stops: Stops,
+    open: Option<Arc<AtomicUsize>>,
+    limits: ServeLimits,
+) -> io::Result<()>
+where
+    R: Wait + Clock + RandomSource + AllocGlobal + Net + Copy,
+    H: Serves<K>,
+    K: KeepTunnel,
+    I: OfClient<R>,
+{
     match opened(rt, socket) {
         Ok((place, builder, handle)) => {
-            serve_at(
+            serve_timed::<R, H, K, I, TokioTimer<R>>(
                 rt, place, builder, handle, answers, bound, stops, open, limits,
             )
         }
@@ -512,8 +534,32 @@ where
     }
 }
 
+// Serves at this place by the connections that `builder` makes, of whose timer nothing more is known here.
+fn serve_timed<R, H, K, I, T>(
+    rt: R,
+    place: Place,
+    builder: http1::Builder<T>,
+    handle: Handle,
+    answers: H,
+    bound: Sender<SocketAddr, Global>,
+    stops: Stops,
+    open: Option<Arc<AtomicUsize>>,
+    limits: ServeLimits,
+) -> io::Result<()>
+where
+    R: Wait + Clock + RandomSource + AllocGlobal + Net + Copy,
+    H: Serves<K>,
+    K: KeepTunnel,
+    I: OfClient<R>,
+    T: Timer,
+{
+    serve_at::<R, H, K, I, http1::Builder<T>>(
+        rt, place, builder, handle, answers, bound, stops, open, limits,
+    )
+}
+
 // Serves at this place by the connections that `builder` makes, of whose type nothing more is known here.
-fn serve_at<R, H, B>(
+fn serve_at<R, H, K, I, B>(
     rt: R,
     place: Place,
     builder: B,
@@ -527,13 +573,15 @@ fn serve_at<R, H, B>(
 where
     R: Wait + Clock + RandomSource + AllocGlobal + Net + Copy,
     H: Answers,
-    B: Connections<R, H>,
+    K: KeepTunnel,
+    I: OfClient<R>,
+    B: Connections<I, H, K>,
 {
     let bound = Bound {
         address: place.address,
         to: bound,
     };
-    let http = Http {
+    let http: Http<R, H, B, K, I> = Http {
         rt,
         alloc: rt.alloc(),
         handle,
@@ -542,6 +590,8 @@ where
         answers,
         open,
         bound: Some(bound),
+        kept: PhantomData,
+        socket: PhantomData,
     };
     run_accepted(rt, place, stops, http, limits)
 }

@@ -76,6 +76,17 @@ fn accepted<F: Front + FollowUp + PassOn, K: Drop>(
     let Ok(mut front) = context.front.try_borrow_mut() else {
         return Err(503);
     };
+    let accepted = accepted_by(&mut *front, facts, is_alone);
+    drop(front);
+    accepted
+}
+
+// What this front accepts of the request of these facts, as `submit` has it.
+fn accepted_by<F: Front, K: Drop>(
+    front: &mut F,
+    facts: &SharedFacts<K>,
+    is_alone: bool,
+) -> Result<Asking, u16> {
     let Ok(mut facts) = facts.0.try_borrow_mut() else {
         return Err(503);
     };
@@ -101,6 +112,13 @@ fn is_large<F: Front + FollowUp + PassOn, K: Drop>(
     let Ok(mut front) = context.front.try_borrow_mut() else {
         return false;
     };
+    let is_large = is_large_to(&mut *front, facts);
+    drop(front);
+    is_large
+}
+
+// Whether the answer to the request of these facts is known to this front to be too long to be stored.
+fn is_large_to<F: PassOn, K: Drop>(front: &mut F, facts: &SharedFacts<K>) -> bool {
     let Ok(facts) = facts.0.try_borrow_mut() else {
         return false;
     };
@@ -160,6 +178,17 @@ fn passing_of<F: Front + FollowUp + PassOn, K: Drop>(
     };
     // Content that was collected is not passed on.
     let _ = facts.put_content(Vec::new(context.alloc));
+    let passed = passed_by(&mut *front, facts, content);
+    drop(front);
+    passed
+}
+
+// What this front passes on, which takes the content, as `passes_of` has it.
+fn passed_by<F: PassOn, K: Drop>(
+    front: &mut F,
+    facts: &SharedFacts<K>,
+    content: &mut Option<Coming>,
+) -> Result<Passing, u16> {
     let Ok(mut facts) = facts.0.try_borrow_mut() else {
         return Err(503);
     };
@@ -263,13 +292,20 @@ impl<F: Front + FollowUp + PassOn, K: KeepTunnel> Serves<K> for FrontAnswers<F> 
         let Ok(mut front) = self.context.front.try_borrow_mut() else {
             return Err(503);
         };
-        let Ok(facts) = facts.0.try_borrow_mut() else {
-            return Err(503);
-        };
-        match &facts.asked {
-            Some(asked) => front.tunnel(asked),
-            None => Err(503),
-        }
+        let end = tunnel_by(&mut *front, facts);
+        drop(front);
+        end
+    }
+}
+
+// Where the tunnel leads that the request of these facts opens, as this front says. Errors: the status to answer.
+fn tunnel_by<F: PassOn, K: Drop>(front: &mut F, facts: &SharedFacts<K>) -> Result<TunnelEnd, u16> {
+    let Ok(facts) = facts.0.try_borrow_mut() else {
+        return Err(503);
+    };
+    match &facts.asked {
+        Some(asked) => front.tunnel(asked),
+        None => Err(503),
     }
 }
 
@@ -413,13 +449,24 @@ impl<F: Front + FollowUp + PassOn> Waits<F> {
         let Ok(mut front) = self.guard.context.front.try_borrow_mut() else {
             return Shape::Whole;
         };
-        let Ok(facts) = facts.0.try_borrow_mut() else {
-            return Shape::Whole;
-        };
-        match &facts.asked {
-            Some(asked) => front.shape(asked, object.get()),
-            None => Shape::Whole,
-        }
+        let shape = shape_by(&mut *front, facts, object);
+        drop(front);
+        shape
+    }
+}
+
+// What of this object the request of these facts is answered with, as this front says.
+fn shape_by<F: FollowUp, K: Drop>(
+    front: &mut F,
+    facts: &SharedFacts<K>,
+    object: &SharedObject,
+) -> Shape {
+    let Ok(facts) = facts.0.try_borrow_mut() else {
+        return Shape::Whole;
+    };
+    match &facts.asked {
+        Some(asked) => front.shape(asked, object.get()),
+        None => Shape::Whole,
     }
 }
 
@@ -662,13 +709,23 @@ fn passed_fields<F: Front + FollowUp + PassOn, K: Drop>(
     if let Ok(mut front) = context.front.try_borrow_mut() {
         front.passed(asked, head.status, &head.head);
     }
-    if has_too_many_names(alloc, &head.head) {
+    let is_get = asked.method.as_str() == "GET";
+    let (label, via) = (context.label.as_slice(), context.via.as_slice());
+    fields_of_passed(alloc, &head.head, label, via, is_get)
+}
+
+// The Cache-Status and the Via of an answer with these fields, from a cache of this label and Via. Errors: the status of a failure.
+fn fields_of_passed(
+    alloc: Global,
+    fields: &HeaderMap,
+    label: &[u8],
+    via: &[u8],
+    is_get: bool,
+) -> Result<(Vec<u8>, Vec<u8>), u16> {
+    if has_too_many_names(alloc, fields) {
         return Err(502);
     }
-    let is_get = asked.method.as_str() == "GET";
-    let told = told_passed(alloc, context.label.as_slice(), is_get);
-    let via = context.via.as_slice().to_vec(alloc);
-    match (told, via) {
+    match (told_passed(alloc, label, is_get), via.to_vec(alloc)) {
         (Ok(told), Ok(via)) => Ok((told, via)),
         _ => Err(503),
     }

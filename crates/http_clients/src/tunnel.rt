@@ -20,6 +20,7 @@ use tokio::io::{AsyncRead, AsyncWrite, poll_read_buf, poll_write_buf};
 use tokio::net::{ConnectFuture, TcpStream};
 use tokio::runtime::Handle;
 use tokio::time::Timeout;
+use tokio::time::error::Elapsed;
 
 // How many octets one read of a tunnel may bring. So many are held for each direction, or what the client has sent behind its request,
 // which is at most what the HTTP connection holds.
@@ -422,6 +423,21 @@ impl<R: Clock + Copy, H: Answers> Opening<R, H> {
         drop(mem::replace(&mut self.greeted, greeted));
     }
 
+    // Waits for the end of the greeting. Errors: the status to answer.
+    fn poll_greeted(&mut self, cx: &mut Context<'_>) -> Poll<Result<Box<Opened>, u16>>
+        ensures registered { OnPending result (Covers cx.new (λ _. ⊥)) }
+        ensures kept { Keeps cx.old cx.new }
+    {
+        let Some(greeted) = &mut self.greeted else {
+            return Poll::Ready(Err(503));
+        };
+        match ready!(greeted.poll(cx)) {
+            Ok(Some(reached)) => Poll::Ready(self.opened(reached)),
+            Ok(None) => Poll::Ready(Err(502)),
+            Err(_elapsed) => Poll::Ready(Err(504)),
+        }
+    }
+
     // The tunnel, whose server is connected by this. Errors: 503 without memory, or without a ticket, which is taken once.
     fn opened(&mut self, reached: Reached) -> Result<Box<Opened>, u16> {
         let Some(ticket) = self.ticket.take() else {
@@ -453,18 +469,21 @@ impl<R: Net + Clock + Copy, H: Answers> Opening<R, H> {
         };
         let sought = ready!(seeking.poll(cx));
         drop(self.seeking.take());
-        let servers = match sought {
-            Ok(Some(servers)) => servers,
-            Ok(None) => return Poll::Ready(Err(502)),
-            Err(_elapsed) => return Poll::Ready(Err(504)),
-        };
+        match servers_of(sought) {
+            Ok(servers) => Poll::Ready(self.connect_first(servers)),
+            Err(status) => Poll::Ready(Err(status)),
+        }
+    }
+
+    // Begins to connect the first of these addresses that are admitted. Errors: the status to answer.
+    fn connect_first(&mut self, servers: Addresses) -> Result<(), u16> {
         let Some(servers) = self.admitted(servers) else {
-            return Poll::Ready(Err(403));
+            return Err(403);
         };
         self.share = servers.share(self.connecting);
         self.other = servers.other;
         self.connect(servers.first);
-        Poll::Ready(Ok(()))
+        Ok(())
     }
 
     // Begins to connect this address.
@@ -495,14 +514,31 @@ impl<R: Net + Clock + Copy, H: Answers> Opening<R, H> {
         };
         let reached = ready!(reaching.poll(cx));
         drop(self.reaching.take());
-        match reached {
-            Ok(Ok(socket)) => {
+        match socket_of(reached) {
+            Ok(socket) => {
                 self.greet(socket);
                 Poll::Ready(Ok(()))
             }
-            Ok(Err(_)) => self.connect_other(502, cx),
-            Err(_elapsed) => self.connect_other(504, cx),
+            Err(status) => self.connect_other(status, cx),
         }
+    }
+}
+
+// The addresses of a server that were sought for so long as there was. Errors: the status to answer.
+fn servers_of(sought: Result<Option<Addresses>, Elapsed>) -> Result<Addresses, u16> {
+    match sought {
+        Ok(Some(servers)) => Ok(servers),
+        Ok(None) => Err(502),
+        Err(_elapsed) => Err(504),
+    }
+}
+
+// The connection that was awaited for so long as there was. Errors: the status to answer.
+fn socket_of(reached: Result<io::Result<TcpStream>, Elapsed>) -> Result<TcpStream, u16> {
+    match reached {
+        Ok(Ok(socket)) => Ok(socket),
+        Ok(Err(_)) => Err(502),
+        Err(_elapsed) => Err(504),
     }
 }
 
@@ -522,14 +558,7 @@ impl<R: Net + Clock + Copy, H: Answers> Reach for Opening<R, H> {
         if let Err(status) = ready!(self.poll_connection(cx)) {
             return Poll::Ready(Err(status));
         }
-        let Some(greeted) = &mut self.greeted else {
-            return Poll::Ready(Err(503));
-        };
-        match ready!(greeted.poll(cx)) {
-            Ok(Some(reached)) => Poll::Ready(self.opened(reached)),
-            Ok(None) => Poll::Ready(Err(502)),
-            Err(_elapsed) => Poll::Ready(Err(504)),
-        }
+        self.poll_greeted(cx)
     }
 }
 

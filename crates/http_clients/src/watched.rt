@@ -64,32 +64,38 @@ impl<R: Drop, H: Drop, K: Drop> Drop for Watching<R, H, K> {
     }
 }
 
-/// What a connection asks of the one that watches over it, for the way `W` to a tunnel.
-pub(crate) trait FindWay<W>: Drop {
+/// What a connection asks of the one that watches over it.
+pub(crate) trait Oversee: Drop {
     /// Takes the tunnel that is asked for, and notes that its way begins.
     fn take_wanted(&self) -> Option<Box<Wanted>>;
 
-    /// The way to this end. Returns `None` if out of memory.
-    fn way(&self, end: TunnelEnd) -> Option<Box<W>>;
-
     /// Notes how the way to a tunnel ended: with the tunnel, which is kept, or with this status.
     fn note_end(&self, found: Result<Box<Opened>, u16>) -> Result<(), u16>;
+
+    /// Tells the end of the connection, as `Facts::tell_end` has it.
+    fn tell_end(&self, end: End);
+
+    /// Tells what became of the request whose tunnel has not taken over the socket, if there is one.
+    fn tell_untaken(&self);
 }
 
-impl<R: Clock + Copy, H: Answers, K: KeepTunnel> FindWay<Opening<R, H>> for Watching<R, H, K> {
+/// Finds the way `W` to a tunnel.
+pub(crate) trait FindWay<W>: Oversee {
+    /// The way to this end. Returns `None` if out of memory.
+    fn way(&self, end: TunnelEnd) -> Option<Box<W>>;
+}
+
+/// Has a tunnel `T` take over the socket of a connection `C`.
+pub(crate) trait TakeOver<C, T>: Drop {
+    /// Takes the connection apart, once it has ended, and its socket over for a tunnel if the last response has opened one.
+    fn tunnel_after(&self, inner: C) -> Option<Box<T>>;
+}
+
+impl<R: Clock + Copy, H: Answers, K: KeepTunnel> Oversee for Watching<R, H, K> {
     fn take_wanted(&self) -> Option<Box<Wanted>> {
         let wanted = self.facts.take_wanted()?;
         self.facts.note_way(self.dialer.now());
         Some(wanted)
-    }
-
-    fn way(&self, end: TunnelEnd) -> Option<Box<Opening<R, H>>> {
-        let Some((dialer, answers)) = self.means() else {
-            drop(end);
-            return None;
-        };
-        let opening = Opening::new(dialer, answers, end);
-        Box::new(self.alloc, opening).ok()
     }
 
     fn note_end(&self, found: Result<Box<Opened>, u16>) -> Result<(), u16> {
@@ -103,6 +109,27 @@ impl<R: Clock + Copy, H: Answers, K: KeepTunnel> FindWay<Opening<R, H>> for Watc
                 Err(status)
             }
         }
+    }
+
+    fn tell_end(&self, end: End) {
+        self.facts.tell_end(&self.answers, end);
+    }
+
+    fn tell_untaken(&self) {
+        if self.facts.take_opened().is_some() {
+            drop(Telling::resumed(&self.answers, &self.facts));
+        }
+    }
+}
+
+impl<R: Clock + Copy, H: Answers, K: KeepTunnel> FindWay<Opening<R, H>> for Watching<R, H, K> {
+    fn way(&self, end: TunnelEnd) -> Option<Box<Opening<R, H>>> {
+        let Some((dialer, answers)) = self.means() else {
+            drop(end);
+            return None;
+        };
+        let opening = Opening::new(dialer, answers, end);
+        Box::new(self.alloc, opening).ok()
     }
 }
 
@@ -120,26 +147,14 @@ impl<R: Clock + Copy, H: Answers, K> Watching<R, H, K> {
     }
 }
 
-/// What a connection `C` asks of the one that watches over it once it has ended, for its tunnel, which is `T`.
-pub(crate) trait Succeed<C, T>: Drop {
-    /// Takes the connection apart, and its socket over for a tunnel if the last response has opened one.
-    fn succeed(&self, inner: C) -> Option<Box<T>>;
-
-    /// Tells the end of the connection, as `Facts::tell_end` has it.
-    fn tell_end(&self, end: End);
-
-    /// Tells what became of the request whose tunnel has not taken over the socket, if there is one.
-    fn tell_untaken(&self);
-}
-
-impl<C, R, H, K> Succeed<C, Copying<C::Socket, R, Telling<H, K>>> for Watching<R, H, K>
+impl<C, R, H, K> TakeOver<C, Copying<C::Socket, R, Telling<H, K>>> for Watching<R, H, K>
 where
     C: HandOver,
     R: Clock + Copy,
     H: Answers,
     K: KeepTunnel,
 {
-    fn succeed(&self, inner: C) -> Option<Box<Copying<C::Socket, R, Telling<H, K>>>> {
+    fn tunnel_after(&self, inner: C) -> Option<Box<Copying<C::Socket, R, Telling<H, K>>>> {
         let Some(opened) = self.facts.take_opened() else {
             drop(inner);
             return None;
@@ -150,16 +165,6 @@ where
         match Copying::new(&self.dialer, client, sent, opened, telling) {
             Ok(copying) => Box::new(self.alloc, copying).ok(),
             Err(_) => None,
-        }
-    }
-
-    fn tell_end(&self, end: End) {
-        self.facts.tell_end(&self.answers, end);
-    }
-
-    fn tell_untaken(&self) {
-        if self.facts.take_opened().is_some() {
-            drop(Telling::resumed(&self.answers, &self.facts));
         }
     }
 }
@@ -264,7 +269,7 @@ impl<M: FindWay<W>, W: Reach, T: Drop> Tunnels<M, W, T> {
 
 impl<C, M, W, T> Watch<C> for Tunnels<M, W, T>
 where
-    M: FindWay<W> + Succeed<C, T>,
+    M: FindWay<W> + TakeOver<C, T>,
     W: Reach,
     T: Carry,
 {
@@ -274,7 +279,7 @@ where
     }
 
     fn take_over(&mut self, inner: C) {
-        let copying = self.watching.succeed(inner);
+        let copying = self.watching.tunnel_after(inner);
         drop(mem::replace(&mut self.copying, copying));
     }
 
