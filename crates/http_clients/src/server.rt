@@ -6,7 +6,7 @@ use crate::door::Door;
 use crate::requests::{Answers, Serves};
 use crate::texts::{FORBIDDEN, forbidden};
 use crate::tunnel::{Copying, Dialer, HandOver, KeepTunnel, KeptTunnel, Opening};
-use crate::watched::{Counted, Tunnels, Watched, Watching};
+use crate::watched::{Counted, OfWatching, Tunnels, Watch, Watched, Watching};
 use client_streams::{
     Accept, AcceptedClients, ClientLimits, Listeners, Patient, Refusal, SeatShare, SharedStage,
     Stops, StreamTimeouts, seat_shares,
@@ -115,7 +115,7 @@ fn listen<R: Net>(rt: &R, address: SocketAddr) -> io::Result<net::TcpListener> {
 
 // Makes the HTTP connection of each client.
 #[derive(Drop)]
-struct Http<R, H, B, K, I> {
+struct Http<R, H, B, K, I, W> {
     rt: R,
     alloc: Global,
     handle: Handle,
@@ -128,6 +128,7 @@ struct Http<R, H, B, K, I> {
     bound: Option<Bound>,
     kept: PhantomData<K>,
     socket: PhantomData<I>,
+    watch: PhantomData<W>,
 }
 
 // Where a server listens, and who is told so once it is open.
@@ -168,15 +169,16 @@ type Beside<C, R, H, K> = Tunnels<
     Copying<<C as HandOver>::Socket, R, Telling<H, K>>,
 >;
 
-impl<R, H, B, K, I> Accept for Http<R, H, B, K, I>
+impl<R, H, B, K, I, W> Accept for Http<R, H, B, K, I, W>
 where
     R: Wait + Net + Clock + Copy,
     H: Answers,
     B: Connections<I, H, K>,
     K: KeepTunnel,
     I: OfClient<R>,
+    W: Watch<B::Connection> + OfWatching<Watching<R, H, K>>,
 {
-    type Serving = Client<Watched<B::Connection, Beside<B::Connection, R, H, K>>, R>;
+    type Serving = Client<Watched<B::Connection, W>, R>;
 
     fn opened(&mut self) {
         if let Some(bound) = self.bound.take() {
@@ -204,14 +206,14 @@ where
         }
         let (door, watching, client) = self.parts(socket, from, stage)?;
         let inner = self.builder.serve(client, door);
-        let watched = Watched::new(self.alloc, inner, Tunnels::new(watching));
+        let watched = Watched::new(self.alloc, inner, W::of(watching));
         Some(Client {
             serving: Either::Left(watched),
         })
     }
 }
 
-impl<R: Clock + Copy, H: Answers, B, K: KeepTunnel, I: OfClient<R>> Http<R, H, B, K, I> {
+impl<R: Clock + Copy, H: Answers, B, K: KeepTunnel, I: OfClient<R>, W> Http<R, H, B, K, I, W> {
     // Refuses the client at this address, which is told so. Returns `None` if out of memory.
     fn refuse(&self, socket: TcpStream, from: IpAddr, stage: SharedStage) -> Option<Refusal<R>> {
         let Ok(text) = forbidden(self.alloc) else {
@@ -577,11 +579,36 @@ where
     I: OfClient<R>,
     B: Connections<I, H, K>,
 {
+    serve_beside::<R, H, K, I, B, Beside<B::Connection, R, H, K>>(
+        rt, place, builder, handle, answers, bound, stops, open, limits,
+    )
+}
+
+// Serves as `serve_at` does, where `W` goes on beside the connections, of which nothing more is known here.
+fn serve_beside<R, H, K, I, B, W>(
+    rt: R,
+    place: Place,
+    builder: B,
+    handle: Handle,
+    answers: H,
+    bound: Sender<SocketAddr, Global>,
+    stops: Stops,
+    open: Option<Arc<AtomicUsize>>,
+    limits: ServeLimits,
+) -> io::Result<()>
+where
+    R: Wait + Clock + RandomSource + AllocGlobal + Net + Copy,
+    H: Answers,
+    K: KeepTunnel,
+    I: OfClient<R>,
+    B: Connections<I, H, K>,
+    W: Watch<B::Connection> + OfWatching<Watching<R, H, K>>,
+{
     let bound = Bound {
         address: place.address,
         to: bound,
     };
-    let http: Http<R, H, B, K, I> = Http {
+    let http: Http<R, H, B, K, I, W> = Http {
         rt,
         alloc: rt.alloc(),
         handle,
@@ -592,6 +619,7 @@ where
         bound: Some(bound),
         kept: PhantomData,
         socket: PhantomData,
+        watch: PhantomData,
     };
     run_accepted(rt, place, stops, http, limits)
 }

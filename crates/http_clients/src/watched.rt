@@ -219,9 +219,14 @@ impl<M: Drop, W: Drop, T: Drop> Drop for Tunnels<M, W, T> {
     }
 }
 
-impl<M: FindWay<W>, W: Reach, T: Drop> Tunnels<M, W, T> {
+/// What goes on beside a connection over which `M` watches.
+pub(crate) trait OfWatching<M>: Drop {
     /// No tunnel as yet.
-    pub(crate) fn new(watching: M) -> Tunnels<M, W, T> {
+    fn of(watching: M) -> Self;
+}
+
+impl<M: Drop, W: Drop, T: Drop> OfWatching<M> for Tunnels<M, W, T> {
+    fn of(watching: M) -> Tunnels<M, W, T> {
         Tunnels {
             watching,
             opening: None,
@@ -229,7 +234,9 @@ impl<M: FindWay<W>, W: Reach, T: Drop> Tunnels<M, W, T> {
             copying: None,
         }
     }
+}
 
+impl<M: FindWay<W>, W: Reach, T: Drop> Tunnels<M, W, T> {
     // Begins the way to a tunnel, if one is asked for.
     fn begin_opening(&mut self) {
         let Some(wanted) = self.watching.take_wanted() else {
