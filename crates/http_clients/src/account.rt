@@ -1,28 +1,35 @@
 //! What becomes of the requests of a connection, as the server tells it.
-ghost use Rattle.std.specs.Prelude.{◌≡◌, IfSome, None};
-ghost use Rattle.futures.specs.Poll.{OnPending};
-ghost use Rattle.futures.specs.Task.{Covers, Keeps};
+ghost use Rattle.std.specs.Prelude.{IfSome};
 
-use crate::requests::Answers;
+use crate::requests::{Answers, Given, Serves};
 use crate::texts::{SILENT, UNSERVED, reason, text_with, tunnel_reason};
-use crate::tunnel::{Copying, Dialer, HandOver, Opened, Opening, Wanted};
+use crate::tunnel::{KeepTunnel, Opened, Wanted};
 use client_streams::{SharedStage, Stage};
+use futures::Future;
 use futures::channel::oneshot;
-use futures::task::{Context, Poll};
-use futures::{Future, ready};
-use http_traffic::{Asked, Forward, How, Outcome, Supplier, Told, TunnelEnd};
+use http_traffic::{Asked, Coming, Forward, How, Outcome, Supplier, Told, TunnelEnd};
 use std::alloc::{AllocError, Global};
 use std::cell::RefCell;
 use std::mem;
-use std::net::{IpAddr, Net};
+use std::net::IpAddr;
 use std::rc::Rc;
-use std::sync::Arc;
-use std::sync::atomic::{AtomicUsize, Ordering};
-use std::time::{Clock, Instant};
+use std::time::Instant;
 
-/// What is known of a connection and of the request that is under way on it.
+/// How a connection ended.
+#[derive(Clone, Copy)]
+pub(crate) enum End {
+    /// It has not, or it failed.
+    Broken,
+    /// After a response, or before a request.
+    Regular,
+    /// With a head that could not be read, which the library answered with this status.
+    Refused(u16),
+}
+
+/// What is known of a connection and of the request that is under way on it. It is generic over what keeps the tunnel of the request, since
+/// the types of a tunnel would else cost each function that names these facts (docs/GATE.md).
 #[derive(Drop)]
-pub(crate) struct Facts {
+pub(crate) struct Facts<K> {
     from: IpAddr,
     stage: SharedStage,
     // Whether other methods than GET are served.
@@ -35,13 +42,11 @@ pub(crate) struct Facts {
     status: Option<u16>,
     how: How,
     supplier: Option<Supplier>,
-    // The tunnel that the request asks for, until its way is begun.
-    wanted: Option<Box<Wanted>>,
-    // The tunnel, from its connection to the server until the HTTP connection has handed over its socket.
-    opened: Option<Box<Opened>>,
+    // The tunnel of the request.
+    tunnel: K,
 }
 
-impl Facts {
+impl<K: Drop> Facts<K> {
     // Begins with the next request.
     fn begin(&mut self, asked: Option<Asked>) {
         drop(mem::replace(&mut self.asked, asked));
@@ -158,23 +163,23 @@ impl Facts {
 }
 
 /// The facts of a connection. Reference-counted within one thread.
-pub(crate) struct SharedFacts(pub(crate) Rc<RefCell<Facts>>);
+pub(crate) struct SharedFacts<K>(pub(crate) Rc<RefCell<Facts<K>>>);
 
 // Written by hand, so that what lets it go is one call for the prover (docs/GATE.md).
-impl Drop for SharedFacts {
+impl<K: Drop> Drop for SharedFacts<K> {
     fn drop(self) {
         let Self(_) = self;
     }
 }
 
-impl SharedFacts {
+impl<K: KeepTunnel> SharedFacts<K> {
     /// The facts of a connection from this address, on which no request is under way.
     pub(crate) fn new<H: Answers>(
         alloc: Global,
         answers: &H,
         from: IpAddr,
         stage: SharedStage,
-    ) -> Result<SharedFacts, AllocError> {
+    ) -> Result<SharedFacts<K>, AllocError> {
         let facts = Facts {
             from,
             stage,
@@ -185,14 +190,15 @@ impl SharedFacts {
             status: None,
             how: How::Own,
             supplier: None,
-            wanted: None,
-            opened: None,
+            tunnel: K::empty(),
         };
         Ok(SharedFacts(Rc::new(alloc, RefCell::new(facts))?))
     }
+}
 
+impl<K: Drop> SharedFacts<K> {
     /// Another handle to the same facts. Errors: there are too many handles.
-    pub(crate) fn share(&self) -> Result<SharedFacts, AllocError> {
+    pub(crate) fn share(&self) -> Result<SharedFacts<K>, AllocError> {
         Ok(SharedFacts(self.0.clone()?))
     }
 
@@ -224,6 +230,38 @@ impl SharedFacts {
         false
     }
 
+    /// Notes that the way to a tunnel begins.
+    pub(crate) fn note_way(&self, began: Option<Instant>) {
+        if let Ok(mut facts) = self.0.try_borrow_mut() {
+            facts.note_passed(began);
+        }
+    }
+
+    /// Notes that the way to a tunnel ended with this status: 403 and 503 are the proxy's own.
+    pub(crate) fn note_no_way(&self, status: u16) {
+        if matches!(status, 403 | 503)
+            && let Ok(mut facts) = self.0.try_borrow_mut()
+        {
+            facts.note_refused();
+        }
+    }
+
+    /// Notes that the connection is the end of a tunnel from now on.
+    pub(crate) fn begin_tunnel(&self) {
+        if let Ok(facts) = self.0.try_borrow_mut() {
+            facts.stage.set(Stage::Tunnel);
+        }
+    }
+
+    /// Tells the end of a connection, as `Facts::tell_end` has it.
+    pub(crate) fn tell_end<H: Answers>(&self, answers: &H, end: End) {
+        if let Ok(facts) = self.0.try_borrow_mut() {
+            facts.tell_end(answers, end);
+        }
+    }
+}
+
+impl<K: KeepTunnel> SharedFacts<K> {
     /// Asks for a tunnel to this end. What is returned receives whether its server is connected, or the status to answer. Returns
     /// `None` if out of memory.
     pub(crate) fn want_tunnel(
@@ -250,7 +288,7 @@ impl SharedFacts {
     fn put_wanted(&self, wanted: Box<Wanted>) -> bool {
         match self.0.try_borrow_mut() {
             Ok(mut facts) => {
-                drop(facts.wanted.replace(wanted));
+                facts.tunnel.put_wanted(wanted);
                 true
             }
             Err(_) => {
@@ -260,50 +298,27 @@ impl SharedFacts {
         }
     }
 
-    // Takes the tunnel that is asked for.
-    fn take_wanted(&self) -> Option<Box<Wanted>> {
+    /// Takes the tunnel that is asked for.
+    pub(crate) fn take_wanted(&self) -> Option<Box<Wanted>> {
         match self.0.try_borrow_mut() {
-            Ok(mut facts) => facts.wanted.take(),
+            Ok(mut facts) => facts.tunnel.take_wanted(),
             Err(_) => None,
         }
     }
 
-    // Notes that the way to a tunnel begins.
-    fn note_way(&self, began: Option<Instant>) {
-        if let Ok(mut facts) = self.0.try_borrow_mut() {
-            facts.note_passed(began);
-        }
-    }
-
-    // Notes that the way to a tunnel ended with this status: 403 and 503 are the proxy's own.
-    fn note_no_way(&self, status: u16) {
-        if matches!(status, 403 | 503)
-            && let Ok(mut facts) = self.0.try_borrow_mut()
-        {
-            facts.note_refused();
-        }
-    }
-
-    // Keeps a tunnel whose server is connected.
-    fn put_opened(&self, opened: Box<Opened>) {
+    /// Keeps a tunnel whose server is connected.
+    pub(crate) fn put_opened(&self, opened: Box<Opened>) {
         match self.0.try_borrow_mut() {
-            Ok(mut facts) => drop(facts.opened.replace(opened)),
+            Ok(mut facts) => facts.tunnel.put_opened(opened),
             Err(_) => drop(opened),
         }
     }
 
-    // Takes the tunnel whose server is connected.
-    fn take_opened(&self) -> Option<Box<Opened>> {
+    /// Takes the tunnel whose server is connected.
+    pub(crate) fn take_opened(&self) -> Option<Box<Opened>> {
         match self.0.try_borrow_mut() {
-            Ok(mut facts) => facts.opened.take(),
+            Ok(mut facts) => facts.tunnel.take_opened(),
             Err(_) => None,
-        }
-    }
-
-    // Notes that the connection is the end of a tunnel from now on.
-    fn begin_tunnel(&self) {
-        if let Ok(facts) = self.0.try_borrow_mut() {
-            facts.stage.set(Stage::Tunnel);
         }
     }
 
@@ -313,16 +328,9 @@ impl SharedFacts {
         let Ok(mut facts) = self.0.try_borrow_mut() else {
             return;
         };
-        if facts.opened.is_none() {
+        if !facts.tunnel.is_opened() {
             facts.tell(answers, octets, is_whole);
             drop(facts.asked.take());
-        }
-    }
-
-    // Tells the end of a connection, as `Facts::tell_end` has it.
-    fn tell_end<H: Answers>(&self, answers: &H, end: End) {
-        if let Ok(facts) = self.0.try_borrow_mut() {
-            facts.tell_end(answers, end);
         }
     }
 }
@@ -352,22 +360,55 @@ pub(crate) fn tell_refused<H: Answers>(answers: &H, from: IpAddr, octets: u64) {
     tell_bare(answers, from, Some(403), octets, true);
 }
 
+/// Counts the octets of a content. Who hands them over is generic over it, since the prover does not look behind a type parameter
+/// (docs/GATE.md).
+pub(crate) trait Tally: Drop {
+    /// Notes that so many octets of the content were handed to the connection, and whether these are the last.
+    fn note_octets(&mut self, count: u64, is_last: bool);
+}
+
+/// What becomes of a request, for the future of its response.
+pub(crate) trait Account: Tally {
+    /// An answer in progress.
+    type Answering: Future<Output = Given>;
+
+    /// Starts to answer the request, whose content is complete. Returns `None` if out of memory.
+    fn begin(&self, content: Vec<u8>) -> Option<Self::Answering>
+        ensures { IfSome result Self.Answering.can_poll };
+
+    /// Passes on the request, whose content comes by and by. Returns `None` if out of memory.
+    fn pass(&self, content: Option<Coming>) -> Option<Self::Answering>
+        ensures { IfSome result Self.Answering.can_poll };
+
+    /// What the request is told if it fails with this status. Nothing if out of memory.
+    fn failure(&self, alloc: Global, status: u16) -> Vec<u8>;
+
+    /// Whether it is a HEAD request.
+    fn is_for_head(&self) -> bool;
+
+    /// Notes that there is a response.
+    fn note_answer(&self);
+
+    /// Notes that a response with this status begins.
+    fn note_response(&mut self, status: u16, is_last: bool, is_empty: bool);
+}
+
 /// Tells what became of a request when it is dropped: with the body of its response, or before there is one. A request that has
 /// opened a tunnel is told with that.
-pub(crate) struct Telling<H: Answers> {
-    pub(crate) answers: H,
-    pub(crate) facts: SharedFacts,
+pub(crate) struct Telling<H: Answers, K: KeepTunnel> {
+    answers: H,
+    facts: SharedFacts<K>,
     octets: u64,
     is_whole: bool,
 }
 
-impl<H: Answers> Telling<H> {
+impl<H: Answers, K: KeepTunnel> Telling<H, K> {
     /// Begins with the next request of a connection. Returns `None` if there are too many handles.
     pub(crate) fn new(
         answers: &H,
-        facts: &SharedFacts,
+        facts: &SharedFacts<K>,
         asked: Option<Asked>,
-    ) -> Option<Telling<H>> {
+    ) -> Option<Telling<H, K>> {
         facts.begin(asked);
         Some(Telling {
             answers: answers.share().ok()?,
@@ -378,7 +419,7 @@ impl<H: Answers> Telling<H> {
     }
 
     /// Goes on with the request whose tunnel was taken. Returns `None` if there are too many handles.
-    fn resumed(answers: &H, facts: &SharedFacts) -> Option<Telling<H>> {
+    pub(crate) fn resumed(answers: &H, facts: &SharedFacts<K>) -> Option<Telling<H, K>> {
         Some(Telling {
             answers: answers.share().ok()?,
             facts: facts.share().ok()?,
@@ -386,24 +427,59 @@ impl<H: Answers> Telling<H> {
             is_whole: false,
         })
     }
+}
 
-    /// Notes that a response with this status begins.
-    pub(crate) fn note_response(&mut self, status: u16, is_last: bool, is_empty: bool) {
+impl<H: Answers, K: KeepTunnel> Tally for Telling<H, K> {
+    fn note_octets(&mut self, count: u64, is_last: bool) {
+        self.octets = self.octets.saturating_add(count);
+        self.is_whole = is_last;
+    }
+}
+
+impl<H: Serves<K>, K: KeepTunnel> Account for Telling<H, K> {
+    type Answering = H::Answering;
+
+    fn begin(&self, content: Vec<u8>) -> Option<H::Answering> {
+        let facts = self.facts.share().ok()?;
+        if !facts.put_content(content) {
+            return None;
+        }
+        Some(self.answers.begin(facts))
+    }
+
+    fn pass(&self, content: Option<Coming>) -> Option<H::Answering> {
+        let Ok(facts) = self.facts.share() else {
+            drop(content);
+            return None;
+        };
+        Some(self.answers.pass(facts, content))
+    }
+
+    fn failure(&self, alloc: Global, status: u16) -> Vec<u8> {
+        self.facts.failure(alloc, status)
+    }
+
+    fn is_for_head(&self) -> bool {
+        match self.facts.0.try_borrow_mut() {
+            Ok(facts) => facts.is_head(),
+            Err(_) => false,
+        }
+    }
+
+    fn note_answer(&self) {
+        self.answers.note_answer();
+    }
+
+    fn note_response(&mut self, status: u16, is_last: bool, is_empty: bool) {
         if let Ok(mut facts) = self.facts.0.try_borrow_mut() {
             facts.status = Some(status);
             facts.is_last = is_last;
             self.is_whole = is_empty || facts.is_head();
         }
     }
-
-    /// Notes that so many octets of the content were handed to the connection, and whether these are the last.
-    pub(crate) fn note_octets(&mut self, count: u64, is_last: bool) {
-        self.octets = self.octets.saturating_add(count);
-        self.is_whole = is_last;
-    }
 }
 
-impl<H: Answers> Drop for Telling<H> {
+impl<H: Answers, K: KeepTunnel> Drop for Telling<H, K> {
     fn drop(self) {
         let Telling {
             answers,
@@ -414,286 +490,5 @@ impl<H: Answers> Drop for Telling<H> {
         facts.tell_request(&answers, octets, is_whole);
         drop(facts);
         drop(answers);
-    }
-}
-
-/// One of the open connections that are counted, until this is dropped.
-pub(crate) struct Counted {
-    count: Arc<AtomicUsize>,
-}
-
-impl Counted {
-    /// Counts one more. Returns `None` if there are too many handles.
-    pub(crate) fn new(count: &Arc<AtomicUsize>) -> Option<Counted> {
-        let count = Arc::try_clone(count).ok()?;
-        count.fetch_add(1, Ordering::SeqCst);
-        Some(Counted { count })
-    }
-}
-
-impl Drop for Counted {
-    fn drop(self) {
-        let Counted { count } = self;
-        count.fetch_sub(1, Ordering::SeqCst);
-    }
-}
-
-/// What watches over a connection.
-pub(crate) struct Watching<H> {
-    pub(crate) alloc: Global,
-    pub(crate) answers: H,
-    pub(crate) facts: SharedFacts,
-    /// None where connections aren't counted.
-    pub(crate) counted: Option<Counted>,
-}
-
-// Written by hand, so that what lets it go is one call for the prover (docs/GATE.md).
-impl<H: Drop> Drop for Watching<H> {
-    fn drop(self) {
-        let Self {
-            alloc: _,
-            answers: _,
-            facts: _,
-            counted: _,
-        } = self;
-    }
-}
-
-// Apart from `Watched`, since what a type has in it costs each function that names it (docs/GATE.md).
-impl<H: Answers> Watching<H> {
-    // The way to this end. Returns `None` if out of memory.
-    fn way<R: Clock + Copy>(
-        &self,
-        dialer: &Dialer<R>,
-        end: TunnelEnd,
-    ) -> Option<Box<Opening<R, H>>> {
-        let Some((dialer, answers)) = self.means(dialer) else {
-            drop(end);
-            return None;
-        };
-        let opening = Opening::new(dialer, answers, end);
-        Box::new(self.alloc, opening).ok()
-    }
-
-    // What a way is gone with. Returns `None` if out of memory.
-    fn means<R: Clock + Copy>(&self, dialer: &Dialer<R>) -> Option<(Dialer<R>, H)> {
-        let dialer = dialer.share().ok()?;
-        match self.answers.share() {
-            Ok(answers) => Some((dialer, answers)),
-            Err(_) => {
-                drop(dialer);
-                None
-            }
-        }
-    }
-}
-
-/// The connection of a client, and after it the tunnel that it has opened. Its end is told where it comes before the head of a request
-/// is complete.
-pub(crate) struct Watched<C: HandOver, R: Drop, H: Answers> {
-    // None once there is a tunnel.
-    inner: Option<C>,
-    watching: Watching<H>,
-    dialer: Dialer<R>,
-    // The way to the server of a tunnel, and what receives whether it has been found.
-    opening: Option<Box<Opening<R, H>>>,
-    done: Option<oneshot::Sender<Result<(), u16>>>,
-    copying: Option<Box<Copying<C::Socket, R, H>>>,
-    // How the connection ended, once it has.
-    end: End,
-}
-
-/// How a connection ended.
-#[derive(Clone, Copy)]
-pub(crate) enum End {
-    /// It has not, or it failed.
-    Broken,
-    /// After a response, or before a request.
-    Regular,
-    /// With a head that could not be read, which the library answered with this status.
-    Refused(u16),
-}
-
-impl<C, R, H> Watched<C, R, H>
-where
-    C: Future<Output = hyper::Result<()>> + HandOver,
-    R: Clock + Copy,
-    H: Answers,
-{
-    /// A connection that has not ended, and has no tunnel.
-    pub(crate) fn new(inner: C, watching: Watching<H>, dialer: Dialer<R>) -> Watched<C, R, H>
-        requires { C.can_poll inner }
-        ensures { IfSome result.inner C.can_poll }
-    {
-        Watched {
-            inner: Some(inner),
-            watching,
-            dialer,
-            opening: None,
-            done: None,
-            copying: None,
-            end: End::Broken,
-        }
-    }
-
-    // Begins the way to a tunnel, if one is asked for.
-    fn begin_opening(&mut self)
-        ensures { self.new.inner ≡ self.old.inner }
-    {
-        let Some(wanted) = self.watching.facts.take_wanted() else {
-            return;
-        };
-        self.watching.facts.note_way(self.dialer.now());
-        let Wanted { end, done } = Box::into_inner(wanted);
-        match self.watching.way(&self.dialer, end) {
-            Some(opening) => {
-                drop(self.opening.replace(opening));
-                drop(self.done.replace(done));
-            }
-            None => {
-                self.watching.facts.note_no_way(503);
-                drop(done.send(Err(503)));
-            }
-        }
-    }
-
-    // Takes the connection apart, once it has ended, and its socket over for a tunnel if the last response has opened one.
-    fn take_over(&mut self)
-        ensures { self.new.inner ≡ None }
-    {
-        let Some(inner) = self.inner.take() else {
-            return;
-        };
-        let Some(opened) = self.watching.facts.take_opened() else {
-            return;
-        };
-        let telling = Telling::resumed(&self.watching.answers, &self.watching.facts);
-        let (client, sent) = inner.hand_over();
-        self.watching.facts.begin_tunnel();
-        self.copying = match Copying::new(&self.dialer, client, sent, opened, telling) {
-            Ok(copying) => Box::new(self.watching.alloc, copying).ok(),
-            Err(_) => None,
-        };
-    }
-
-    // Serves the connection until it ends or is taken over by a tunnel.
-    fn poll_inner(&mut self, cx: &mut Context<'_>) -> Poll<End>
-        requires { IfSome self.old.inner C.can_poll }
-        ensures again { OnPending result (IfSome self.new.inner C.can_poll) }
-        ensures registered { OnPending result (Covers cx.new (λ _. ⊥)) }
-        ensures kept { Keeps cx.old cx.new }
-    {
-        let Some(inner) = &mut self.inner else {
-            return Poll::Ready(End::Regular);
-        };
-        match ready!(inner.poll(cx)) {
-            Ok(()) => Poll::Ready(End::Regular),
-            Err(error) => {
-                let end = end_of(self.watching.alloc, &error);
-                drop(error);
-                Poll::Ready(end)
-            }
-        }
-    }
-}
-
-impl<C: HandOver, R: Net + Clock + Copy, H: Answers> Watched<C, R, H> {
-    // Goes on the way to a tunnel. The service of the connection receives its end.
-    fn poll_opening(&mut self, cx: &mut Context<'_>)
-        ensures same { self.new.inner ≡ self.old.inner }
-        ensures kept { Keeps cx.old cx.new }
-    {
-        let Some(opening) = &mut self.opening else {
-            return;
-        };
-        let Poll::Ready(found) = opening.poll(cx) else {
-            return;
-        };
-        drop(self.opening.take());
-        let found = match found {
-            Ok(opened) => {
-                self.watching.facts.put_opened(opened);
-                Ok(())
-            }
-            Err(status) => {
-                self.watching.facts.note_no_way(status);
-                Err(status)
-            }
-        };
-        if let Some(done) = self.done.take() {
-            drop(done.send(found));
-        }
-        let _: Poll<()> = cx.yield_now();
-    }
-}
-
-impl<C, R, H> Future for Watched<C, R, H>
-where
-    C: Future<Output = hyper::Result<()>> + HandOver,
-    R: Net + Clock + Copy,
-    H: Answers,
-{
-    type Output = ();
-
-    ghost can_poll = { λ w. IfSome w.inner C.can_poll };
-
-    fn poll(&mut self, cx: &mut Context<'_>) -> Poll<()> {
-        if let Some(copying) = &mut self.copying {
-            return copying.poll(cx);
-        }
-        let Poll::Ready(end) = self.poll_inner(cx) else {
-            self.begin_opening();
-            self.poll_opening(cx);
-            return Poll::Pending;
-        };
-        self.end = end;
-        if !matches!(end, End::Regular) {
-            return Poll::Ready(());
-        }
-        self.take_over();
-        if self.copying.is_some() {
-            return cx.yield_now();
-        }
-        Poll::Ready(())
-    }
-}
-
-impl<C: HandOver, R: Drop, H: Answers> Drop for Watched<C, R, H> {
-    fn drop(self) {
-        let Watched {
-            inner,
-            watching,
-            dialer,
-            opening,
-            done,
-            copying,
-            end,
-        } = self;
-        watching.facts.tell_end(&watching.answers, end);
-        drop(inner);
-        if watching.facts.take_opened().is_some() {
-            // The connection has failed before its socket was taken over: this tells what became of the request.
-            drop(Telling::resumed(&watching.answers, &watching.facts));
-        }
-        drop(copying);
-        drop(done);
-        drop(opening);
-        drop(dialer);
-        drop(watching);
-    }
-}
-
-// The end of a connection with this error.
-fn end_of(alloc: Global, error: &hyper::Error) -> End {
-    if !error.is_parse() {
-        return End::Broken;
-    }
-    if !error.is_parse_too_large() {
-        return End::Refused(400);
-    }
-    // 414 and 431 are told apart by their text alone.
-    match format!(in alloc; "{}", error) {
-        Ok(text) if text.as_str() == "request line is too long" => End::Refused(414),
-        _ => End::Refused(431),
     }
 }

@@ -1,12 +1,14 @@
 //! The administration server: installs and removes filters, and shows counters.
 use crate::account::SharedFacts;
-use crate::requests::{Answers, Given, TextKind};
+use crate::requests::{Answers, Given, OwnAnswer, Serves, TextKind};
 use crate::server::{ClientSocket, ServeLimits, serve};
 use crate::texts::{no_log, not_administrator, stopping, text_of};
+use crate::tunnel::KeepTunnel;
 use admin_page::PAGE;
 use client_streams::Stops;
 use crossbeam_channel::Sender;
 use filter_slots::{Slot, Socket};
+use futures::Future;
 use futures::channel::mpsc;
 use futures::future::{Ready, ready};
 use http_traffic::{
@@ -79,16 +81,16 @@ fn capture_query(path: &str) -> Option<Option<&str>> {
     }
 }
 
-fn text(status: u16, text: Vec<u8>) -> Given {
-    Given::Text {
+fn text(status: u16, text: Vec<u8>) -> OwnAnswer {
+    OwnAnswer::Text {
         status,
         text,
         kind: TextKind::Plain,
     }
 }
 
-fn figures(text: Vec<u8>, kind: TextKind) -> Given {
-    Given::Text {
+fn figures(text: Vec<u8>, kind: TextKind) -> OwnAnswer {
+    OwnAnswer::Text {
         status: 200,
         text,
         kind,
@@ -105,7 +107,7 @@ fn store_question(path: &str) -> Option<&str> {
 }
 
 // The answer to a question about the store that has none. Errors: out of memory.
-fn no_object(alloc: Global, fault: StoreFault, path: &str) -> Result<Given, AllocError> {
+fn no_object(alloc: Global, fault: StoreFault, path: &str) -> Result<OwnAnswer, AllocError> {
     match fault {
         StoreFault::NoQuestion(line) => Ok(text(400, line)),
         StoreFault::NotStored => Ok(text(404, text_of(alloc, 404, path.as_bytes())?)),
@@ -115,7 +117,11 @@ fn no_object(alloc: Global, fault: StoreFault, path: &str) -> Result<Given, Allo
 }
 
 // The answer to a request of what is stored. `None` if there is no such path. Errors: out of memory.
-fn stored<P: Panel>(alloc: Global, panel: &mut P, path: &str) -> Result<Option<Given>, AllocError> {
+fn stored<P: Panel>(
+    alloc: Global,
+    panel: &mut P,
+    path: &str,
+) -> Result<Option<OwnAnswer>, AllocError> {
     let Some(asked) = store_question(path) else {
         return shown(alloc, panel, path);
     };
@@ -130,7 +136,7 @@ fn removed<P: Panel>(
     alloc: Global,
     panel: &mut P,
     path: &str,
-) -> Result<Option<Given>, AllocError> {
+) -> Result<Option<OwnAnswer>, AllocError> {
     let asked = match store_question(path) {
         Some(asked) if asked.starts_with('/') => asked,
         _ => return Ok(None),
@@ -142,7 +148,7 @@ fn removed<P: Panel>(
 }
 
 // The answer to a request to install filters. Errors: out of memory.
-fn installed(alloc: Global, done: Result<(), PutFault>) -> Result<Given, AllocError> {
+fn installed(alloc: Global, done: Result<(), PutFault>) -> Result<OwnAnswer, AllocError> {
     match done {
         Ok(()) => Ok(text(204, Vec::new(alloc))),
         Err(PutFault::NoFilter(line)) => Ok(text(400, line)),
@@ -151,7 +157,11 @@ fn installed(alloc: Global, done: Result<(), PutFault>) -> Result<Given, AllocEr
 }
 
 // The answer to a request that asks for something to be done. `None` if there is no such path. Errors: out of memory.
-fn done<P: Panel>(alloc: Global, panel: &mut P, path: &str) -> Result<Option<Given>, AllocError> {
+fn done<P: Panel>(
+    alloc: Global,
+    panel: &mut P,
+    path: &str,
+) -> Result<Option<OwnAnswer>, AllocError> {
     let given = if let Some(query) = capture_query(path) {
         captured(alloc, panel.capture(query))
     } else {
@@ -166,7 +176,7 @@ fn done<P: Panel>(alloc: Global, panel: &mut P, path: &str) -> Result<Option<Giv
 }
 
 // An answer that there is. Errors: as it has.
-fn found(given: Result<Given, AllocError>) -> Result<Option<Given>, AllocError> {
+fn found(given: Result<OwnAnswer, AllocError>) -> Result<Option<OwnAnswer>, AllocError> {
     match given {
         Ok(given) => Ok(Some(given)),
         Err(fault) => Err(fault),
@@ -174,7 +184,7 @@ fn found(given: Result<Given, AllocError>) -> Result<Option<Given>, AllocError> 
 }
 
 // The answer to a request to open the log anew, given whether there is one. Errors: out of memory.
-fn reopened(alloc: Global, is_open: bool) -> Result<Given, AllocError> {
+fn reopened(alloc: Global, is_open: bool) -> Result<OwnAnswer, AllocError> {
     if is_open {
         Ok(text(204, Vec::new(alloc)))
     } else {
@@ -183,7 +193,7 @@ fn reopened(alloc: Global, is_open: bool) -> Result<Given, AllocError> {
 }
 
 // The answer to a request to stop. Errors: out of memory.
-fn stopped<P: Panel>(alloc: Global, panel: &mut P) -> Result<Given, AllocError> {
+fn stopped<P: Panel>(alloc: Global, panel: &mut P) -> Result<OwnAnswer, AllocError> {
     // The text comes first, since what follows cannot be taken back.
     let line = stopping(alloc)?;
     panel.stop();
@@ -191,10 +201,14 @@ fn stopped<P: Panel>(alloc: Global, panel: &mut P) -> Result<Given, AllocError> 
 }
 
 // The answer to a request of figures or of the page. `None` if there is no such path. Errors: out of memory.
-fn shown<P: Panel>(alloc: Global, panel: &mut P, path: &str) -> Result<Option<Given>, AllocError> {
+fn shown<P: Panel>(
+    alloc: Global,
+    panel: &mut P,
+    path: &str,
+) -> Result<Option<OwnAnswer>, AllocError> {
     if path == "/" {
         let page = PAGE.as_bytes().to_vec(alloc)?;
-        return Ok(Some(Given::Page(page)));
+        return Ok(Some(OwnAnswer::Page(page)));
     }
     let Some((asked, kind)) = figures_at(path) else {
         return Ok(None);
@@ -219,9 +233,9 @@ fn figures_at(path: &str) -> Option<(Figures, TextKind)> {
 fn captured(
     alloc: Global,
     begun: Result<mpsc::Receiver<Vec<u8>>, CaptureFault>,
-) -> Result<Given, AllocError> {
+) -> Result<OwnAnswer, AllocError> {
     match begun {
-        Ok(pieces) => Ok(Given::Capture(pieces)),
+        Ok(pieces) => Ok(OwnAnswer::Capture(pieces)),
         Err(CaptureFault::NoLimits(line)) => Ok(text(400, line)),
         Err(CaptureFault::Busy) => Ok(text(409, text_of(alloc, 409, b"")?)),
         Err(CaptureFault::NoMemory) => Err(AllocError),
@@ -241,26 +255,35 @@ impl<P: Panel> Administrators<P> {
     }
 
     // The answer to a request. Errors: out of memory.
-    fn answer(&self, asked: &Asked) -> Result<Given, AllocError> {
+    fn answer(&self, asked: &Asked) -> Result<OwnAnswer, AllocError> {
         let alloc = self.office.alloc;
         match self.refusal(asked) {
             Some(403) => Ok(text(403, not_administrator(alloc)?)),
             Some(status) => {
                 let path = path_of(asked.target.as_str());
-                Ok(Given::Challenge(text_of(alloc, status, path.as_bytes())?))
+                Ok(OwnAnswer::Challenge(text_of(alloc, status, path.as_bytes())?))
             }
             None => self.obey(asked),
         }
     }
 
     // The answer to the request of these facts. Errors: out of memory.
-    fn answer_to(&self, facts: &SharedFacts) -> Result<Given, AllocError> {
+    fn answer_to<K: Drop>(&self, facts: &SharedFacts<K>) -> Result<OwnAnswer, AllocError> {
         let Ok(facts) = facts.0.try_borrow_mut() else {
             return Err(AllocError);
         };
         match &facts.asked {
             Some(asked) => self.answer(asked),
             None => Err(AllocError),
+        }
+    }
+
+    // As `answer_to`, with a text in place of an error.
+    fn answer_or_excuse<K: Drop>(&self, facts: &SharedFacts<K>) -> OwnAnswer {
+        let alloc = self.office.alloc;
+        match self.answer_to(facts) {
+            Ok(answer) => answer,
+            Err(_) => text(503, text_of(alloc, 503, b"").unwrap_or(Vec::new(alloc))),
         }
     }
 
@@ -281,7 +304,7 @@ impl<P: Panel> Administrators<P> {
     }
 
     // The answer to a request of the administrator. Errors: out of memory.
-    fn obey(&self, asked: &Asked) -> Result<Given, AllocError> {
+    fn obey(&self, asked: &Asked) -> Result<OwnAnswer, AllocError> {
         let alloc = self.office.alloc;
         let Ok(mut panel) = self.office.panel.try_borrow_mut() else {
             return Err(AllocError);
@@ -301,7 +324,7 @@ fn answer_at<P: Panel>(
     panel: &mut P,
     asked: &Asked,
     path: &str,
-) -> Result<Option<Given>, AllocError> {
+) -> Result<Option<OwnAnswer>, AllocError> {
     match slot_of(path) {
         Some(slot) if panel.has(slot) => answer_of_slot(alloc, panel, asked, slot),
         _ => match asked.method.as_str() {
@@ -319,7 +342,7 @@ fn answer_of_slot<P: Panel>(
     panel: &mut P,
     asked: &Asked,
     slot: Slot,
-) -> Result<Option<Given>, AllocError> {
+) -> Result<Option<OwnAnswer>, AllocError> {
     match asked.method.as_str() {
         "PUT" => found(installed(alloc, panel.put(slot, asked.content.as_slice()))),
         "DELETE" => {
@@ -332,13 +355,11 @@ fn answer_of_slot<P: Panel>(
 }
 
 // The answer where there is no such path. Errors: out of memory.
-fn not_found(alloc: Global, path: &str) -> Result<Given, AllocError> {
+fn not_found(alloc: Global, path: &str) -> Result<OwnAnswer, AllocError> {
     Ok(text(404, text_of(alloc, 404, path.as_bytes())?))
 }
 
 impl<P: Panel> Answers for Administrators<P> {
-    type Answering = Ready<Given>;
-
     fn share(&self) -> Result<Administrators<P>, AllocError> {
         Ok(Administrators {
             office: self.office.clone()?,
@@ -352,6 +373,14 @@ impl<P: Panel> Answers for Administrators<P> {
         }
     }
 
+    fn note_answer(&self) {}
+
+    fn tell(&self, _told: &Told<'_>) {}
+}
+
+impl<P: Panel, K: KeepTunnel> Serves<K> for Administrators<P> {
+    type Answering = Ready<Given>;
+
     fn road(&self, method: &str) -> Result<Road, u16> {
         match method {
             "GET" | "PUT" | "DELETE" | "POST" => Ok(Road::Node),
@@ -359,7 +388,7 @@ impl<P: Panel> Answers for Administrators<P> {
         }
     }
 
-    fn refuses(&self, facts: &SharedFacts) -> bool {
+    fn refuses(&self, facts: &SharedFacts<K>) -> bool {
         let Ok(facts) = facts.0.try_borrow_mut() else {
             return false;
         };
@@ -369,25 +398,23 @@ impl<P: Panel> Answers for Administrators<P> {
         }
     }
 
-    fn begin(&self, facts: SharedFacts) -> Ready<Given> {
-        let alloc = self.office.alloc;
-        match self.answer_to(&facts) {
-            Ok(given) => ready(given),
-            Err(_) => {
-                let why = text_of(alloc, 503, b"").unwrap_or(Vec::new(alloc));
-                ready(text(503, why))
-            }
-        }
+    fn begin(&self, facts: SharedFacts<K>) -> Ready<Given>
+        ensures { ⟦<Ready<Given> as Future>⟧.can_poll result }
+    {
+        let answer = self.answer_or_excuse(&facts);
+        drop(facts);
+        ready(Given::Own(answer))
     }
 
     // No request has this road.
-    fn pass(&self, facts: SharedFacts, _content: Option<Coming>) -> Ready<Given> {
-        self.begin(facts)
+    fn pass(&self, facts: SharedFacts<K>, content: Option<Coming>) -> Ready<Given>
+        ensures { ⟦<Ready<Given> as Future>⟧.can_poll result }
+    {
+        let answer = self.answer_or_excuse(&facts);
+        drop(content);
+        drop(facts);
+        ready(Given::Own(answer))
     }
-
-    fn note_answer(&self) {}
-
-    fn tell(&self, _told: &Told<'_>) {}
 }
 
 /// Serves administration on the calling thread, on this port of 127.0.0.1 only, until `stops.stop` is ready or its sender is

@@ -3,10 +3,11 @@ ghost use Rattle.std.specs.Prelude.{◌≡◌, IfSome, None, box_value};
 ghost use Rattle.futures.specs.Poll.{OnPending};
 ghost use Rattle.futures.specs.Task.{Covers, Keeps};
 
-use crate::account::{SharedFacts, Telling};
+use crate::account::{Account, SharedFacts, Telling};
 use crate::reply::Reply;
-use crate::requests::{Answers, Given, TextKind};
+use crate::requests::{Given, OwnAnswer, Serves, TextKind};
 use crate::responses::{announce_close, bare, response_of};
+use crate::tunnel::KeepTunnel;
 use crate::upload::{Pieces, RelayContent, Upload};
 use client_streams::{SharedStage, Stage};
 use futures::channel::oneshot;
@@ -26,19 +27,19 @@ use std::net::IpAddr;
 const USUAL_TARGET: usize = 128;
 
 /// Passes the requests of one connection to `answers`, which is shared by all connections.
-pub(crate) struct Door<H> {
+pub(crate) struct Door<H, K> {
     pub(crate) alloc: Global,
     pub(crate) answers: H,
     /// The client's address.
     pub(crate) from: IpAddr,
-    pub(crate) facts: SharedFacts,
+    pub(crate) facts: SharedFacts<K>,
     pub(crate) stage: SharedStage,
     /// The most octets of a request's content; more is refused with 413.
     pub(crate) limit: usize,
 }
 
 // Written by hand, so that what lets it go is one call for the prover (docs/GATE.md).
-impl<H: Drop> Drop for Door<H> {
+impl<H: Drop, K: Drop> Drop for Door<H, K> {
     fn drop(self) {
         let Self {
             alloc: _,
@@ -51,7 +52,7 @@ impl<H: Drop> Drop for Door<H> {
     }
 }
 
-impl<H: Answers> Door<H> {
+impl<H: Serves<K>, K: KeepTunnel> Door<H, K> {
     // The request to be answered, as yet without its content. Returns `None` if out of memory.
     fn keep(&self, parts: http::request::Parts) -> Option<Asked> {
         let Some((method, target)) = self.line(&parts) else {
@@ -94,12 +95,12 @@ impl<H: Answers> Door<H> {
     }
 }
 
-impl<I: Drop, H: Answers> Service<Request<Incoming<I>>> for Door<H> {
-    type Response = Response<Reply<H, Upload<I>>>;
+impl<I: Drop, H: Serves<K>, K: KeepTunnel> Service<Request<Incoming<I>>> for Door<H, K> {
+    type Response = Response<Reply<Telling<H, K>, Upload<I>>>;
 
     type Error = Infallible;
 
-    type Future = Serving<H, AtMost<I, Pieces>, Upload<I>>;
+    type Future = Serving<Telling<H, K>, AtMost<I, Pieces>, Upload<I>>;
 
     fn call(&self, req: Request<Incoming<I>>) -> Self::Future {
         let (parts, body) = req.into_parts();
@@ -116,7 +117,7 @@ impl<I: Drop, H: Answers> Service<Request<Incoming<I>>> for Door<H> {
     }
 }
 
-impl<H: Answers> Door<H> {
+impl<H: Serves<K>, K: KeepTunnel> Door<H, K> {
     // How this request is taken, whose content has at least so many octets. Errors: the status that refuses it before its content is
     // read. A content that is passed on may have no transfer coding but chunked (RFC 9112, section 6.1).
     fn way(&self, parts: &http::request::Parts, least: u64) -> Result<Road, u16> {
@@ -137,7 +138,10 @@ impl<H: Answers> Door<H> {
 
     // A response that neither reads the content nor waits for an answer, as yet: 503, after which the connection closes if the content
     // is in chunks.
-    fn serving<T: Read, U: RelayContent>(&self, parts: http::request::Parts) -> Serving<H, T, U>
+    fn serving<T: Read, U: RelayContent>(
+        &self,
+        parts: http::request::Parts,
+    ) -> Serving<Telling<H, K>, T, U>
         ensures { (result.content ≡ None) × (result.answering ≡ None) }
     {
         let is_coded = parts.headers.contains_key(header::TRANSFER_ENCODING);
@@ -165,8 +169,8 @@ impl<H: Answers> Door<H> {
         body: T::Body,
         is_empty: bool,
         reader: &T,
-    ) -> Serving<H, T, U>
-        ensures { ⟦<Serving<H, T, U> as Future>⟧.can_poll result }
+    ) -> Serving<Telling<H, K>, T, U>
+        ensures { ⟦<Serving<Telling<H, K>, T, U> as Future>⟧.can_poll result }
     {
         match way {
             Ok(Road::Tunnel) => {
@@ -185,7 +189,10 @@ impl<H: Answers> Door<H> {
     }
 
     // Opens a tunnel. Where it is refused, the connection ends: what stands behind the request was meant for the tunnel, and is no request.
-    fn open<T: Read, U: RelayContent>(&self, parts: http::request::Parts) -> Serving<H, T, U>
+    fn open<T: Read, U: RelayContent>(
+        &self,
+        parts: http::request::Parts,
+    ) -> Serving<Telling<H, K>, T, U>
         ensures { (result.content ≡ None) × (result.answering ≡ None) }
     {
         let mut serving = self.serving(parts);
@@ -203,8 +210,8 @@ impl<H: Answers> Door<H> {
         body: T::Body,
         is_empty: bool,
         reader: &T,
-    ) -> Serving<H, T, U>
-        ensures { ⟦<Serving<H, T, U> as Future>⟧.can_poll result }
+    ) -> Serving<Telling<H, K>, T, U>
+        ensures { ⟦<Serving<Telling<H, K>, T, U> as Future>⟧.can_poll result }
     {
         let mut serving = self.serving(parts);
         if is_empty || self.answers.refuses(&self.facts) {
@@ -224,7 +231,7 @@ impl<H: Answers> Door<H> {
         &self,
         parts: http::request::Parts,
         body: Incoming<I>,
-    ) -> Serving<H, T, Upload<I>>
+    ) -> Serving<Telling<H, K>, T, Upload<I>>
         ensures { (result.content ≡ None) × (IfSome result.answering H.Answering.can_poll) }
     {
         let length = body.size_hint().exact();
@@ -258,12 +265,12 @@ impl<H: Answers> Door<H> {
 }
 
 /// The future of one response: reads the content, then waits for the answer; or passes on the content while it waits for the answer.
-pub(crate) struct Serving<H: Answers, T: Read, U> {
+pub(crate) struct Serving<L: Account, T: Read, U> {
     alloc: Global,
     stage: Option<SharedStage>,
     is_last: bool,
     // What becomes of the request, which is told. `None` if there are too many handles.
-    telling: Option<Telling<H>>,
+    telling: Option<L>,
     // The status if the request is refused without being passed on.
     refusal: u16,
     // Receives whether the server of a tunnel is connected, or the status to answer.
@@ -271,11 +278,11 @@ pub(crate) struct Serving<H: Answers, T: Read, U> {
     content: Option<Box<T::Reading>>,
     // The content that is passed on, until it is complete.
     upload: Option<Box<U>>,
-    answering: Option<H::Answering>,
+    answering: Option<L::Answering>,
 }
 
 // Written by hand, so that what lets it go is one call for the prover (docs/GATE.md).
-impl<H: Answers, T: Read, U: Drop> Drop for Serving<H, T, U> {
+impl<L: Account, T: Read, U: Drop> Drop for Serving<L, T, U> {
     fn drop(self) {
         let Self {
             alloc: _,
@@ -291,14 +298,14 @@ impl<H: Answers, T: Read, U: Drop> Drop for Serving<H, T, U> {
     }
 }
 
-impl<H: Answers, T: Read, U: RelayContent> Serving<H, T, U> {
+impl<L: Account, T: Read, U: RelayContent> Serving<L, T, U> {
     // The response, after which the connection is idle again. Status 503 if it cannot be made. A capture is the last response of
     // its connection, which stays at the stage in which nothing is awaited of the client. So it does while an answer is passed on. A
     // response before the end of its request's content is the connection's last.
-    fn respond(&mut self, given: Given) -> Response<Reply<H, U>> {
+    fn respond(&mut self, given: Given) -> Response<Reply<L, U>> {
         let is_passed = self.passes_content(&given);
         self.note_given(&given, is_passed);
-        let mut response: Response<Reply<H, U>> = match response_of(self.alloc, given) {
+        let mut response: Response<Reply<L, U>> = match response_of(self.alloc, given) {
             Some(response) => response,
             None => bare(self.alloc, 503),
         };
@@ -316,7 +323,7 @@ impl<H: Answers, T: Read, U: RelayContent> Serving<H, T, U> {
 
     // Notes that the response with this content begins, and whether it is its connection's last.
     fn note_given(&mut self, given: &Given, is_passed: bool) {
-        if let Given::Capture(_) = given {
+        if let Given::Own(OwnAnswer::Capture(_)) = given {
             self.is_last = true;
         } else if let Some(stage) = &self.stage
             && !is_passed
@@ -327,7 +334,7 @@ impl<H: Answers, T: Read, U: RelayContent> Serving<H, T, U> {
             self.is_last = true;
         }
         if let Some(telling) = &self.telling {
-            telling.answers.note_answer();
+            telling.note_answer();
         }
     }
 
@@ -361,7 +368,7 @@ impl<H: Answers, T: Read, U: RelayContent> Serving<H, T, U> {
     }
 
     // Leaves it to the body of the response to tell what becomes of the request.
-    fn hand_over(&mut self, response: &mut Response<Reply<H, U>>) {
+    fn hand_over(&mut self, response: &mut Response<Reply<L, U>>) {
         let Some(mut telling) = self.telling.take() else {
             return;
         };
@@ -399,9 +406,9 @@ impl<H: Answers, T: Read, U: RelayContent> Serving<H, T, U> {
     // Waits for the whole content, if it is collected, and begins to answer the request then.
     fn poll_content(&mut self, cx: &mut Context<'_>) -> Poll<()>
         requires content { IfSome self.old.content (λ c. T.Reading.can_poll (box_value c)) }
-        requires answering { IfSome self.old.answering H.Answering.can_poll }
+        requires answering { IfSome self.old.answering L.Answering.can_poll }
         ensures content { IfSome self.new.content (λ c. T.Reading.can_poll (box_value c)) }
-        ensures answering { IfSome self.new.answering H.Answering.can_poll }
+        ensures answering { IfSome self.new.answering L.Answering.can_poll }
         ensures registered { OnPending result (Covers cx.new (λ _. ⊥)) }
         ensures kept { Keeps cx.old cx.new }
     {
@@ -419,9 +426,9 @@ impl<H: Answers, T: Read, U: RelayContent> Serving<H, T, U> {
 
     // Begins to answer the request whose content was read like this, or turns it down.
     fn take_up(&mut self, collected: Ending)
-        requires { IfSome self.old.answering H.Answering.can_poll }
+        requires { IfSome self.old.answering L.Answering.can_poll }
         ensures content { self.new.content ≡ self.old.content }
-        ensures answering { IfSome self.new.answering H.Answering.can_poll }
+        ensures answering { IfSome self.new.answering L.Answering.can_poll }
     {
         if let Some(stage) = &self.stage {
             stage.set(Stage::Asked);
@@ -434,37 +441,37 @@ impl<H: Answers, T: Read, U: RelayContent> Serving<H, T, U> {
     }
 
     // The response that opens a tunnel. Nothing is awaited of the client until its socket is taken over.
-    fn agree(&mut self) -> Response<Reply<H, U>> {
+    fn agree(&mut self) -> Response<Reply<L, U>> {
         if let Some(telling) = &self.telling {
-            telling.answers.note_answer();
+            telling.note_answer();
         }
-        let mut response: Response<Reply<H, U>> = bare(self.alloc, 200);
+        let mut response: Response<Reply<L, U>> = bare(self.alloc, 200);
         self.hand_over(&mut response);
         response
     }
 
     // The response to a request that is not passed on.
-    fn refuse(&mut self) -> Response<Reply<H, U>> {
+    fn refuse(&mut self) -> Response<Reply<L, U>> {
         let status = self.refusal;
         let text = match &self.telling {
-            Some(telling) => telling.facts.failure(self.alloc, status),
+            Some(telling) => telling.failure(self.alloc, status),
             None => Vec::new(self.alloc),
         };
-        self.respond(Given::Text {
+        self.respond(Given::Own(OwnAnswer::Text {
             status,
             text,
             kind: TextKind::Plain,
-        })
+        }))
     }
 }
 
-impl<H: Answers, T: Read, U: RelayContent> Future for Serving<H, T, U> {
-    type Output = Result<Response<Reply<H, U>>, Infallible>;
+impl<L: Account, T: Read, U: RelayContent> Future for Serving<L, T, U> {
+    type Output = Result<Response<Reply<L, U>>, Infallible>;
 
     ghost can_poll = { λ w. IfSome w.content (λ c. T.Reading.can_poll (box_value c))
-        × IfSome w.answering H.Answering.can_poll };
+        × IfSome w.answering L.Answering.can_poll };
 
-    fn poll(&mut self, cx: &mut Context<'_>) -> Poll<Result<Response<Reply<H, U>>, Infallible>> {
+    fn poll(&mut self, cx: &mut Context<'_>) -> Poll<Result<Response<Reply<L, U>>, Infallible>> {
         if ready!(self.poll_tunnel(cx)) {
             return Poll::Ready(Ok(self.agree()));
         }
@@ -484,6 +491,13 @@ impl<H: Answers, T: Read, U: RelayContent> Future for Serving<H, T, U> {
 // The target of a request as it is written (RFC 3986, section 5.3). Errors: out of memory.
 fn target_of(alloc: Global, uri: &Uri) -> Result<String, AllocError> {
     let mut text = String::with_capacity(alloc, USUAL_TARGET)?;
+    write_origin(&mut text, uri)?;
+    write_path(&mut text, uri)?;
+    Ok(text)
+}
+
+// Writes the scheme and the authority of a target, as far as it has them. Errors: out of memory.
+fn write_origin(text: &mut String, uri: &Uri) -> Result<(), AllocError> {
     if let Some(scheme) = uri.scheme_str() {
         text.push_str(scheme)?;
         text.push_str("://")?;
@@ -491,12 +505,17 @@ fn target_of(alloc: Global, uri: &Uri) -> Result<String, AllocError> {
     if let Some(authority) = uri.authority() {
         text.push_str(authority.as_str())?;
     }
+    Ok(())
+}
+
+// Writes the path of a target, and its query if it has one. Errors: out of memory.
+fn write_path(text: &mut String, uri: &Uri) -> Result<(), AllocError> {
     text.push_str(uri.path())?;
     if let Some(query) = uri.query() {
         text.push_str("?")?;
         text.push_str(query)?;
     }
-    Ok(text)
+    Ok(())
 }
 
 // A future in a box. Returns `None` if out of memory.
@@ -508,40 +527,30 @@ fn boxed<F: Future>(alloc: Global, future: F) -> Option<Box<F>>
 }
 
 // Passes on a request whose content is complete. Returns `None` if out of memory.
-fn begin<H: Answers>(telling: &Option<Telling<H>>, content: Vec<u8>) -> Option<H::Answering>
-    ensures { IfSome result H.Answering.can_poll }
+fn begin<L: Account>(telling: &Option<L>, content: Vec<u8>) -> Option<L::Answering>
+    ensures { IfSome result L.Answering.can_poll }
 {
-    let Some(telling) = telling else {
-        return None;
-    };
-    let facts = telling.facts.share().ok()?;
-    if !facts.put_content(content) {
-        return None;
+    match telling {
+        Some(telling) => telling.begin(content),
+        None => None,
     }
-    Some(telling.answers.begin(facts))
 }
 
 // Passes on a request, whose content comes by and by. Returns `None` if out of memory.
-fn pass_on<H: Answers>(
-    telling: &Option<Telling<H>>,
-    content: Option<Coming>,
-) -> Option<H::Answering>
-    ensures { IfSome result H.Answering.can_poll }
+fn pass_on<L: Account>(telling: &Option<L>, content: Option<Coming>) -> Option<L::Answering>
+    ensures { IfSome result L.Answering.can_poll }
 {
     let Some(telling) = telling else {
+        drop(content);
         return None;
     };
-    let facts = telling.facts.share().ok()?;
-    Some(telling.answers.pass(facts, content))
+    telling.pass(content)
 }
 
 // Whether the response is to a HEAD request.
-fn is_for_head<H: Answers>(telling: &Option<Telling<H>>) -> bool {
-    let Some(telling) = telling else {
-        return false;
-    };
-    match telling.facts.0.try_borrow_mut() {
-        Ok(facts) => facts.is_head(),
-        Err(_) => false,
+fn is_for_head<L: Account>(telling: &Option<L>) -> bool {
+    match telling {
+        Some(telling) => telling.is_for_head(),
+        None => false,
     }
 }

@@ -19,6 +19,7 @@ mod serving;
 mod texts;
 mod tunnel;
 mod upload;
+mod watched;
 
 pub use administration::serve_admin;
 pub use server::{ClientSocket, ServeLimits, client_sockets, listen_at_six};

@@ -4,8 +4,7 @@ ghost use Rattle.futures.specs.Channel.{readable_source};
 ghost use Rattle.futures.specs.Poll.{OnPending};
 ghost use Rattle.futures.specs.Task.{Covers, Keeps};
 
-use crate::account::Telling;
-use crate::requests::Answers;
+use crate::account::Tally;
 use crate::responses::ResponseBody;
 use crate::upload::RelayContent;
 use bytes::Bytes;
@@ -25,15 +24,15 @@ const MOST_OCTETS: usize = 128 * 1024;
 
 /// Octets that are known when the response begins, or pieces that are made while it is sent, or those of an answer that is passed on.
 /// What became of the request is told when this is dropped.
-pub(crate) struct Reply<H: Answers, U> {
+pub(crate) struct Reply<L, U> {
     known: Portions,
     coming: Option<mpsc::Receiver<Vec<u8>>>,
     passed: Option<Box<Passed<U>>>,
-    telling: Option<Telling<H>>,
+    telling: Option<L>,
 }
 
 // Written by hand, so that what lets it go is one call for the prover (docs/GATE.md).
-impl<H: Answers, U: Drop> Drop for Reply<H, U> {
+impl<L: Drop, U: Drop> Drop for Reply<L, U> {
     fn drop(self) {
         let Self {
             known: _,
@@ -115,8 +114,8 @@ impl<U: RelayContent> Passed<U> {
     }
 }
 
-impl<H: Answers, U: RelayContent> ResponseBody for Reply<H, U> {
-    fn of(known: Portions) -> Reply<H, U> {
+impl<L: Tally, U: RelayContent> ResponseBody for Reply<L, U> {
+    fn of(known: Portions) -> Reply<L, U> {
         Reply {
             known,
             coming: None,
@@ -125,7 +124,7 @@ impl<H: Answers, U: RelayContent> ResponseBody for Reply<H, U> {
         }
     }
 
-    fn of_pieces(alloc: Global, pieces: mpsc::Receiver<Vec<u8>>) -> Reply<H, U> {
+    fn of_pieces(alloc: Global, pieces: mpsc::Receiver<Vec<u8>>) -> Reply<L, U> {
         Reply {
             known: Portions::of_text(alloc, Vec::new(alloc)),
             coming: Some(pieces),
@@ -139,7 +138,7 @@ impl<H: Answers, U: RelayContent> ResponseBody for Reply<H, U> {
         pieces: mpsc::Receiver<Piece>,
         length: Option<u64>,
         wanted: Option<oneshot::Sender<()>>,
-    ) -> Option<Reply<H, U>> {
+    ) -> Option<Reply<L, U>> {
         let passed = Passed {
             pieces,
             length,
@@ -158,7 +157,7 @@ impl<H: Answers, U: RelayContent> ResponseBody for Reply<H, U> {
     }
 }
 
-impl<H: Answers, U: RelayContent> Reply<H, U> {
+impl<L: Tally, U: RelayContent> Reply<L, U> {
     /// Leaves it to a body that is passed on to pass on what is left of its request's content, and to set the stage once it has ended.
     pub(crate) fn attend(&mut self, upload: Option<Box<U>>, stage: Option<SharedStage>) {
         match &mut self.passed {
@@ -229,7 +228,7 @@ impl<H: Answers, U: RelayContent> Reply<H, U> {
     }
 
     /// Has `telling` note what is handed to the connection from now on.
-    pub(crate) fn account_to(&mut self, telling: Telling<H>) {
+    pub(crate) fn account_to(&mut self, telling: L) {
         drop(self.telling.replace(telling));
     }
 
@@ -243,7 +242,7 @@ impl<H: Answers, U: RelayContent> Reply<H, U> {
     }
 }
 
-impl<H: Answers, U: RelayContent> Body for Reply<H, U> {
+impl<L: Tally, U: RelayContent> Body for Reply<L, U> {
     type Data = Bytes;
 
     type Error = AllocError;

@@ -52,7 +52,21 @@ pub(crate) enum Given {
         age: Option<u32>,
         told: Vec<u8>,
     },
-    /// A text of the proxy itself.
+    /// An answer of the proxy itself.
+    Own(OwnAnswer),
+    /// The answer to a request that was passed on.
+    Passed(Box<PassedAnswer>),
+    /// An answer that is still collected, with this Cache-Status.
+    Early {
+        early: Box<Early>,
+        told: Vec<u8>,
+    },
+}
+
+/// An answer that the proxy itself gives. A type of its own, since what makes one has no objects (docs/GATE.md).
+#[derive(Drop)]
+pub(crate) enum OwnAnswer {
+    /// A text.
     Text {
         status: u16,
         text: Vec<u8>,
@@ -62,53 +76,21 @@ pub(crate) enum Given {
     Page(Vec<u8>),
     /// The pieces of a capture file, which are made while they are sent.
     Capture(mpsc::Receiver<Vec<u8>>),
-    /// The answer to a request that was passed on.
-    Passed(Box<PassedAnswer>),
-    /// An answer that is still collected, with this Cache-Status.
-    Early {
-        early: Box<Early>,
-        told: Vec<u8>,
-    },
     /// A text with status 401, for a client that has to show a bearer token (RFC 6750, section 3).
     Challenge(Vec<u8>),
 }
 
 /// Answers the requests of a server.
 pub(crate) trait Answers: Drop {
-    /// An answer in progress.
-    type Answering: Future<Output = Given>;
-
     /// Another handle to the same state, for a connection or a request.
     fn share(&self) -> Result<Self, AllocError>;
 
     /// Whether clients at this address are admitted.
     fn allows(&self, address: IpAddr) -> bool;
 
-    /// How a request with this method is taken. Errors: the status that refuses it before its content is read.
-    fn road(&self, method: &str) -> Result<Road, u16>;
-
     /// Whether other methods than GET are served, as the text of a refused one says.
     fn has_other_methods(&self) -> bool {
         false
-    }
-
-    /// Whether the request of these facts is refused whatever its content, which then is not read: `begin` says how.
-    fn refuses(&self, _facts: &SharedFacts) -> bool {
-        false
-    }
-
-    /// Starts to answer the request of these facts.
-    fn begin(&self, facts: SharedFacts) -> Self::Answering
-        ensures { Self.Answering.can_poll result };
-
-    /// Passes on the request of these facts with this content, and starts to answer it as it is answered. Called only for requests
-    /// whose road is `Road::Passed`. The pieces of the content are dropped where it is refused.
-    fn pass(&self, facts: SharedFacts, content: Option<Coming>) -> Self::Answering
-        ensures { Self.Answering.can_poll result };
-
-    /// Where the tunnel leads that the request of these facts opens. Errors: the status to answer.
-    fn tunnel(&self, _facts: &SharedFacts) -> Result<TunnelEnd, u16> {
-        Err(501)
     }
 
     /// Whether this server may be connected to for a tunnel, as an origin server.
@@ -122,4 +104,33 @@ pub(crate) trait Answers: Drop {
     /// Called once for each request, when its response was handed to the connection or the connection has ended, and once for each
     /// connection that ended or was refused before it brought one.
     fn tell(&self, told: &Told<'_>);
+}
+
+/// Answers the requests of connections whose facts keep tunnels as `K` does. Apart from `Answers`, since most of what tells what becomes of
+/// requests doesn't answer them.
+pub(crate) trait Serves<K>: Answers {
+    /// An answer in progress.
+    type Answering: Future<Output = Given>;
+
+    /// How a request with this method is taken. Errors: the status that refuses it before its content is read.
+    fn road(&self, method: &str) -> Result<Road, u16>;
+
+    /// Whether the request of these facts is refused whatever its content, which then is not read: `begin` says how.
+    fn refuses(&self, _facts: &SharedFacts<K>) -> bool {
+        false
+    }
+
+    /// Starts to answer the request of these facts.
+    fn begin(&self, facts: SharedFacts<K>) -> Self::Answering
+        ensures { Self.Answering.can_poll result };
+
+    /// Passes on the request of these facts with this content, and starts to answer it as it is answered. Called only for requests
+    /// whose road is `Road::Passed`. The pieces of the content are dropped where it is refused.
+    fn pass(&self, facts: SharedFacts<K>, content: Option<Coming>) -> Self::Answering
+        ensures { Self.Answering.can_poll result };
+
+    /// Where the tunnel leads that the request of these facts opens. Errors: the status to answer.
+    fn tunnel(&self, _facts: &SharedFacts<K>) -> Result<TunnelEnd, u16> {
+        Err(501)
+    }
 }

@@ -1,7 +1,7 @@
 //! The responses to clients and administrators.
 ghost use Rattle.std.specs.Prelude.{None};
 
-use crate::requests::{Given, PassedAnswer};
+use crate::requests::{Given, OwnAnswer, PassedAnswer};
 use admin_page::POLICY;
 use futures::channel::{mpsc, oneshot};
 use http_content::{add_field, add_object_fields};
@@ -63,14 +63,21 @@ pub(crate) fn response_of<B: ResponseBody>(alloc: Global, given: Given) -> Optio
             drop(object);
             with_own_fields(alloc, response, age, told)
         }
-        Given::Text { status, text, kind } => {
-            text_response(alloc, status, text, kind.media_type())
-        }
-        Given::Page(text) => page_response(alloc, text),
-        Given::Capture(pieces) => capture_response(alloc, pieces),
+        Given::Own(answer) => own_response(alloc, answer),
         Given::Passed(answer) => passed_response(alloc, answer),
         Given::Early { early, told } => early_response(alloc, early, told),
-        Given::Challenge(text) => {
+    }
+}
+
+// The response with this answer of the proxy itself. Returns `None` as `response_of` does.
+fn own_response<B: ResponseBody>(alloc: Global, answer: OwnAnswer) -> Option<Response<B>> {
+    match answer {
+        OwnAnswer::Text { status, text, kind } => {
+            text_response(alloc, status, text, kind.media_type())
+        }
+        OwnAnswer::Page(text) => page_response(alloc, text),
+        OwnAnswer::Capture(pieces) => capture_response(alloc, pieces),
+        OwnAnswer::Challenge(text) => {
             let response = text_response(alloc, 401, text, b"text/plain");
             with_field(alloc, response, b"www-authenticate", b"Bearer")
         }

@@ -1,11 +1,12 @@
 //! An HTTP server that runs on the calling thread.
 
-use crate::account::{Counted, SharedFacts, Watched, Watching, tell_refused};
-use crate::connection::Connections;
+use crate::account::{SharedFacts, Telling, tell_refused};
+use crate::connection::{Connections, OfClient};
 use crate::door::Door;
-use crate::requests::Answers;
+use crate::requests::{Answers, Serves};
 use crate::texts::{FORBIDDEN, forbidden};
-use crate::tunnel::Dialer;
+use crate::tunnel::{Copying, Dialer, HandOver, KeepTunnel, KeptTunnel, Opening};
+use crate::watched::{Counted, OfWatching, Tunnels, Watch, Watched, Watching};
 use client_streams::{
     Accept, AcceptedClients, ClientLimits, Listeners, Patient, Refusal, SeatShare, SharedStage,
     Stops, StreamTimeouts, seat_shares,
@@ -14,10 +15,11 @@ use crossbeam_channel::Sender;
 use futures::Future;
 use futures::future::Either;
 use futures::task::{Context, Poll};
-use hyper::rt::TokioTimer;
+use hyper::rt::{Timer, TokioTimer};
 use hyper::server::conn::http1;
 use std::alloc::{AllocError, AllocGlobal, Global};
 use std::hash::RandomState;
+use std::marker::PhantomData;
 use std::net::{IpAddr, Ipv6Addr, Net, SocketAddr, SocketAddrV6};
 use std::random::RandomSource;
 use std::sync::atomic::AtomicUsize;
@@ -113,7 +115,7 @@ fn listen<R: Net>(rt: &R, address: SocketAddr) -> io::Result<net::TcpListener> {
 
 // Makes the HTTP connection of each client.
 #[derive(Drop)]
-struct Http<R, H, B> {
+struct Http<R, H, B, K, I, W> {
     rt: R,
     alloc: Global,
     handle: Handle,
@@ -124,6 +126,9 @@ struct Http<R, H, B> {
     open: Option<Arc<AtomicUsize>>,
     // Until the server is open.
     bound: Option<Bound>,
+    kept: PhantomData<K>,
+    socket: PhantomData<I>,
+    watch: PhantomData<W>,
 }
 
 // Where a server listens, and who is told so once it is open.
@@ -157,13 +162,23 @@ impl<K: Future<Output = ()>, R: Clock + Copy> Future for Client<K, R> {
     }
 }
 
-impl<R, H, B> Accept for Http<R, H, B>
+// What goes on beside a connection `C`, and after it.
+type Beside<C, R, H, K> = Tunnels<
+    Watching<R, H, K>,
+    Opening<R, H>,
+    Copying<<C as HandOver>::Socket, R, Telling<H, K>>,
+>;
+
+impl<R, H, B, K, I, W> Accept for Http<R, H, B, K, I, W>
 where
     R: Wait + Net + Clock + Copy,
     H: Answers,
-    B: Connections<R, H>,
+    B: Connections<I, H, K>,
+    K: KeepTunnel,
+    I: OfClient<R>,
+    W: Watch<B::Connection> + OfWatching<Watching<R, H, K>>,
 {
-    type Serving = Client<Watched<B::Connection, R, H>, R>;
+    type Serving = Client<Watched<B::Connection, W>, R>;
 
     fn opened(&mut self) {
         if let Some(bound) = self.bound.take() {
@@ -180,7 +195,7 @@ where
         socket: TcpStream,
         address: SocketAddr,
         stage: SharedStage,
-    ) -> Option<Client<Watched<B::Connection, R, H>, R>> {
+    ) -> Option<Self::Serving> {
         let _ = socket.set_nodelay(true);
         let from = address.ip();
         if !self.answers.allows(from) {
@@ -189,15 +204,16 @@ where
                 serving: Either::Right(refusal),
             });
         }
-        let (door, watching, patient, dialer) = self.parts(socket, from, stage)?;
-        let inner = self.builder.serve(patient, door);
+        let (door, watching, client) = self.parts(socket, from, stage)?;
+        let inner = self.builder.serve(client, door);
+        let watched = Watched::new(self.alloc, inner, W::of(watching));
         Some(Client {
-            serving: Either::Left(Watched::new(inner, watching, dialer)),
+            serving: Either::Left(watched),
         })
     }
 }
 
-impl<R: Clock + Copy, H: Answers, B> Http<R, H, B> {
+impl<R: Clock + Copy, H: Answers, B, K: KeepTunnel, I: OfClient<R>, W> Http<R, H, B, K, I, W> {
     // Refuses the client at this address, which is told so. Returns `None` if out of memory.
     fn refuse(&self, socket: TcpStream, from: IpAddr, stage: SharedStage) -> Option<Refusal<R>> {
         let Ok(text) = forbidden(self.alloc) else {
@@ -205,7 +221,13 @@ impl<R: Clock + Copy, H: Answers, B> Http<R, H, B> {
             drop(socket);
             return None;
         };
-        let Some(patient) = self.patient(socket, stage) else {
+        let Some(patient) = <Patient<R>>::over(
+            self.rt,
+            &self.handle,
+            socket,
+            self.limits.still,
+            stage,
+        ) else {
             drop(text);
             return None;
         };
@@ -220,7 +242,7 @@ impl<R: Clock + Copy, H: Answers, B> Http<R, H, B> {
         socket: TcpStream,
         from: IpAddr,
         stage: SharedStage,
-    ) -> Option<(Door<H>, Watching<H>, Patient<R>, Dialer<R>)> {
+    ) -> Option<(Door<H, K>, Watching<R, H, K>, I)> {
         let Ok(shared) = stage.share() else {
             drop(stage);
             drop(socket);
@@ -231,8 +253,8 @@ impl<R: Clock + Copy, H: Answers, B> Http<R, H, B> {
             drop(socket);
             return None;
         };
-        match self.ends(socket, shared) {
-            Some((patient, dialer)) => Some((door, watching, patient, dialer)),
+        match I::over(self.rt, &self.handle, socket, self.limits.still, shared) {
+            Some(client) => Some((door, watching, client)),
             None => {
                 drop(watching);
                 drop(door);
@@ -241,22 +263,14 @@ impl<R: Clock + Copy, H: Answers, B> Http<R, H, B> {
         }
     }
 
-    // The client's connection, and what connects its tunnels. Returns `None` if out of memory.
-    fn ends(&self, socket: TcpStream, stage: SharedStage) -> Option<(Patient<R>, Dialer<R>)> {
-        let patient = self.patient(socket, stage)?;
-        match Dialer::new(self.rt, self.alloc, &self.handle) {
-            Ok(dialer) => Some((patient, dialer)),
-            Err(_) => {
-                drop(patient);
-                None
-            }
-        }
-    }
-
     // The service of a connection from this address, and what watches over it. Returns `None` if out of memory.
-    fn watched_door(&self, from: IpAddr, stage: SharedStage) -> Option<(Door<H>, Watching<H>)> {
+    fn watched_door(
+        &self,
+        from: IpAddr,
+        stage: SharedStage,
+    ) -> Option<(Door<H, K>, Watching<R, H, K>)> {
         let door = self.door(from, stage)?;
-        match self.watching(&door) {
+        match self.watching(&door.facts) {
             Some(watching) => Some((door, watching)),
             None => {
                 drop(door);
@@ -265,30 +279,36 @@ impl<R: Clock + Copy, H: Answers, B> Http<R, H, B> {
         }
     }
 
-    // The client's connection, which ends where the client is too slow. Returns `None` if out of memory.
-    fn patient(&self, socket: TcpStream, stage: SharedStage) -> Option<Patient<R>> {
-        Patient::new(
-            self.rt,
-            self.handle.time(),
-            socket,
-            self.limits.still,
-            stage,
-        )
-        .ok()
-    }
-
-    // What is told of the requests at this door. Returns `None` if out of memory.
-    fn watching(&self, door: &Door<H>) -> Option<Watching<H>> {
+    // What watches over the connection of these facts. Returns `None` if out of memory.
+    fn watching(&self, facts: &SharedFacts<K>) -> Option<Watching<R, H, K>> {
+        let facts = facts.share().ok()?;
+        let Some((dialer, answers)) = self.means() else {
+            drop(facts);
+            return None;
+        };
         Some(Watching {
             alloc: self.alloc,
-            answers: self.answers.share().ok()?,
-            facts: door.facts.share().ok()?,
+            dialer,
+            answers,
+            facts,
             counted: self.counted(),
         })
     }
 
+    // What connects the tunnels of a client, and what answers it. Returns `None` if out of memory.
+    fn means(&self) -> Option<(Dialer<R>, H)> {
+        let answers = self.answers.share().ok()?;
+        match Dialer::new(self.rt, self.alloc, &self.handle) {
+            Ok(dialer) => Some((dialer, answers)),
+            Err(_) => {
+                drop(answers);
+                None
+            }
+        }
+    }
+
     // The service of a connection from this address. Returns `None` if out of memory.
-    fn door(&self, from: IpAddr, stage: SharedStage) -> Option<Door<H>> {
+    fn door(&self, from: IpAddr, stage: SharedStage) -> Option<Door<H, K>> {
         let shared = stage.share().ok()?;
         Some(Door {
             alloc: self.alloc,
@@ -331,11 +351,15 @@ where
 {
     let timers = runtime.handle().time().clone()?;
     let state = RandomState::new(&rt)?;
-    let timer = TokioTimer::new(rt, timers);
-    let mut builder = http1::Builder::new(rt.alloc(), state).timer(timer);
+    Ok(builder_with(rt.alloc(), state, TokioTimer::new(rt, timers)))
+}
+
+// What HTTP connections are made with that have this timer.
+fn builder_with<T: Timer>(alloc: Global, state: RandomState, timer: T) -> http1::Builder<T> {
+    let mut builder = http1::Builder::new(alloc, state).timer(timer);
     builder.header_read_timeout(None);
     builder.max_buf_size(64 * 1024);
-    Ok(builder)
+    builder
 }
 
 // Where a server listens, and the event loop that it runs on.
@@ -475,11 +499,30 @@ pub(crate) fn serve<R, H>(
 ) -> io::Result<()>
 where
     R: Wait + Clock + RandomSource + AllocGlobal + Net + Copy,
-    H: Answers,
+    H: Serves<KeptTunnel>,
+{
+    serve_with::<R, H, KeptTunnel, Patient<R>>(rt, socket, answers, bound, stops, open, limits)
+}
+
+// Serves as `serve` does, with what keeps tunnels as `K` does, and clients at sockets `I`.
+fn serve_with<R, H, K, I>(
+    rt: R,
+    socket: ClientSocket,
+    answers: H,
+    bound: Sender<SocketAddr, Global>,
+    stops: Stops,
+    open: Option<Arc<AtomicUsize>>,
+    limits: ServeLimits,
+) -> io::Result<()>
+where
+    R: Wait + Clock + RandomSource + AllocGlobal + Net + Copy,
+    H: Serves<K>,
+    K: KeepTunnel,
+    I: OfClient<R>,
 {
     match opened(rt, socket) {
         Ok((place, builder, handle)) => {
-            serve_at(
+            serve_timed::<R, H, K, I, TokioTimer<R>>(
                 rt, place, builder, handle, answers, bound, stops, open, limits,
             )
         }
@@ -493,8 +536,32 @@ where
     }
 }
 
+// Serves at this place by the connections that `builder` makes, of whose timer nothing more is known here.
+fn serve_timed<R, H, K, I, T>(
+    rt: R,
+    place: Place,
+    builder: http1::Builder<T>,
+    handle: Handle,
+    answers: H,
+    bound: Sender<SocketAddr, Global>,
+    stops: Stops,
+    open: Option<Arc<AtomicUsize>>,
+    limits: ServeLimits,
+) -> io::Result<()>
+where
+    R: Wait + Clock + RandomSource + AllocGlobal + Net + Copy,
+    H: Serves<K>,
+    K: KeepTunnel,
+    I: OfClient<R>,
+    T: Timer,
+{
+    serve_at::<R, H, K, I, http1::Builder<T>>(
+        rt, place, builder, handle, answers, bound, stops, open, limits,
+    )
+}
+
 // Serves at this place by the connections that `builder` makes, of whose type nothing more is known here.
-fn serve_at<R, H, B>(
+fn serve_at<R, H, K, I, B>(
     rt: R,
     place: Place,
     builder: B,
@@ -508,13 +575,40 @@ fn serve_at<R, H, B>(
 where
     R: Wait + Clock + RandomSource + AllocGlobal + Net + Copy,
     H: Answers,
-    B: Connections<R, H>,
+    K: KeepTunnel,
+    I: OfClient<R>,
+    B: Connections<I, H, K>,
+{
+    serve_beside::<R, H, K, I, B, Beside<B::Connection, R, H, K>>(
+        rt, place, builder, handle, answers, bound, stops, open, limits,
+    )
+}
+
+// Serves as `serve_at` does, where `W` goes on beside the connections, of which nothing more is known here.
+fn serve_beside<R, H, K, I, B, W>(
+    rt: R,
+    place: Place,
+    builder: B,
+    handle: Handle,
+    answers: H,
+    bound: Sender<SocketAddr, Global>,
+    stops: Stops,
+    open: Option<Arc<AtomicUsize>>,
+    limits: ServeLimits,
+) -> io::Result<()>
+where
+    R: Wait + Clock + RandomSource + AllocGlobal + Net + Copy,
+    H: Answers,
+    K: KeepTunnel,
+    I: OfClient<R>,
+    B: Connections<I, H, K>,
+    W: Watch<B::Connection> + OfWatching<Watching<R, H, K>>,
 {
     let bound = Bound {
         address: place.address,
         to: bound,
     };
-    let http = Http {
+    let http: Http<R, H, B, K, I, W> = Http {
         rt,
         alloc: rt.alloc(),
         handle,
@@ -523,6 +617,9 @@ where
         answers,
         open,
         bound: Some(bound),
+        kept: PhantomData,
+        socket: PhantomData,
+        watch: PhantomData,
     };
     run_accepted(rt, place, stops, http, limits)
 }

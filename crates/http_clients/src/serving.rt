@@ -7,8 +7,9 @@ use crate::account::SharedFacts;
 use crate::cache_status::{
     label_of, stale_age, told_forward, told_got, told_hit, told_passed, ttl_of, via_of,
 };
-use crate::requests::{Answers, Given, PassedAnswer, TextKind};
+use crate::requests::{Answers, Given, OwnAnswer, PassedAnswer, Serves, TextKind};
 use crate::server::{ClientSocket, ServeLimits, serve};
+use crate::tunnel::KeepTunnel;
 use client_streams::Stops;
 use crossbeam_channel::Sender;
 use futures::channel::oneshot;
@@ -49,9 +50,9 @@ struct FrontAnswers<F> {
 }
 
 // Passes the request of these facts to the front, with `is_alone` by `Front::ask_alone`. Errors: the status to answer.
-fn submit<F: Front + FollowUp + PassOn>(
+fn submit<F: Front + FollowUp + PassOn, K: Drop>(
     context: &Rc<ClientContext<F>>,
-    facts: &SharedFacts,
+    facts: &SharedFacts<K>,
     is_alone: bool,
 ) -> Result<Waits<F>, u16> {
     let Ok(owner) = context.clone() else {
@@ -67,14 +68,25 @@ fn submit<F: Front + FollowUp + PassOn>(
 }
 
 // What the front accepts of the request of these facts, as `submit` has it.
-fn accepted<F: Front + FollowUp + PassOn>(
+fn accepted<F: Front + FollowUp + PassOn, K: Drop>(
     context: &Rc<ClientContext<F>>,
-    facts: &SharedFacts,
+    facts: &SharedFacts<K>,
     is_alone: bool,
 ) -> Result<Asking, u16> {
     let Ok(mut front) = context.front.try_borrow_mut() else {
         return Err(503);
     };
+    let accepted = accepted_by(&mut *front, facts, is_alone);
+    drop(front);
+    accepted
+}
+
+// What this front accepts of the request of these facts, as `submit` has it.
+fn accepted_by<F: Front, K: Drop>(
+    front: &mut F,
+    facts: &SharedFacts<K>,
+    is_alone: bool,
+) -> Result<Asking, u16> {
     let Ok(mut facts) = facts.0.try_borrow_mut() else {
         return Err(503);
     };
@@ -93,13 +105,20 @@ fn accepted<F: Front + FollowUp + PassOn>(
 }
 
 // Whether the answer to the request of these facts is known to be too long to be stored.
-fn is_large<F: Front + FollowUp + PassOn>(
+fn is_large<F: Front + FollowUp + PassOn, K: Drop>(
     context: &Rc<ClientContext<F>>,
-    facts: &SharedFacts,
+    facts: &SharedFacts<K>,
 ) -> bool {
     let Ok(mut front) = context.front.try_borrow_mut() else {
         return false;
     };
+    let is_large = is_large_to(&mut *front, facts);
+    drop(front);
+    is_large
+}
+
+// Whether the answer to the request of these facts is known to this front to be too long to be stored.
+fn is_large_to<F: PassOn, K: Drop>(front: &mut F, facts: &SharedFacts<K>) -> bool {
     let Ok(facts) = facts.0.try_borrow_mut() else {
         return false;
     };
@@ -110,9 +129,9 @@ fn is_large<F: Front + FollowUp + PassOn>(
 }
 
 // As `passes_of`, in a box.
-fn pass_on<F: Front + FollowUp + PassOn>(
+fn pass_on<F: Front + FollowUp + PassOn, K: Drop>(
     context: &Rc<ClientContext<F>>,
-    facts: &SharedFacts,
+    facts: &SharedFacts<K>,
     content: Option<Coming>,
 ) -> Result<Box<Passes<F>>, u16> {
     let alloc = context.alloc;
@@ -124,9 +143,9 @@ fn pass_on<F: Front + FollowUp + PassOn>(
 }
 
 // Has the front pass on the request of these facts, with this content. Errors: the status to answer.
-fn passes_of<F: Front + FollowUp + PassOn>(
+fn passes_of<F: Front + FollowUp + PassOn, K: Drop>(
     context: &Rc<ClientContext<F>>,
-    facts: &SharedFacts,
+    facts: &SharedFacts<K>,
     content: Option<Coming>,
 ) -> Result<Passes<F>, u16> {
     let mut content = content;
@@ -149,9 +168,9 @@ fn passes_of<F: Front + FollowUp + PassOn>(
 }
 
 // What the front passes on, which takes the content, as `passes_of` has it.
-fn passing_of<F: Front + FollowUp + PassOn>(
+fn passing_of<F: Front + FollowUp + PassOn, K: Drop>(
     context: &Rc<ClientContext<F>>,
-    facts: &SharedFacts,
+    facts: &SharedFacts<K>,
     content: &mut Option<Coming>,
 ) -> Result<Passing, u16> {
     let Ok(mut front) = context.front.try_borrow_mut() else {
@@ -159,6 +178,17 @@ fn passing_of<F: Front + FollowUp + PassOn>(
     };
     // Content that was collected is not passed on.
     let _ = facts.put_content(Vec::new(context.alloc));
+    let passed = passed_by(&mut *front, facts, content);
+    drop(front);
+    passed
+}
+
+// What this front passes on, which takes the content, as `passes_of` has it.
+fn passed_by<F: PassOn, K: Drop>(
+    front: &mut F,
+    facts: &SharedFacts<K>,
+    content: &mut Option<Coming>,
+) -> Result<Passing, u16> {
     let Ok(mut facts) = facts.0.try_borrow_mut() else {
         return Err(503);
     };
@@ -173,8 +203,6 @@ fn passing_of<F: Front + FollowUp + PassOn>(
 }
 
 impl<F: Front + FollowUp + PassOn> Answers for FrontAnswers<F> {
-    type Answering = Waiting<F>;
-
     fn share(&self) -> Result<FrontAnswers<F>, AllocError> {
         Ok(FrontAnswers {
             context: self.context.clone()?,
@@ -191,68 +219,10 @@ impl<F: Front + FollowUp + PassOn> Answers for FrontAnswers<F> {
         }
     }
 
-    fn road(&self, method: &str) -> Result<Road, u16> {
-        let road = match self.context.front.try_borrow_mut() {
-            Ok(mut front) => front.road(method),
-            Err(_) => Road::Refused,
-        };
-        match road {
-            Road::Node | Road::Passed | Road::Tunnel => Ok(road),
-            Road::Refused => Err(501),
-        }
-    }
-
     fn has_other_methods(&self) -> bool {
         match self.context.front.try_borrow_mut() {
             Ok(front) => front.has_passages(),
             Err(_) => false,
-        }
-    }
-
-    fn begin(&self, facts: SharedFacts) -> Waiting<F> {
-        if is_large(&self.context, &facts) {
-            return self.pass(facts, None);
-        }
-        let alloc = self.context.alloc;
-        let (status, waits) = match submit(&self.context, &facts, false) {
-            Ok(waits) => (503, Some(waits)),
-            Err(status) => (status, None),
-        };
-        // The content is not forwarded.
-        let _ = facts.put_content(Vec::new(alloc));
-        Waiting {
-            alloc,
-            facts,
-            status,
-            waits,
-            passes: None,
-        }
-    }
-
-    fn pass(&self, facts: SharedFacts, content: Option<Coming>) -> Waiting<F> {
-        let (status, passes) = match pass_on(&self.context, &facts, content) {
-            Ok(passes) => (502, Some(passes)),
-            Err(status) => (status, None),
-        };
-        Waiting {
-            alloc: self.context.alloc,
-            facts,
-            status,
-            waits: None,
-            passes,
-        }
-    }
-
-    fn tunnel(&self, facts: &SharedFacts) -> Result<TunnelEnd, u16> {
-        let Ok(mut front) = self.context.front.try_borrow_mut() else {
-            return Err(503);
-        };
-        let Ok(facts) = facts.0.try_borrow_mut() else {
-            return Err(503);
-        };
-        match &facts.asked {
-            Some(asked) => front.tunnel(asked),
-            None => Err(503),
         }
     }
 
@@ -273,6 +243,90 @@ impl<F: Front + FollowUp + PassOn> Answers for FrontAnswers<F> {
         if let Ok(mut front) = self.context.front.try_borrow_mut() {
             front.tell(told);
         }
+    }
+}
+
+impl<F: Front + FollowUp + PassOn, K: KeepTunnel> Serves<K> for FrontAnswers<F> {
+    type Answering = Waiting<F, K>;
+
+    fn road(&self, method: &str) -> Result<Road, u16> {
+        let road = match self.context.front.try_borrow_mut() {
+            Ok(mut front) => front.road(method),
+            Err(_) => Road::Refused,
+        };
+        match road {
+            Road::Node | Road::Passed | Road::Tunnel => Ok(road),
+            Road::Refused => Err(501),
+        }
+    }
+
+    fn begin(&self, facts: SharedFacts<K>) -> Waiting<F, K>
+        ensures { ⟦<Waiting<F, K> as Future>⟧.can_poll result }
+    {
+        if is_large(&self.context, &facts) {
+            return waiting_for_passage(&self.context, facts, None);
+        }
+        let alloc = self.context.alloc;
+        let (status, waits) = match submit(&self.context, &facts, false) {
+            Ok(waits) => (503, Some(waits)),
+            Err(status) => (status, None),
+        };
+        // The content is not forwarded.
+        let _ = facts.put_content(Vec::new(alloc));
+        Waiting {
+            alloc,
+            facts,
+            status,
+            waits,
+            passes: None,
+        }
+    }
+
+    fn pass(&self, facts: SharedFacts<K>, content: Option<Coming>) -> Waiting<F, K>
+        ensures { ⟦<Waiting<F, K> as Future>⟧.can_poll result }
+    {
+        waiting_for_passage(&self.context, facts, content)
+    }
+
+    fn tunnel(&self, facts: &SharedFacts<K>) -> Result<TunnelEnd, u16> {
+        let Ok(mut front) = self.context.front.try_borrow_mut() else {
+            return Err(503);
+        };
+        let end = tunnel_by(&mut *front, facts);
+        drop(front);
+        end
+    }
+}
+
+// Where the tunnel leads that the request of these facts opens, as this front says. Errors: the status to answer.
+fn tunnel_by<F: PassOn, K: Drop>(front: &mut F, facts: &SharedFacts<K>) -> Result<TunnelEnd, u16> {
+    let Ok(facts) = facts.0.try_borrow_mut() else {
+        return Err(503);
+    };
+    match &facts.asked {
+        Some(asked) => front.tunnel(asked),
+        None => Err(503),
+    }
+}
+
+// Passes on the request of these facts with this content, and waits for its answer.
+fn waiting_for_passage<F: Front + FollowUp + PassOn, K: Drop>(
+    context: &Rc<ClientContext<F>>,
+    facts: SharedFacts<K>,
+    content: Option<Coming>,
+) -> Waiting<F, K>
+    ensures { ⟦<Waiting<F, K> as Future>⟧.can_poll result }
+{
+    let (status, passes) = match pass_on(context, &facts, content) {
+        Ok(passes) => (502, Some(passes)),
+        Err(status) => (status, None),
+    };
+    Waiting {
+        alloc: context.alloc,
+        facts,
+        status,
+        waits: None,
+        passes,
     }
 }
 
@@ -342,10 +396,97 @@ struct Passes<F: Front + FollowUp + PassOn> {
     passing: Passing,
 }
 
+impl<F: Front + FollowUp + PassOn> Waits<F> {
+    // Polls for the front's answer. `None` if it never comes.
+    fn poll_outcome(&mut self, cx: &mut Context<'_>) -> Poll<Option<Outcome>>
+        ensures registered { OnPending result (Covers cx.new (λ _. ⊥)) }
+        ensures kept { Keeps cx.old cx.new }
+    {
+        let Ok(answer) = ready!(self.answer.poll(cx)) else {
+            return Poll::Ready(None);
+        };
+        // Nothing more comes of the node for a client that has the answer while it is collected.
+        self.guard.is_armed = matches!(answer, Outcome::Early { .. });
+        Poll::Ready(Some(answer))
+    }
+
+    // Whether the answer is only for another client: the request joined that one's fetch, whose object may not be stored.
+    fn is_for_another(&self, answer: &Outcome) -> bool {
+        if self.forward == Forward::Collapsed
+            && let Outcome::Got {
+                object,
+                supplier,
+                ..
+            } = answer
+        {
+            return object.get().life() == 0 && stale_age(*supplier).is_none();
+        }
+        false
+    }
+
+    // The content of the response with this answer to the request of these facts. Errors: the status of a failure.
+    fn content<K: Drop>(
+        &self,
+        alloc: Global,
+        facts: &SharedFacts<K>,
+        answer: Outcome,
+    ) -> Result<Given, u16> {
+        if let Ok(mut facts) = facts.0.try_borrow_mut() {
+            facts.note_outcome(&answer);
+        }
+        let shape = self.shape(facts, &answer);
+        let label = self.guard.context.label.as_slice();
+        given_of(alloc, label, self.forward, answer, shape)
+    }
+
+    // What of its object the request is answered with, as the front says.
+    fn shape<K: Drop>(&self, facts: &SharedFacts<K>, answer: &Outcome) -> Shape {
+        let object = match answer {
+            Outcome::Hit { object, .. } => object,
+            Outcome::Got { object, .. } if self.forward != Forward::Bypass => object,
+            Outcome::Got { .. } | Outcome::Early { .. } | Outcome::Fail(_) => return Shape::Whole,
+        };
+        let Ok(mut front) = self.guard.context.front.try_borrow_mut() else {
+            return Shape::Whole;
+        };
+        let shape = shape_by(&mut *front, facts, object);
+        drop(front);
+        shape
+    }
+}
+
+// What of this object the request of these facts is answered with, as this front says.
+fn shape_by<F: FollowUp, K: Drop>(
+    front: &mut F,
+    facts: &SharedFacts<K>,
+    object: &SharedObject,
+) -> Shape {
+    let Ok(facts) = facts.0.try_borrow_mut() else {
+        return Shape::Whole;
+    };
+    match &facts.asked {
+        Some(asked) => front.shape(asked, object.get()),
+        None => Shape::Whole,
+    }
+}
+
+impl<F: Front + FollowUp + PassOn> Passes<F> {
+    // Polls for the head of the answer. Errors: there is none, or it never comes.
+    fn poll_head(&mut self, cx: &mut Context<'_>) -> Poll<Result<PassedHead, PassFault>>
+        ensures registered { OnPending result (Covers cx.new (λ _. ⊥)) }
+        ensures kept { Keeps cx.old cx.new }
+    {
+        match ready!(self.passing.head.poll(cx)) {
+            Ok(head) => Poll::Ready(head),
+            Err(_) => Poll::Ready(Err(PassFault::Failed(FetchFault::Cut))),
+        }
+    }
+}
+
 // The future of one answer.
-struct Waiting<F: Front + FollowUp + PassOn> {
+struct Waiting<F: Front + FollowUp + PassOn, K> {
     alloc: Global,
-    facts: SharedFacts,
+    facts: SharedFacts<K>,
     // The status if the request was refused or its answer never comes.
     status: u16,
     waits: Option<Waits<F>>,
@@ -354,19 +495,22 @@ struct Waiting<F: Front + FollowUp + PassOn> {
 }
 
 // Written by hand, so that what lets it go is one call for the prover (docs/GATE.md).
-impl<F: Front + FollowUp + PassOn> Drop for Waiting<F> {
+impl<F: Front + FollowUp + PassOn, K: Drop> Drop for Waiting<F, K> {
     fn drop(self) {
         let Self {
             alloc: _,
-            facts: _,
+            facts,
             status: _,
-            waits: _,
-            passes: _,
+            waits,
+            passes,
         } = self;
+        drop(facts);
+        drop(waits);
+        drop(passes);
     }
 }
 
-impl<F: Front + FollowUp + PassOn> Waiting<F> {
+impl<F: Front + FollowUp + PassOn, K: Drop> Waiting<F, K> {
     // Polls for the front's answer. `None` if the request was refused or its answer never comes.
     fn poll_front(&mut self, cx: &mut Context<'_>) -> Poll<Option<Outcome>>
         ensures registered { OnPending result (Covers cx.new (λ _. ⊥)) }
@@ -375,29 +519,15 @@ impl<F: Front + FollowUp + PassOn> Waiting<F> {
         let Some(waits) = &mut self.waits else {
             return Poll::Ready(None);
         };
-        let Ok(answer) = ready!(waits.answer.poll(cx)) else {
-            return Poll::Ready(None);
-        };
-        // Nothing more comes of the node for a client that has the answer while it is collected.
-        waits.guard.is_armed = matches!(answer, Outcome::Early { .. });
-        Poll::Ready(Some(answer))
+        waits.poll_outcome(cx)
     }
 
-    // Whether the answer is only for another client: the request joined that one's fetch, whose object may not be stored.
+    // Whether the answer is only for another client, as `Waits::is_for_another` has it.
     fn is_for_another(&self, answer: &Option<Outcome>) -> bool {
-        if let Some(waits) = &self.waits
-            && waits.forward == Forward::Collapsed
-            && let Some(
-                Outcome::Got {
-                    object,
-                    supplier,
-                    ..
-                },
-            ) = answer
-        {
-            return object.get().life() == 0 && stale_age(*supplier).is_none();
+        match (&self.waits, answer) {
+            (Some(waits), Some(answer)) => waits.is_for_another(answer),
+            _ => false,
         }
-        false
     }
 
     // Replaces the answered request by the same one with a private fetch.
@@ -458,139 +588,37 @@ impl<F: Front + FollowUp + PassOn> Waiting<F> {
         let Some(passes) = &mut self.passes else {
             return Poll::Ready(Err(self.status));
         };
-        match ready!(passes.passing.head.poll(cx)) {
-            Ok(Ok(head)) => Poll::Ready(Ok(head)),
-            Ok(Err(fault)) => {
-                if fault == PassFault::Refused
-                    && let Ok(mut facts) = self.facts.0.try_borrow_mut()
-                {
-                    facts.note_refused();
-                }
-                Poll::Ready(Err(status_of(fault)))
-            }
-            Err(_) => Poll::Ready(Err(502)),
-        }
-    }
-
-    // The response to a request that was passed on, whose answer has this head. Errors: the status of a failure.
-    fn passed(&mut self, head: PassedHead) -> Result<Given, u16> {
-        let Some(passes) = self.passes.take() else {
-            drop(head);
-            return Err(503);
-        };
-        match self.passed_fields(&passes.context, &head) {
-            Ok((told, via)) => {
-                let Passes { context, passing } = Box::into_inner(passes);
-                let given = passed_given(
-                    self.alloc,
-                    PassedAnswer {
-                        head,
-                        pieces: passing.pieces,
-                        via,
-                        told,
-                    },
-                );
-                drop(context);
-                given
-            }
-            Err(status) => {
-                drop(passes);
-                drop(head);
-                Err(status)
-            }
-        }
-    }
-
-    // The Cache-Status and the Via of an answer with this head, which the front is told of. Errors: the status of a failure.
-    fn passed_fields(
-        &self,
-        context: &Rc<ClientContext<F>>,
-        head: &PassedHead,
-    ) -> Result<(Vec<u8>, Vec<u8>), u16> {
-        let Ok(facts) = self.facts.0.try_borrow_mut() else {
-            return Err(503);
-        };
-        let Some(asked) = &facts.asked else {
-            return Err(503);
-        };
-        if let Ok(mut front) = context.front.try_borrow_mut() {
-            front.passed(asked, head.status, &head.head);
-        }
-        if has_too_many_names(self.alloc, &head.head) {
-            return Err(502);
-        }
-        let is_get = asked.method.as_str() == "GET";
-        let told = told_passed(self.alloc, context.label.as_slice(), is_get);
-        let via = context.via.as_slice().to_vec(self.alloc);
-        match (told, via) {
-            (Ok(told), Ok(via)) => Ok((told, via)),
-            _ => Err(503),
-        }
-    }
-
-    // The content of the response. Errors: the status of a failure.
-    fn content(&self, answer: Option<Outcome>) -> Result<Given, u16> {
-        let Some(waits) = &self.waits else {
-            drop(answer);
-            return Err(self.status);
-        };
-        let Some(answer) = answer else {
-            return Err(self.status);
-        };
-        if let Ok(mut facts) = self.facts.0.try_borrow_mut() {
-            facts.note_outcome(&answer);
-        }
-        let shape = self.shape(waits, &answer);
-        let label = waits.guard.context.label.as_slice();
-        given_of(self.alloc, label, waits.forward, answer, shape)
-    }
-
-    // What of its object the request is answered with, as the front says.
-    fn shape(&self, waits: &Waits<F>, answer: &Outcome) -> Shape {
-        let object = match answer {
-            Outcome::Hit { object, .. } => object,
-            Outcome::Got { object, .. } if waits.forward != Forward::Bypass => object,
-            Outcome::Got { .. } | Outcome::Early { .. } | Outcome::Fail(_) => return Shape::Whole,
-        };
-        let Ok(mut front) = waits.guard.context.front.try_borrow_mut() else {
-            return Shape::Whole;
-        };
-        let Ok(facts) = self.facts.0.try_borrow_mut() else {
-            return Shape::Whole;
-        };
-        match &facts.asked {
-            Some(asked) => front.shape(asked, object.get()),
-            None => Shape::Whole,
+        match ready!(passes.poll_head(cx)) {
+            Ok(head) => Poll::Ready(Ok(head)),
+            Err(fault) => Poll::Ready(Err(status_after(&self.facts, fault))),
         }
     }
 
     // The content of the response, or of a failure.
     fn given(&self, answer: Option<Outcome>) -> Given {
-        match self.content(answer) {
-            Ok(given) => given,
-            Err(status) => self.failure(status),
+        let Some(waits) = &self.waits else {
+            drop(answer);
+            return failure(self.alloc, &self.facts, self.status);
+        };
+        match answer {
+            Some(answer) => given_by(self.alloc, waits, &self.facts, answer),
+            None => failure(self.alloc, &self.facts, self.status),
         }
     }
 
     // As `given`, where the answer is passed on.
     fn given_head(&mut self, head: PassedHead) -> Given {
-        match self.passed(head) {
-            Ok(given) => given,
-            Err(status) => self.failure(status),
-        }
-    }
-
-    // The content of a failure: its reason, and the target of the request.
-    fn failure(&self, status: u16) -> Given {
-        Given::Text {
-            status,
-            text: self.facts.failure(self.alloc, status),
-            kind: TextKind::Plain,
+        match self.passes.take() {
+            Some(passes) => given_passed(self.alloc, passes, &self.facts, head),
+            None => {
+                drop(head);
+                failure(self.alloc, &self.facts, 503)
+            }
         }
     }
 }
 
-impl<F: Front + FollowUp + PassOn> Future for Waiting<F> {
+impl<F: Front + FollowUp + PassOn, K: Drop> Future for Waiting<F, K> {
     type Output = Given;
 
     fn poll(&mut self, cx: &mut Context<'_>) -> Poll<Given> {
@@ -604,9 +632,122 @@ impl<F: Front + FollowUp + PassOn> Future for Waiting<F> {
         }
         match ready!(self.poll_head(cx)) {
             Ok(head) => Poll::Ready(self.given_head(head)),
-            Err(status) => Poll::Ready(self.failure(status)),
+            Err(status) => Poll::Ready(failure(self.alloc, &self.facts, status)),
         }
     }
+}
+
+// The content of the response with this answer to the request of these facts, or of a failure.
+fn given_by<F: Front + FollowUp + PassOn, K: Drop>(
+    alloc: Global,
+    waits: &Waits<F>,
+    facts: &SharedFacts<K>,
+    answer: Outcome,
+) -> Given {
+    match waits.content(alloc, facts, answer) {
+        Ok(given) => given,
+        Err(status) => failure(alloc, facts, status),
+    }
+}
+
+// As `given_by`, where the answer is passed on and has this head.
+fn given_passed<F: Front + FollowUp + PassOn, K: Drop>(
+    alloc: Global,
+    passes: Box<Passes<F>>,
+    facts: &SharedFacts<K>,
+    head: PassedHead,
+) -> Given {
+    match passed(alloc, passes, facts, head) {
+        Ok(given) => given,
+        Err(status) => failure(alloc, facts, status),
+    }
+}
+
+// The response to a request that was passed on, whose answer has this head. Errors: the status of a failure.
+fn passed<F: Front + FollowUp + PassOn, K: Drop>(
+    alloc: Global,
+    passes: Box<Passes<F>>,
+    facts: &SharedFacts<K>,
+    head: PassedHead,
+) -> Result<Given, u16> {
+    match passed_fields(alloc, facts, &passes.context, &head) {
+        Ok((told, via)) => {
+            let Passes { context, passing } = Box::into_inner(passes);
+            let given = passed_given(
+                alloc,
+                PassedAnswer {
+                    head,
+                    pieces: passing.pieces,
+                    via,
+                    told,
+                },
+            );
+            drop(context);
+            given
+        }
+        Err(status) => {
+            drop(passes);
+            drop(head);
+            Err(status)
+        }
+    }
+}
+
+// The Cache-Status and the Via of an answer with this head, which the front is told of. Errors: the status of a failure.
+fn passed_fields<F: Front + FollowUp + PassOn, K: Drop>(
+    alloc: Global,
+    facts: &SharedFacts<K>,
+    context: &Rc<ClientContext<F>>,
+    head: &PassedHead,
+) -> Result<(Vec<u8>, Vec<u8>), u16> {
+    let Ok(facts) = facts.0.try_borrow_mut() else {
+        return Err(503);
+    };
+    let Some(asked) = &facts.asked else {
+        return Err(503);
+    };
+    if let Ok(mut front) = context.front.try_borrow_mut() {
+        front.passed(asked, head.status, &head.head);
+    }
+    let is_get = asked.method.as_str() == "GET";
+    let (label, via) = (context.label.as_slice(), context.via.as_slice());
+    fields_of_passed(alloc, &head.head, label, via, is_get)
+}
+
+// The Cache-Status and the Via of an answer with these fields, from a cache of this label and Via. Errors: the status of a failure.
+fn fields_of_passed(
+    alloc: Global,
+    fields: &HeaderMap,
+    label: &[u8],
+    via: &[u8],
+    is_get: bool,
+) -> Result<(Vec<u8>, Vec<u8>), u16> {
+    if has_too_many_names(alloc, fields) {
+        return Err(502);
+    }
+    match (told_passed(alloc, label, is_get), via.to_vec(alloc)) {
+        (Ok(told), Ok(via)) => Ok((told, via)),
+        _ => Err(503),
+    }
+}
+
+// The content of a failure of the request of these facts: its reason, and the target of the request.
+fn failure<K: Drop>(alloc: Global, facts: &SharedFacts<K>, status: u16) -> Given {
+    Given::Own(OwnAnswer::Text {
+        status,
+        text: facts.failure(alloc, status),
+        kind: TextKind::Plain,
+    })
+}
+
+// The status where the request of these facts was passed on and has no answer. It is noted where it was refused.
+fn status_after<K: Drop>(facts: &SharedFacts<K>, fault: PassFault) -> u16 {
+    if fault == PassFault::Refused
+        && let Ok(mut facts) = facts.0.try_borrow_mut()
+    {
+        facts.note_refused();
+    }
+    status_of(fault)
 }
 
 // The response with this answer. Errors: 503 if out of memory.

@@ -2,7 +2,7 @@
 ghost use Rattle.futures.specs.Poll.{OnPending};
 ghost use Rattle.futures.specs.Task.{Covers, Keeps};
 
-use crate::account::Telling;
+use crate::account::Tally;
 use crate::requests::Answers;
 use bytes::BytesMut;
 use client_streams::Patience;
@@ -20,6 +20,7 @@ use tokio::io::{AsyncRead, AsyncWrite, poll_read_buf, poll_write_buf};
 use tokio::net::{ConnectFuture, TcpStream};
 use tokio::runtime::Handle;
 use tokio::time::Timeout;
+use tokio::time::error::Elapsed;
 
 // How many octets one read of a tunnel may bring. So many are held for each direction, or what the client has sent behind its request,
 // which is at most what the HTTP connection holds.
@@ -45,6 +46,64 @@ pub(crate) struct Opened {
     early: BytesMut,
     still: Duration,
     ticket: Ticket,
+}
+
+/// Keeps the tunnel that a request asks for. What has it is generic over this, since the prover does not look behind a type parameter
+/// (docs/GATE.md).
+pub(crate) trait KeepTunnel: Drop {
+    /// Keeps none.
+    fn empty() -> Self;
+
+    /// Keeps a tunnel that is asked for, until its way is begun.
+    fn put_wanted(&mut self, wanted: Box<Wanted>);
+
+    /// Takes the tunnel that is asked for.
+    fn take_wanted(&mut self) -> Option<Box<Wanted>>;
+
+    /// Keeps a tunnel from its connection to the server until the HTTP connection has handed over its socket.
+    fn put_opened(&mut self, opened: Box<Opened>);
+
+    /// Takes the tunnel whose server is connected.
+    fn take_opened(&mut self) -> Option<Box<Opened>>;
+
+    /// Whether it keeps a tunnel whose server is connected.
+    fn is_opened(&self) -> bool;
+}
+
+/// The tunnel that a request asks for, and the one whose server is connected.
+#[derive(Drop)]
+pub(crate) struct KeptTunnel {
+    wanted: Option<Box<Wanted>>,
+    opened: Option<Box<Opened>>,
+}
+
+impl KeepTunnel for KeptTunnel {
+    fn empty() -> KeptTunnel {
+        KeptTunnel {
+            wanted: None,
+            opened: None,
+        }
+    }
+
+    fn put_wanted(&mut self, wanted: Box<Wanted>) {
+        drop(self.wanted.replace(wanted));
+    }
+
+    fn take_wanted(&mut self) -> Option<Box<Wanted>> {
+        self.wanted.take()
+    }
+
+    fn put_opened(&mut self, opened: Box<Opened>) {
+        drop(self.opened.replace(opened));
+    }
+
+    fn take_opened(&mut self) -> Option<Box<Opened>> {
+        self.opened.take()
+    }
+
+    fn is_opened(&self) -> bool {
+        self.opened.is_some()
+    }
 }
 
 /// What connects tunnels.
@@ -364,6 +423,21 @@ impl<R: Clock + Copy, H: Answers> Opening<R, H> {
         drop(mem::replace(&mut self.greeted, greeted));
     }
 
+    // Waits for the end of the greeting. Errors: the status to answer.
+    fn poll_greeted(&mut self, cx: &mut Context<'_>) -> Poll<Result<Box<Opened>, u16>>
+        ensures registered { OnPending result (Covers cx.new (λ _. ⊥)) }
+        ensures kept { Keeps cx.old cx.new }
+    {
+        let Some(greeted) = &mut self.greeted else {
+            return Poll::Ready(Err(503));
+        };
+        match ready!(greeted.poll(cx)) {
+            Ok(Some(reached)) => Poll::Ready(self.opened(reached)),
+            Ok(None) => Poll::Ready(Err(502)),
+            Err(_elapsed) => Poll::Ready(Err(504)),
+        }
+    }
+
     // The tunnel, whose server is connected by this. Errors: 503 without memory, or without a ticket, which is taken once.
     fn opened(&mut self, reached: Reached) -> Result<Box<Opened>, u16> {
         let Some(ticket) = self.ticket.take() else {
@@ -395,18 +469,21 @@ impl<R: Net + Clock + Copy, H: Answers> Opening<R, H> {
         };
         let sought = ready!(seeking.poll(cx));
         drop(self.seeking.take());
-        let servers = match sought {
-            Ok(Some(servers)) => servers,
-            Ok(None) => return Poll::Ready(Err(502)),
-            Err(_elapsed) => return Poll::Ready(Err(504)),
-        };
+        match servers_of(sought) {
+            Ok(servers) => Poll::Ready(self.connect_first(servers)),
+            Err(status) => Poll::Ready(Err(status)),
+        }
+    }
+
+    // Begins to connect the first of these addresses that are admitted. Errors: the status to answer.
+    fn connect_first(&mut self, servers: Addresses) -> Result<(), u16> {
         let Some(servers) = self.admitted(servers) else {
-            return Poll::Ready(Err(403));
+            return Err(403);
         };
         self.share = servers.share(self.connecting);
         self.other = servers.other;
         self.connect(servers.first);
-        Poll::Ready(Ok(()))
+        Ok(())
     }
 
     // Begins to connect this address.
@@ -437,35 +514,51 @@ impl<R: Net + Clock + Copy, H: Answers> Opening<R, H> {
         };
         let reached = ready!(reaching.poll(cx));
         drop(self.reaching.take());
-        match reached {
-            Ok(Ok(socket)) => {
+        match socket_of(reached) {
+            Ok(socket) => {
                 self.greet(socket);
                 Poll::Ready(Ok(()))
             }
-            Ok(Err(_)) => self.connect_other(502, cx),
-            Err(_elapsed) => self.connect_other(504, cx),
+            Err(status) => self.connect_other(status, cx),
         }
     }
 }
 
-impl<R: Net + Clock + Copy, H: Answers> Future for Opening<R, H> {
-    type Output = Result<Box<Opened>, u16>;
+// The addresses of a server that were sought for so long as there was. Errors: the status to answer.
+fn servers_of(sought: Result<Option<Addresses>, Elapsed>) -> Result<Addresses, u16> {
+    match sought {
+        Ok(Some(servers)) => Ok(servers),
+        Ok(None) => Err(502),
+        Err(_elapsed) => Err(504),
+    }
+}
 
-    fn poll(&mut self, cx: &mut Context<'_>) -> Poll<Result<Box<Opened>, u16>> {
+// The connection that was awaited for so long as there was. Errors: the status to answer.
+fn socket_of(reached: Result<io::Result<TcpStream>, Elapsed>) -> Result<TcpStream, u16> {
+    match reached {
+        Ok(Ok(socket)) => Ok(socket),
+        Ok(Err(_)) => Err(502),
+        Err(_elapsed) => Err(504),
+    }
+}
+
+/// A way to the server of a tunnel. What goes it is generic over it, since the prover does not look behind a type parameter (docs/GATE.md).
+pub(crate) trait Reach: Drop {
+    /// Goes on. Ready with the tunnel once its server is connected. Errors: the status to answer.
+    fn poll_reached(&mut self, cx: &mut Context<'_>) -> Poll<Result<Box<Opened>, u16>>
+        ensures registered { OnPending result (Covers cx.new (λ _. ⊥)) }
+        ensures kept { Keeps cx.old cx.new };
+}
+
+impl<R: Net + Clock + Copy, H: Answers> Reach for Opening<R, H> {
+    fn poll_reached(&mut self, cx: &mut Context<'_>) -> Poll<Result<Box<Opened>, u16>> {
         if let Err(status) = ready!(self.poll_address(cx)) {
             return Poll::Ready(Err(status));
         }
         if let Err(status) = ready!(self.poll_connection(cx)) {
             return Poll::Ready(Err(status));
         }
-        let Some(greeted) = &mut self.greeted else {
-            return Poll::Ready(Err(503));
-        };
-        match ready!(greeted.poll(cx)) {
-            Ok(Some(reached)) => Poll::Ready(self.opened(reached)),
-            Ok(None) => Poll::Ready(Err(502)),
-            Err(_elapsed) => Poll::Ready(Err(504)),
-        }
+        self.poll_greeted(cx)
     }
 }
 
@@ -579,7 +672,7 @@ impl Way {
 
 /// The octets of a tunnel, in both directions, until both ends are closed, one of them fails, or neither has moved one for too long.
 /// An end that closes only its own direction goes on to receive. What became of the tunnel is told when this is dropped.
-pub(crate) struct Copying<I, R, H: Answers> {
+pub(crate) struct Copying<I, R, L> {
     client: I,
     server: Paced,
     there: Way,
@@ -588,11 +681,11 @@ pub(crate) struct Copying<I, R, H: Answers> {
     still: Duration,
     ticket: Ticket,
     // The last to be dropped.
-    telling: Option<Telling<H>>,
+    telling: Option<L>,
 }
 
 // Written by hand, so that what lets it go is one call for the prover (docs/GATE.md). The fields go in the order in which they stand.
-impl<I: Drop, R: Drop, H: Answers> Drop for Copying<I, R, H> {
+impl<I: Drop, R: Drop, L: Drop> Drop for Copying<I, R, L> {
     fn drop(self) {
         let Self {
             client: _,
@@ -607,15 +700,15 @@ impl<I: Drop, R: Drop, H: Answers> Drop for Copying<I, R, H> {
     }
 }
 
-impl<I: AsyncRead + AsyncWrite, R: Clock + Copy, H: Answers> Copying<I, R, H> {
+impl<I: AsyncRead + AsyncWrite, R: Clock + Copy, L: Tally> Copying<I, R, L> {
     /// A tunnel to a client that has sent these octets already. Errors: out of memory.
     pub(crate) fn new(
         dialer: &Dialer<R>,
         client: I,
         sent: BytesMut,
         opened: Box<Opened>,
-        telling: Option<Telling<H>>,
-    ) -> Result<Copying<I, R, H>, AllocError> {
+        telling: Option<L>,
+    ) -> Result<Copying<I, R, L>, AllocError> {
         match dialer.patience() {
             Ok(patience) => Ok(Copying::over(patience, client, sent, opened, telling)),
             Err(fault) => {
@@ -634,8 +727,8 @@ impl<I: AsyncRead + AsyncWrite, R: Clock + Copy, H: Answers> Copying<I, R, H> {
         client: I,
         sent: BytesMut,
         opened: Box<Opened>,
-        telling: Option<Telling<H>>,
-    ) -> Copying<I, R, H> {
+        telling: Option<L>,
+    ) -> Copying<I, R, L> {
         let Opened {
             server,
             early,
@@ -694,10 +787,17 @@ impl<I: AsyncRead + AsyncWrite, R: Clock + Copy, H: Answers> Copying<I, R, H> {
     }
 }
 
-impl<I: AsyncRead + AsyncWrite, R: Clock + Copy, H: Answers> Future for Copying<I, R, H> {
-    type Output = ();
+/// A tunnel whose both ends are connected. What has it is generic over it, since the prover does not look behind a type parameter
+/// (docs/GATE.md).
+pub(crate) trait Carry: Drop {
+    /// Goes on. Ready once the tunnel has ended.
+    fn poll_carried(&mut self, cx: &mut Context<'_>) -> Poll<()>
+        ensures registered { OnPending result (Covers cx.new (λ _. ⊥)) }
+        ensures kept { Keeps cx.old cx.new };
+}
 
-    fn poll(&mut self, cx: &mut Context<'_>) -> Poll<()> {
+impl<I: AsyncRead + AsyncWrite, R: Clock + Copy, L: Tally> Carry for Copying<I, R, L> {
+    fn poll_carried(&mut self, cx: &mut Context<'_>) -> Poll<()> {
         let before = self.back.octets;
         let ended = self.poll_ways(cx);
         self.note(before);
