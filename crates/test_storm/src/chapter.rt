@@ -89,25 +89,65 @@ fn neighbour(
     })
 }
 
-/// A random configuration.
-fn config(alloc: Global, draws: &mut Draws) -> Result<Config, AllocError> {
-    let mut neighbours = Vec::new(alloc);
-    if !draws.one_in(4) {
-        neighbours.push(neighbour(alloc, Role::Parent, Socket::Icp, 2, false)?)?;
-        neighbours.push(neighbour(alloc, Role::Sibling, Socket::Icp, 3, false)?)?;
-        neighbours.push(neighbour(alloc, Role::Parent, Socket::Htcp, 4, true)?)?;
-        neighbours.push(neighbour(alloc, Role::Sibling, Socket::Htcp, 5, false)?)?;
+/// The neighbours of a node that has some: kind, socket, the last octet of the address, and whether messages are signed.
+const NEIGHBOURS: [(Role, Socket, u8, bool); 4] = [
+    (Role::Parent, Socket::Icp, 2, false),
+    (Role::Sibling, Socket::Icp, 3, false),
+    (Role::Parent, Socket::Htcp, 4, true),
+    (Role::Sibling, Socket::Htcp, 5, false),
+];
+
+/// Adds the neighbours of a node that has some.
+fn add_neighbours(alloc: Global, neighbours: &mut Vec<Neighbour>) -> Result<(), AllocError> {
+    for (kind, protocol, last, is_signed) in &NEIGHBOURS {
+        let neighbour = neighbour(alloc, *kind, *protocol, *last, *is_signed)?;
+        if neighbours.push(neighbour).is_err() {
+            return Err(AllocError);
+        }
     }
+    Ok(())
+}
+
+/// The signing key.
+fn signing_key(alloc: Global) -> Result<Key, AllocError> {
+    let name = packets::KEY.to_vec(alloc)?;
+    let secret = packets::SECRET.to_vec(alloc)?;
+    Ok(Key {
+        name: Octets::new(name),
+        secret: Octets::new(secret),
+    })
+}
+
+/// The signing keys: one.
+fn keys_of(alloc: Global) -> Result<Vec<Key>, AllocError> {
+    let key = signing_key(alloc)?;
     let mut keys = Vec::new(alloc);
-    keys.push(Key {
-        name: Octets::new(packets::KEY.to_vec(alloc)?),
-        secret: Octets::new(packets::SECRET.to_vec(alloc)?),
-    })?;
+    match keys.push(key) {
+        Ok(()) => Ok(keys),
+        Err(_) => Err(AllocError),
+    }
+}
+
+/// The networks whose queries are answered: one.
+fn allowed_of(alloc: Global) -> Result<Vec<Network>, AllocError> {
     let mut allowed = Vec::new(alloc);
     allowed.push(Network {
         addr: [10, 0, 0, 0],
         prefix: 8,
     })?;
+    Ok(allowed)
+}
+
+/// A random configuration of a node with these neighbours.
+fn config_with(
+    alloc: Global,
+    draws: &mut Draws,
+    neighbours: Vec<Neighbour>,
+) -> Result<Config, AllocError> {
+    let (Ok(keys), Ok(allowed)) = (keys_of(alloc), allowed_of(alloc)) else {
+        drop(neighbours);
+        return Err(AllocError);
+    };
     Ok(Config {
         icp: packets::ICP,
         htcp: packets::HTCP,
@@ -119,6 +159,21 @@ fn config(alloc: Global, draws: &mut Draws) -> Result<Config, AllocError> {
         neighbours,
         keys,
     })
+}
+
+/// A random configuration.
+fn config(alloc: Global, draws: &mut Draws) -> Result<Config, AllocError> {
+    let mut neighbours = Vec::new(alloc);
+    if draws.one_in(4) {
+        return config_with(alloc, draws, neighbours);
+    }
+    match add_neighbours(alloc, &mut neighbours) {
+        Ok(()) => config_with(alloc, draws, neighbours),
+        Err(fault) => {
+            drop(neighbours);
+            Err(fault)
+        }
+    }
 }
 
 /// Empty program slots for the neighbours.
@@ -151,9 +206,13 @@ fn hand_in<L: Ledger, R: Wait>(
 ) -> Result<(), StormFault> {
     out.clear();
     let shared = Arc::try_clone(event)?;
-    match desk.submit(rt, alloc, seat, shared, out) {
-        Ok(_) => Ok(()),
-        Err(_) => Err(StormFault::Refused),
+    let submitted = desk.submit(rt, alloc, seat, shared, out);
+    let is_taken = submitted.is_ok();
+    drop(submitted);
+    if is_taken {
+        Ok(())
+    } else {
+        Err(StormFault::Refused)
     }
 }
 
@@ -181,6 +240,31 @@ fn take<L: Ledger, R: Wait>(
     Ok(())
 }
 
+/// Both take an event, and the generator and the totals hear of what it brought.
+fn take_and_hear<L: Ledger, R: Wait>(
+    rt: &R,
+    alloc: Global,
+    desk: &Desk<L>,
+    both: &mut Both<L>,
+    weather: &mut Weather,
+    event: &Arc<Event>,
+    sums: &mut Sums,
+) -> Result<(), StormFault> {
+    let is_first = weather.draws().one_in(2);
+    take(rt, alloc, desk, both, event, is_first)?;
+    weather.hear(both.out.actions())?;
+    sums.hear(&both.out.tally());
+    Ok(())
+}
+
+/// An event that can be shared.
+fn shared(alloc: Global, event: Event) -> Result<Arc<Event>, StormFault> {
+    match Arc::new(alloc, event) {
+        Ok(event) => Ok(event),
+        Err(_) => Err(StormFault::NoMemory),
+    }
+}
+
 /// Plays `count` random events.
 fn play<L: Ledger, R: Wait>(
     rt: &R,
@@ -201,13 +285,10 @@ fn play<L: Ledger, R: Wait>(
         };
         left -= 1;
         sums.count(&event);
-        let Ok(event) = Arc::new(alloc, event) else {
-            return Err(StormFault::NoMemory);
-        };
-        let is_first = weather.draws().one_in(2);
-        take(rt, alloc, desk, both, &event, is_first)?;
-        weather.hear(both.out.actions())?;
-        sums.hear(&both.out.tally());
+        let event = shared(alloc, event)?;
+        let taken = take_and_hear(rt, alloc, desk, both, weather, &event, sums);
+        drop(event);
+        taken?;
     }
     Ok(())
 }
@@ -215,12 +296,37 @@ fn play<L: Ledger, R: Wait>(
 /// A node with a random configuration, and its twin.
 fn nodes_of(alloc: Global, weather: &mut Weather) -> Result<(Node, Twin), StormFault> {
     let config = config(alloc, weather.draws())?;
-    let held = places_of(alloc, &config)?;
-    let Ok(node) = Node::new(alloc, config) else {
-        return Err(StormFault::Node);
+    let held = places_of(alloc, &config);
+    match Node::new(alloc, config) {
+        Ok(node) => with_twin(alloc, node, held),
+        Err(_) => {
+            drop(held);
+            Err(StormFault::Node)
+        }
+    }
+}
+
+/// A node, and its twin with these slots.
+fn with_twin(
+    alloc: Global,
+    node: Node,
+    held: Result<Vec<Held>, AllocError>,
+) -> Result<(Node, Twin), StormFault> {
+    let held = match held {
+        Ok(held) => held,
+        Err(_) => {
+            drop(node);
+            return Err(StormFault::NoMemory);
+        }
     };
-    let twin = Twin::new(node.copy(alloc)?, held);
-    Ok((node, twin))
+    match node.copy(alloc) {
+        Ok(copy) => Ok((node, Twin::new(copy, held))),
+        Err(_) => {
+            drop(held);
+            drop(node);
+            Err(StormFault::NoMemory)
+        }
+    }
 }
 
 /// The book of a node.
@@ -244,22 +350,61 @@ fn desk_of<L: Ledger>(
     Desk::<L>::open(alloc, blank, booked, 2).map_err(|_| StormFault::Node)
 }
 
+/// The actions of a node and of its twin: none yet.
+fn outs_of(alloc: Global) -> Result<(Out, Out), AllocError> {
+    let out = Out::new(alloc)?;
+    match Out::new(alloc) {
+        Ok(twin_out) => Ok((out, twin_out)),
+        Err(fault) => {
+            drop(out);
+            Err(fault)
+        }
+    }
+}
+
 /// The seats of a desk, and the twin of its node.
 fn both_of<L: Ledger>(
     alloc: Global,
     mut seats: Vec<Seat<L>>,
     twin: Twin,
 ) -> Result<Both<L>, StormFault> {
+    let (out, twin_out) = match outs_of(alloc) {
+        Ok(outs) => outs,
+        Err(_) => {
+            drop(seats);
+            drop(twin);
+            return Err(StormFault::NoMemory);
+        }
+    };
     let (Some(second), Some(first)) = (seats.pop(), seats.pop()) else {
+        drop(twin);
+        drop(out);
+        drop(twin_out);
         return Err(StormFault::Node);
     };
     Ok(Both {
         first,
         second,
         twin,
-        out: Out::new(alloc)?,
-        twin_out: Out::new(alloc)?,
+        out,
+        twin_out,
     })
+}
+
+/// The seats as a desk takes them back.
+fn seats_of<L: Ledger>(
+    alloc: Global,
+    first: Seat<L>,
+    second: Seat<L>,
+) -> Result<Vec<Seat<L>>, StormFault> {
+    let mut seats = Vec::new(alloc);
+    let are_pushed = [seats.push(first).is_ok(), seats.push(second).is_ok()];
+    if are_pushed[0] && are_pushed[1] {
+        Ok(seats)
+    } else {
+        drop(seats);
+        Err(StormFault::NoMemory)
+    }
 }
 
 /// Settles the book of a desk, which must have `count` events.
@@ -269,14 +414,77 @@ fn settled<L: Ledger>(
     both: Both<L>,
     count: u64,
 ) -> Result<(), StormFault> {
-    let Both { first, second, .. } = both;
-    let mut seats = Vec::new(alloc);
-    if seats.push(first).is_err() || seats.push(second).is_err() {
-        return Err(StormFault::NoMemory);
+    let Both {
+        first,
+        second,
+        twin,
+        out,
+        twin_out,
+    } = both;
+    drop(twin);
+    drop(out);
+    drop(twin_out);
+    let seats = match seats_of(alloc, first, second) {
+        Ok(seats) => seats,
+        Err(fault) => {
+            drop(desk);
+            return Err(fault);
+        }
+    };
+    let settled = desk.settle(seats);
+    let is_settled = match &settled {
+        Ok(report) => report.count == count,
+        Err(_) => false,
+    };
+    drop(settled);
+    if is_settled {
+        Ok(())
+    } else {
+        Err(StormFault::Book)
     }
-    match desk.settle(seats) {
-        Ok(report) if report.count == count => Ok(()),
-        _ => Err(StormFault::Book),
+}
+
+/// A desk with two seats for this node.
+fn opened<L: Ledger>(
+    alloc: Global,
+    blank: Blank,
+    node: Node,
+) -> Result<(Desk<L>, Vec<Seat<L>>), StormFault>
+    requires name { blank.name ≡ L.name }
+    requires parts { blank.parts ≡ L.parts }
+    requires two { blank.parts ≡ 2 }
+{
+    let booked = book_of(alloc, node)?;
+    desk_of::<L>(alloc, blank, booked)
+}
+
+/// Plays `count` random events at a desk, and settles its book.
+fn play_and_settle<L: Ledger, R: Wait>(
+    rt: &R,
+    alloc: Global,
+    desk: Desk<L>,
+    both: Result<Both<L>, StormFault>,
+    weather: &mut Weather,
+    count: u64,
+    sums: &mut Sums,
+) -> Result<(), StormFault> {
+    let mut both = match both {
+        Ok(both) => both,
+        Err(fault) => {
+            drop(desk);
+            return Err(fault);
+        }
+    };
+    match play(rt, alloc, &desk, &mut both, weather, count, sums) {
+        Ok(()) => {
+            sums.add(&both.twin.stats());
+            settled(alloc, desk, both, count)
+        }
+        Err(fault) => {
+            drop(both);
+            drop(desk);
+            Err(fault)
+        }
     }
 }
 
@@ -295,10 +503,14 @@ pub fn chapter<L: Ledger, R: Wait>(
 {
     weather.turn();
     let (node, twin) = nodes_of(alloc, weather)?;
-    let booked = book_of(alloc, node)?;
-    let (desk, seats) = desk_of::<L>(alloc, blank, booked)?;
-    let mut both = both_of(alloc, seats, twin)?;
-    play(rt, alloc, &desk, &mut both, weather, count, sums)?;
-    sums.add(&both.twin.stats());
-    settled(alloc, desk, both, count)
+    match opened::<L>(alloc, blank, node) {
+        Ok((desk, seats)) => {
+            let both = both_of(alloc, seats, twin);
+            play_and_settle(rt, alloc, desk, both, weather, count, sums)
+        }
+        Err(fault) => {
+            drop(twin);
+            Err(fault)
+        }
+    }
 }

@@ -239,20 +239,34 @@ impl Weather {
     }
 }
 
+/// The head of a random object, mostly an empty one.
+fn head(alloc: Global, draws: &mut Draws) -> Result<Vec<(Vec<u8>, Vec<u8>)>, AllocError> {
+    if !draws.one_in(4) {
+        return Ok(Vec::new(alloc));
+    }
+    let name = b"x-name".to_vec(alloc)?;
+    let value = b"value".to_vec(alloc)?;
+    let mut head = Vec::new(alloc);
+    match head.push((name, value)) {
+        Ok(()) => Ok(head),
+        Err(_) => Err(AllocError),
+    }
+}
+
 /// A random object.
 fn object(alloc: Global, draws: &mut Draws) -> Result<SharedObject, AllocError> {
     let status = draws.of(&[200, 200, 200, 200, 404, 504], 200);
     let life = draws.of(&[0, 1, 60, 3_600], 60);
-    let mut head = Vec::new(alloc);
-    if draws.one_in(4) {
-        head.push((b"x-name".to_vec(alloc)?, b"value".to_vec(alloc)?))?;
-    }
+    let head = head(alloc, draws)?;
     let len = if draws.one_in(40) {
         12_000
     } else {
         draws.place(200)
     };
-    let body = vec![in alloc; draws.octet(); len]?;
+    let Ok(body) = vec![in alloc; draws.octet(); len] else {
+        drop(head);
+        return Err(AllocError);
+    };
     let age = draws.small(30);
     SharedObject::new(alloc, Object::new(status, head, body, age, life))
 }

@@ -78,26 +78,46 @@ pub fn key(alloc: Global, draws: &mut Draws, letter: u8) -> Result<Vec<u8>, Allo
 
 const ICP_CODES: [u8; 14] = [1, 1, 1, 1, 1, 2, 3, 3, 4, 10, 11, 21, 22, 23];
 
+/// Parts of a message, one behind the other.
+fn joined(alloc: Global, parts: &[&[u8]]) -> Result<Vec<u8>, AllocError> {
+    let mut octets = Vec::new(alloc);
+    for part in parts {
+        octets.extend_from_slice(*part)?;
+    }
+    Ok(octets)
+}
+
+/// What stands behind the header of an ICP message with this code.
+fn behind_header(alloc: Global, code: u8, key: &[u8]) -> Result<Vec<u8>, AllocError> {
+    let front: &[u8] = if code == 1 { &[0; 4] } else { &[] };
+    let back: &[u8] = if code == 23 { &[0, 2, b'h', b'i'] } else { &[] };
+    joined(alloc, &[front, key, &[0], back])
+}
+
+/// An ICP message with this behind its header.
+fn icp_with(
+    alloc: Global,
+    start: [u8; 2],
+    number: u32,
+    behind: &[u8],
+) -> Result<Vec<u8>, AllocError> {
+    let length = u16::try_from(behind.len()).unwrap_or(0).saturating_add(20);
+    let length = length.to_be_bytes();
+    let number = number.to_be_bytes();
+    joined(alloc, &[&start, &length, &number, &[0; 12], behind])
+}
+
 /// An ICP message.
 fn icp(alloc: Global, draws: &mut Draws, query: Query) -> Result<Vec<u8>, AllocError> {
     let code = draws.of(&ICP_CODES, 1);
-    let mut behind = Vec::new(alloc);
-    if code == 1 {
-        behind.extend_from_slice(&[0; 4])?;
-    }
-    behind.extend_from_slice(key(alloc, draws, query.letter)?.as_slice())?;
-    behind.push(0)?;
-    if code == 23 {
-        behind.extend_from_slice(&[0, 2, b'h', b'i'])?;
-    }
-    let length = u16::try_from(behind.len()).unwrap_or(0).saturating_add(20);
-    let mut octets = Vec::new(alloc);
-    octets.extend_from_slice(&[code, if draws.one_in(60) { 3 } else { 2 }])?;
-    octets.extend_from_slice(&length.to_be_bytes())?;
-    octets.extend_from_slice(&query.number.to_be_bytes())?;
-    octets.extend_from_slice(&[0; 12])?;
-    octets.extend_from_slice(behind.as_slice())?;
-    Ok(octets)
+    let key = key(alloc, draws, query.letter)?;
+    let behind = behind_header(alloc, code, key.as_slice());
+    drop(key);
+    let behind = behind?;
+    let version = if draws.one_in(60) { 3 } else { 2 };
+    let octets = icp_with(alloc, [code, version], query.number, behind.as_slice());
+    drop(behind);
+    octets
 }
 
 /// A body of this layout, with a key.
@@ -127,15 +147,8 @@ fn body_of(form: Form, key: &[u8]) -> HtcpBody<'_> {
 
 const OPCODES: [u8; 8] = [0, 1, 1, 1, 1, 2, 3, 4];
 
-/// An HTCP message: unsigned, or signed with the right or a wrong key, now or earlier.
-fn htcp(
-    alloc: Global,
-    draws: &mut Draws,
-    query: Query,
-    from: End,
-    seconds: u32,
-) -> Result<Option<Vec<u8>>, AllocError> {
-    let key = key(alloc, draws, query.letter)?;
+/// A random HTCP message for this key, without a signature.
+fn view_of<'a>(draws: &mut Draws, number: u32, key: &'a [u8]) -> HtcpView<'a> {
     let opcode = draws.of(&OPCODES, 0);
     let rr = draws.one_in(2);
     let f1 = if rr {
@@ -144,23 +157,21 @@ fn htcp(
         !draws.one_in(6)
     };
     let response = if rr { draws.octet_below(3) } else { 0 };
-    let view = HtcpView {
+    HtcpView {
         minor: 0,
         opcode,
         response,
         f1,
         rr,
-        trans: query.number,
-        body: body_of(Form::of(opcode, response, f1, rr), key.as_slice()),
+        trans: number,
+        body: body_of(Form::of(opcode, response, f1, rr), key),
         raw: b"",
         auth: HtcpAuth::Unsigned,
-    };
-    if !view.is_writable() {
-        return Ok(None);
     }
-    if draws.one_in(2) {
-        return Ok(encode(alloc, &view).ok());
-    }
+}
+
+/// The name and the secret of a signature: those of the key, or others.
+fn signature(draws: &mut Draws) -> (&'static [u8], &'static [u8]) {
     let name = if draws.one_in(12) {
         b"other".as_slice()
     } else {
@@ -171,8 +182,41 @@ fn htcp(
     } else {
         SECRET
     };
+    (name, secret)
+}
+
+/// The octets of a message, unsigned or signed, now or earlier. `None` if it cannot be written.
+fn written(
+    alloc: Global,
+    draws: &mut Draws,
+    view: &HtcpView<'_>,
+    from: End,
+    seconds: u32,
+) -> Option<Vec<u8>> {
+    if !view.is_writable() {
+        return None;
+    }
+    if draws.one_in(2) {
+        return encode(alloc, view).ok();
+    }
+    let (name, secret) = signature(draws);
     let then = seconds.saturating_sub(draws.of(&[0, 0, 0, 0, 5, 59, 60, 1_000], 0));
-    Ok(sign(alloc, &view, &both_ends(from, HTCP), name, secret, then).ok())
+    sign(alloc, view, &both_ends(from, HTCP), name, secret, then).ok()
+}
+
+/// An HTCP message: unsigned, or signed with the right or a wrong key, now or earlier.
+fn htcp(
+    alloc: Global,
+    draws: &mut Draws,
+    query: Query,
+    from: End,
+    seconds: u32,
+) -> Result<Option<Vec<u8>>, AllocError> {
+    let key = key(alloc, draws, query.letter)?;
+    let view = view_of(draws, query.number, key.as_slice());
+    let octets = written(alloc, draws, &view, from, seconds);
+    drop(key);
+    Ok(octets)
 }
 
 const BITS: [u8; 8] = [1, 2, 4, 8, 16, 32, 64, 128];

@@ -5,6 +5,7 @@ use filter_slots::{Datagram, End, Moment, Slot, Socket};
 use neighbours::Neighbour;
 use node_core::{Counters, Event, Node, Out, Stats};
 use std::alloc::{AllocError, Global};
+use std::mem;
 use std::sync::Arc;
 
 /// What the filters let through of a datagram.
@@ -95,16 +96,23 @@ impl Twin {
             Some(program) => Some(Arc::try_clone(program)?),
             None => None,
         };
-        match slot {
-            Slot::Socket(Socket::Icp) => self.icp = program,
-            Slot::Socket(Socket::Htcp) => self.htcp = program,
-            Slot::Neighbour(n) => {
-                if let Some(held) = self.neighbours.get_mut(n) {
-                    held.program = program;
-                }
-            }
+        match self.place_of(slot) {
+            Some(place) => drop(mem::replace(place, program)),
+            None => drop(program),
         }
         Ok(())
+    }
+
+    // Where the program of a slot is, if there is such a slot.
+    fn place_of(&mut self, slot: Slot) -> Option<&mut Option<Arc<Checked>>> {
+        match slot {
+            Slot::Socket(Socket::Icp) => Some(&mut self.icp),
+            Slot::Socket(Socket::Htcp) => Some(&mut self.htcp),
+            Slot::Neighbour(n) => match self.neighbours.get_mut(n) {
+                Some(held) => Some(&mut held.program),
+                None => None,
+            },
+        }
     }
 
     fn arrive(
@@ -120,13 +128,24 @@ impl Twin {
         match kept {
             Kept::Nothing => Ok(()),
             Kept::All => self.step(alloc, event, out),
-            Kept::Cut(datagram) => {
-                let Ok(datagram) = Arc::new(alloc, datagram) else {
-                    return Err(AllocError);
-                };
-                self.step(alloc, &Event::Datagram { datagram, now }, out)
-            }
+            Kept::Cut(datagram) => self.take_cut(alloc, datagram, now, out),
         }
+    }
+
+    fn take_cut(
+        &mut self,
+        alloc: Global,
+        datagram: Datagram,
+        now: Moment,
+        out: &mut Out,
+    ) -> Result<(), AllocError> {
+        let Ok(datagram) = Arc::new(alloc, datagram) else {
+            return Err(AllocError);
+        };
+        let event = Event::Datagram { datagram, now };
+        let taken = self.step(alloc, &event, out);
+        drop(event);
+        taken
     }
 
     // The program of the neighbour that sent the datagram.

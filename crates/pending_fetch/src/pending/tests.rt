@@ -11,6 +11,9 @@ use object_store::CacheKey;
 use peer_select::Round;
 use std::alloc::{AllocError, Global};
 use std::ops::Range;
+use std::process::Abort;
+
+const NO_MEMORY: &str = "no memory";
 
 // A table of one parent, which is up.
 fn table(alloc: Global) -> Result<Table, AllocError> {
@@ -33,19 +36,23 @@ fn key(alloc: Global) -> Result<CacheKey, AllocError> {
     CacheKey::new(alloc, Vec::from_slice(alloc, b"http://a/")?).map_err(|_| AllocError)
 }
 
-// One shared fetch, number 1, with client 1 waiting; its round starts at 1000 ms.
-fn first(alloc: Global) -> Result<Pending, AllocError> {
+// A round that starts then.
+fn round(alloc: Global, start: Moment) -> Result<Round, AllocError> {
     let table = table(alloc)?;
-    let Some(start) = Moment::new(1000) else {
-        return Err(AllocError);
-    };
     let round = Round::start(&table, start);
-    let key = key(alloc)?;
-    let mut pending = Pending::new(alloc)?;
-    match pending.open(alloc, key, 1, true, round) {
-        Ok(1) => Ok(pending),
-        _ => Err(AllocError),
-    }
+    drop(table);
+    Ok(round)
+}
+
+// One shared fetch, number 1, with client 1 waiting; its round starts at 1000 ms.
+fn first<R: Abort>(rt: &R, alloc: Global) -> Pending {
+    let start = Moment::new(1000).expect(rt, "no moment");
+    let round = round(alloc, start).expect(rt, NO_MEMORY);
+    let key = key(alloc).expect(rt, NO_MEMORY);
+    let mut pending = Pending::new(alloc).expect(rt, NO_MEMORY);
+    let opened = pending.open(alloc, key, 1, true, round);
+    assert!(*rt; matches!(opened, Ok(1)));
+    pending
 }
 
 // Whether every round started at `start` or earlier.
@@ -83,12 +90,8 @@ fn open_at(alloc: Global, pending: &mut Pending, client: u64, round: Round) -> O
     pending.open(alloc, key, client, false, round).ok()
 }
 
-// The moment so many milliseconds after the clock's start.
-fn moment(millis: u64) -> Result<Moment, AllocError> {
-    Moment::new(millis).ok_or(AllocError)
-}
-
-// Each test makes what it asks, lends it to functions that say whether all holds, and drops it: so no way out has to.
+// Each test makes what it asks, lends it to functions that say whether all holds, and drops it by a call. Where a value cannot be made
+// the test ends there. So no way out has to drop anything.
 
 // Whether these clients join one after the other.
 fn join_all(pending: &mut Pending, key: &CacheKey, clients: Range<u64>) -> bool {
@@ -144,22 +147,24 @@ fn empties(pending: &mut Pending, key: &CacheKey) -> bool {
 }
 
 #[test]
-fn joining(rt: HostRuntime) -> Result<(), AllocError> {
-    let key = key(rt.alloc())?;
-    let mut pending = first(rt.alloc())?;
+fn joining(rt: HostRuntime) {
+    let key = key(rt.alloc()).expect(&rt, NO_MEMORY);
+    let mut pending = first(&rt, rt.alloc());
     let found = (fills(&mut pending, &key), empties(&mut pending, &key));
     drop(pending);
+    drop(key);
     assert!(rt; found.0);
     assert!(rt; found.1);
-    Ok(())
 }
 
 // Whether the fetch is due 2,000 ms after its start, and not once its round has ended.
-fn expires(pending: &mut Pending) -> Result<bool, AllocError> {
-    let (before, after) = (moment(2_999)?, moment(3_000)?);
+fn expires(pending: &mut Pending) -> bool {
+    let (Some(before), Some(after)) = (Moment::new(2_999), Moment::new(3_000)) else {
+        return false;
+    };
     let is_due = pending.due(before).is_none() && pending.due(after) == Some(1);
     let has_ended = pending.expire(1) && !pending.expire(2);
-    Ok(is_due && has_ended && pending.due(after).is_none())
+    is_due && has_ended && pending.due(after).is_none()
 }
 
 // Whether the fetch takes its second attempt, and there is no other.
@@ -175,13 +180,12 @@ fn attempts(pending: &mut Pending) -> bool {
 }
 
 #[test]
-fn expiring(rt: HostRuntime) -> Result<(), AllocError> {
-    let mut pending = first(rt.alloc())?;
+fn expiring(rt: HostRuntime) {
+    let mut pending = first(&rt, rt.alloc());
     let found = (expires(&mut pending), attempts(&mut pending));
     drop(pending);
-    assert!(rt; found.0?);
+    assert!(rt; found.0);
     assert!(rt; found.1);
-    Ok(())
 }
 
 // Whether a copy has the fetch with its waiters, and changes independently of the original, whose fetch is closed.
@@ -196,22 +200,22 @@ fn is_independent(pending: &mut Pending, copy: &mut Pending, key: &CacheKey) -> 
 }
 
 // Whether a second client joins, and what is copied then is independent.
-fn is_copied(alloc: Global, pending: &mut Pending) -> Result<bool, AllocError> {
-    let key = key(alloc)?;
+fn is_copied<R: Abort>(rt: &R, alloc: Global, pending: &mut Pending) -> bool {
+    let key = key(alloc).expect(rt, NO_MEMORY);
     let joins = matches!(pending.join(&key, 2), Some(Ok(())));
-    let mut copy = pending.copy(alloc)?;
+    let mut copy = pending.copy(alloc).expect(rt, NO_MEMORY);
     let found = is_independent(pending, &mut copy, &key);
     drop(copy);
-    Ok(joins && found)
+    drop(key);
+    joins && found
 }
 
 #[test]
-fn copied(rt: HostRuntime) -> Result<(), AllocError> {
-    let mut pending = first(rt.alloc())?;
-    let found = is_copied(rt.alloc(), &mut pending);
+fn copied(rt: HostRuntime) {
+    let mut pending = first(&rt, rt.alloc());
+    let found = is_copied(&rt, rt.alloc(), &mut pending);
     drop(pending);
-    assert!(rt; found?);
-    Ok(())
+    assert!(rt; found);
 }
 
 // Whether fetches of these numbers are opened for clients of the same.
@@ -261,17 +265,17 @@ fn are_due(pending: &mut Pending, numbers: &[u32]) -> bool {
 // Opens fetches 1 to 256, closes 2 to 255 and opens two more, numbered 257 and 258. The remaining four are due in the order
 // of opening.
 #[test]
-fn numbers_and_the_order_of_opening(rt: HostRuntime) -> Result<(), AllocError> {
-    let table = table(rt.alloc())?;
-    let mut pending = Pending::new(rt.alloc())?;
+fn numbers_and_the_order_of_opening(rt: HostRuntime) {
+    let table = table(rt.alloc()).expect(&rt, NO_MEMORY);
+    let mut pending = Pending::new(rt.alloc()).expect(&rt, NO_MEMORY);
     let fills = open_all(rt.alloc(), &mut pending, &table, 1..257)
         && is_full(rt.alloc(), &mut pending, &table);
     close_all(&mut pending, 2..256);
     let goes_on = open_all(rt.alloc(), &mut pending, &table, 257..259);
     let is_in_order = are_due(&mut pending, &[1, 256, 257, 258]);
     drop(pending);
+    drop(table);
     assert!(rt; fills);
     assert!(rt; goes_on);
     assert!(rt; is_in_order);
-    Ok(())
 }
