@@ -393,8 +393,8 @@ pub(crate) trait Account: Tally {
     fn note_response(&mut self, status: u16, is_last: bool, is_empty: bool);
 }
 
-/// Tells what became of a request when it is dropped: with the body of its response, or before there is one. A request that has
-/// opened a tunnel is told with that.
+/// Begins the response to a request, and tells what became of it when this is dropped: with the body of its response, or before there is
+/// one. A request that has opened a tunnel is told with that.
 pub(crate) struct Telling<H: Answers, K: KeepTunnel> {
     answers: H,
     facts: SharedFacts<K>,

@@ -126,6 +126,7 @@ struct Http<R, H, B, K, I, W> {
     open: Option<Arc<AtomicUsize>>,
     // Until the server is open.
     bound: Option<Bound>,
+    // Of these there is one for each client: what keeps its tunnel, its socket, and what goes on beside its connection.
     kept: PhantomData<K>,
     socket: PhantomData<I>,
     watch: PhantomData<W>,

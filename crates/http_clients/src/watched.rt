@@ -69,7 +69,7 @@ pub(crate) trait Oversee: Drop {
     /// Takes the tunnel that is asked for, and notes that its way begins.
     fn take_wanted(&self) -> Option<Box<Wanted>>;
 
-    /// Notes how the way to a tunnel ended: with the tunnel, which is kept, or with this status.
+    /// Notes how the way to a tunnel ended: with the tunnel, which is kept, or with this status, which is returned as it is.
     fn note_end(&self, found: Result<Box<Opened>, u16>) -> Result<(), u16>;
 
     /// Tells the end of the connection, as `Facts::tell_end` has it.

@@ -62,7 +62,7 @@ fn paced(connected: Result<io::Result<TcpStream>, Elapsed>) -> Result<Paced, Fet
     }
 }
 
-/// Connects to servers of an event loop, by these rules.
+/// Connects to servers by these rules, on an event loop.
 pub struct Dialer<R, A> {
     pub rt: R,
     pub handle: Handle,

@@ -406,7 +406,7 @@ pub struct Borne<R, A, C> {
     conn: Option<C>,
     // What is left of the connection, once it has ended.
     left: Option<Parts<Noted>>,
-    // None if that is not limited.
+    // None if it is not limited how long no octet may come.
     patience: Option<Patience<R>>,
 }
 

@@ -124,7 +124,7 @@ trait Means: Drop {
     // What connects one job. Returns `None` if out of memory.
     fn dialer(&self, is_origin: bool) -> Option<Self::Dialer>;
 
-    // The exchange of this fetch. The client that began it may have the answer while it is collected if it is early.
+    // The exchange of this fetch. The client that began it may have the answer while it is collected if `is_early`.
     fn get(&self, fetch: u32, asked: Asked, is_early: bool) -> Self::Get;
 
     // How this request is passed on.

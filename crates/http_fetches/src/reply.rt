@@ -78,8 +78,8 @@ pub struct Reply<A> {
     alloc: Global,
     answer: A,
     head: Option<Head>,
-    // Whether the connection may carry another request once the content has been read: until there is a head, whether connections are
-    // kept at all.
+    // Whether the connection may carry another request once the content has been read: until there is a head, whether it may be kept at
+    // all, which it may not be for a request with credentials.
     lasts: bool,
 }
 

@@ -137,7 +137,7 @@ impl<I: Drop, P: Drop, W: Drop> Drop for Collecting<I, P, W> {
 }
 
 impl<I: Drop, P: Purse, W: Offers> Collecting<I, P, W> {
-    // Begins with the content of an answer with this head. Errors: its coding is not known.
+    // Begins with the content of an answer with this head. Errors: it has a transfer coding other than chunked.
     fn begin(&mut self, head: &Head, body: Incoming<I>) -> Result<(), FetchFault> {
         if head.is_foreign() {
             drop(body);
@@ -257,7 +257,7 @@ fn asked_over(
     }
 }
 
-/// The connection of a fetch, which gives what is left of it. It has no parameter, as has `Closing`: what the library asks of the types of
+/// The connection of a fetch, which gives what is left of it. Like `Closing`, it has no parameter: what the library asks of the types of
 /// its parts would be compared anew wherever these types are given for a parameter.
 pub struct Lasting {
     conn: WithoutShutdown<Noted, Empty<Bytes>>,

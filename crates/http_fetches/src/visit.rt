@@ -89,8 +89,8 @@ impl<D: Dial, T: Talk> Visit<D, T> {
         servers.admitted(dialer.admits(servers.first), is_other)
     }
 
-    // Where the call, which has failed so, is to be made once more over a new connection: at its own server if it may be, and where that was
-    // not connected to, at the other address, if there is one.
+    // Where the call, which has failed so, is to be made once more over a new connection: at its own server if it may be, and where that
+    // was not connected to, at the other address, which is taken out, so that it has one turn.
     fn next_server(&mut self, fault: FetchFault) -> Option<SocketAddr> {
         if let Some(call) = &self.call
             && call.may_retry(fault)
