@@ -167,11 +167,23 @@ def written(settings, folder):
     return path
 
 
-class Proxy:
-    """A proxy that ends after so many answers. `files` is its limit of open files."""
+def hastened(folder):
+    """The environment of a proxy whose time passes faster (tests/haste.c), and how many times. Without a compiler that is once."""
+    compiler = shutil.which("gcc") or shutil.which("clang")
+    if not compiler:
+        return {}, 1
+    shim, source = os.path.join(folder, "haste.so"), os.path.join(os.path.dirname(os.path.abspath(__file__)), "haste.c")
+    subprocess.run([compiler, "-O2", "-shared", "-fPIC", "-o", shim, source], check=True)
+    return {"LD_PRELOAD": shim, "HASTE": "20"}, 20
 
-    def __init__(self, stop_after, address="127.0.0.1", files=None, **settings):
-        self.address, self.folder = address, tempfile.TemporaryDirectory()
+
+class Proxy:
+    """A proxy that ends after so many answers. `files` is its limit of open files, `environment` what its environment has beside this one's."""
+
+    environment = {}
+
+    def __init__(self, stop_after, address="127.0.0.1", files=None, environment=None, **settings):
+        self.address, self.folder, self.environment = address, tempfile.TemporaryDirectory(), environment or {}
         for _ in range(5):
             self.ports = {key: free_port(kind, address) for key, kind in [
                 ("icp_port", socket.SOCK_DGRAM), ("htcp_port", socket.SOCK_DGRAM),
@@ -192,7 +204,8 @@ class Proxy:
         """Starts the process. Returns its output if it does not get ready."""
         limit = None if files is None else (lambda: resource.setrlimit(resource.RLIMIT_NOFILE, (files, files)))
         self.process = subprocess.Popen([PROGRAM, "serve", written(self.settings, self.folder.name)], stdin=subprocess.DEVNULL,
-                                        stdout=subprocess.PIPE, stderr=subprocess.PIPE, text=True, preexec_fn=limit)
+                                        stdout=subprocess.PIPE, stderr=subprocess.PIPE, text=True, preexec_fn=limit,
+                                        env={**os.environ, **self.environment})
         line = self.process.stdout.readline()
         if line == "ready\n":
             STARTED.__dict__.setdefault("proxies", []).append(self)

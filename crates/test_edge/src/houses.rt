@@ -13,7 +13,7 @@ use std::sync::atomic::{AtomicUsize, Ordering};
 use std::sync::{Arc, Wait};
 use std::test::Fail;
 use std::thread::{JoinHandle, Threads};
-use std::time::{Clock, Duration};
+use std::time::Clock;
 use std::{io, thread};
 
 /// An address of this host, with any port.
@@ -72,13 +72,6 @@ pub(crate) fn new_ends(alloc: Global) -> Result<(Ends, Stops), AllocError> {
         hurry: hurried,
     };
     Ok((ends, stops))
-}
-
-/// Two handles of a count.
-pub(crate) fn new_count(alloc: Global) -> io::Result<(Arc<AtomicUsize>, Arc<AtomicUsize>)> {
-    let count = Arc::new(alloc, AtomicUsize::new(0))?;
-    let other = Arc::try_clone(&count)?;
-    Ok((count, other))
 }
 
 /// Where a server listens, what it hears of its end, what counts its connections, and its limits.
@@ -311,26 +304,6 @@ impl Watched {
     /// How many are under way.
     pub(crate) fn count(&self) -> usize {
         self.count.load(Ordering::SeqCst)
-    }
-
-    /// Waits until so many are under way, ten seconds at most. Returns whether they are.
-    pub(crate) fn counts<R: Clock>(&self, rt: &R, wanted: usize) -> bool {
-        for _ in 0..1_000 {
-            if self.count() == wanted {
-                return true;
-            }
-            thread::sleep(rt, Duration::from_millis(10));
-        }
-        false
-    }
-
-    /// Stops it, and waits for its end.
-    pub(crate) fn end<R: Threads>(self, rt: &R) -> io::Result<()> {
-        let Self { house, told, count } = self;
-        let ended = house.end(rt);
-        drop(told);
-        drop(count);
-        ended
     }
 
     /// Ends it at once. Errors: it failed, it has told more than was taken, or something is still under way.
