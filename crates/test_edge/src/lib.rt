@@ -1,12 +1,10 @@
-//! Tests of the network edge over loopback: `client_streams`, `object_body`, `fetch_chain`, `http_clients`, `http_fetches` and
-//! `name_lookup`, against clients and origin servers on plain sockets. Nothing here has a contract that another crate uses.
+//! Tests of the network edge over loopback: `client_streams`, `fetch_chain`, `http_clients`, `http_fetches` and `name_lookup`, against
+//! clients and origin servers on plain sockets. Nothing here has a contract that another crate uses. What can be seen of the built
+//! program, by its clients, its log or its administration, is tested there: tests/serve, tests/serve_operator and those beside them.
 //!
-//! Tested by: src/administration.rt, src/budget.rt, src/fetches.rt, src/names.rt, src/passages.rt, src/path.rt, src/seats.rt,
-//! src/servers.rt, src/shapes.rt, src/told.rt, src/tunnels.rt.
+//! Tested by: src/budget.rt, src/fetches.rt, src/names.rt, src/passages.rt, src/script.rt, src/seats.rt, src/tunnels.rt.
 #![tactic(auto)]
 
-#[cfg(test)]
-mod administration;
 #[cfg(test)]
 mod budget;
 #[cfg(test)]
@@ -24,16 +22,10 @@ mod origin;
 #[cfg(test)]
 mod passages;
 #[cfg(test)]
-mod path;
-#[cfg(test)]
 mod rows;
 #[cfg(test)]
+mod script;
+#[cfg(test)]
 mod seats;
-#[cfg(test)]
-mod servers;
-#[cfg(test)]
-mod shapes;
-#[cfg(test)]
-mod told;
 #[cfg(test)]
 mod tunnels;

@@ -26,7 +26,7 @@ pub(crate) fn target_of(head: &str) -> &str {
 }
 
 // The responses to targets, after which the connection is closed.
-const TEXTS: [(&str, &[u8]); 14] = [
+const TEXTS: [(&str, &[u8]); 13] = [
     (
         "/good",
         b"HTTP/1.1 200 OK\r\nContent-Length: 5\r\n\r\nhello",
@@ -67,10 +67,6 @@ const TEXTS: [(&str, &[u8]); 14] = [
     ("/upgrade", b"HTTP/1.1 101 Switching Protocols\r\n\r\n"),
     ("/half", b"HTTP/1.1 200 OK\r\nContent-Len"),
     ("/mail", b"220 origin ESMTP\r\n"),
-    (
-        "/minute",
-        b"HTTP/1.1 200 OK\r\nContent-Length: 2\r\nCache-Control: max-age=60\r\n\r\nhi",
-    ),
 ];
 
 fn text_for(target: &str) -> &'static [u8] {
