@@ -39,32 +39,6 @@ pub(crate) fn exchange<R: Net>(
     answer
 }
 
-// Whether the server closes the connection after these octets.
-fn is_ended<S: Read + Write>(socket: &mut S, octets: &[u8]) -> io::Result<bool> {
-    socket.write_all(octets)?;
-    let mut piece = [0; 4096];
-    for _ in 0..100 {
-        match socket.read(&mut piece) {
-            Ok(0) => return Ok(true),
-            Ok(_) => {}
-            Err(_) => return Ok(false),
-        }
-    }
-    Ok(false)
-}
-
-/// Whether a server closes the connection after these octets, with at most ten seconds of silence.
-pub(crate) fn is_ended_after<R: Net>(
-    rt: &R,
-    server: SocketAddr,
-    octets: &[u8],
-) -> io::Result<bool> {
-    let mut socket = connect(rt, server, 10)?;
-    let is_ended = is_ended(&mut socket, octets);
-    drop(socket);
-    is_ended
-}
-
 /// What a server does on a connection.
 #[derive(Clone, Copy, PartialEq)]
 pub(crate) enum Seen {

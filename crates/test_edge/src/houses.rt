@@ -1,15 +1,15 @@
-//! Servers for clients, each in a thread of its own, and what their fronts are told. What a test owns of them has a drop by hand, so that
+//! Servers for clients, each in a thread of its own. What a test owns of them has a drop by hand, so that
 //! letting it go is one call for the prover (docs/GATE.md).
 use crate::clients::exchange;
 use client_streams::Stops;
-use crossbeam_channel::{Receiver, Sender, unbounded};
+use crossbeam_channel::{Receiver, unbounded};
 use futures::channel::oneshot;
 use http_clients::{ClientSocket, ServeLimits, serve_clients};
-use http_traffic::{FollowUp, Front, How, PassOn, Supplier, Told};
+use http_traffic::{FollowUp, Front, PassOn};
 use std::alloc::{AllocError, AllocGlobal, Global};
 use std::net::{Ipv4Addr, Net, SocketAddr, SocketAddrV4};
 use std::random::RandomSource;
-use std::sync::atomic::{AtomicUsize, Ordering};
+use std::sync::atomic::AtomicUsize;
 use std::sync::{Arc, Wait};
 use std::test::Fail;
 use std::thread::{JoinHandle, Threads};
@@ -21,10 +21,10 @@ pub(crate) fn local() -> SocketAddr {
     SocketAddr::V4(SocketAddrV4::new(Ipv4Addr::new(127, 0, 0, 1), 0))
 }
 
-/// What ends a server, and what ends its grace.
+/// What ends a server, and what would end its grace.
 pub(crate) struct Ends {
-    pub(crate) stop: Option<oneshot::Sender<()>>,
-    hurry: Option<oneshot::Sender<()>>,
+    stop: Option<oneshot::Sender<()>>,
+    hurry: oneshot::Sender<()>,
 }
 
 impl Drop for Ends {
@@ -34,38 +34,21 @@ impl Drop for Ends {
 }
 
 impl Ends {
-    /// Those of a server that ends by itself.
-    pub(crate) fn none() -> Ends {
-        Ends {
-            stop: None,
-            hurry: None,
+    // Has the server accept no more clients.
+    fn send_stop(&mut self) {
+        if let Some(stop) = self.stop.take() {
+            let _ = stop.send(());
         }
     }
-
-    /// Has the server accept no more clients.
-    pub(crate) fn send_stop(&mut self) {
-        send(self.stop.take());
-    }
-
-    /// Ends its grace.
-    pub(crate) fn send_hurry(&mut self) {
-        send(self.hurry.take());
-    }
 }
 
-fn send(end: Option<oneshot::Sender<()>>) {
-    if let Some(end) = end {
-        let _ = end.send(());
-    }
-}
-
-/// What ends a server, and what the server hears of it.
-pub(crate) fn new_ends(alloc: Global) -> Result<(Ends, Stops), AllocError> {
+// What ends a server, and what the server hears of it.
+fn new_ends(alloc: Global) -> Result<(Ends, Stops), AllocError> {
     let (stop, stopped) = oneshot::channel(alloc)?;
     let (hurry, hurried) = oneshot::channel(alloc)?;
     let ends = Ends {
         stop: Some(stop),
-        hurry: Some(hurry),
+        hurry,
     };
     let stops = Stops {
         stop: stopped,
@@ -124,11 +107,6 @@ impl Place {
         Ok(Place::of(rt.alloc(), socket, limits)?)
     }
 
-    /// What counts the connections.
-    pub(crate) fn count(&self) -> Result<Arc<AtomicUsize>, AllocError> {
-        Ok(Arc::try_clone(&self.open)?)
-    }
-
     fn parts(self) -> (ClientSocket, Stops, Arc<AtomicUsize>, ServeLimits) {
         let Self {
             alloc: _,
@@ -145,7 +123,7 @@ impl Place {
 pub(crate) struct House {
     pub(crate) alloc: Global,
     pub(crate) address: SocketAddr,
-    pub(crate) ends: Ends,
+    ends: Ends,
     thread: JoinHandle<io::Result<()>>,
 }
 
@@ -161,8 +139,8 @@ impl Drop for House {
 }
 
 impl House {
-    /// A server that runs in this thread, and sends its address once it accepts clients.
-    pub(crate) fn new<R: Wait>(
+    // A server that runs in this thread, and sends its address once it accepts clients.
+    fn new<R: Wait>(
         rt: &R,
         alloc: Global,
         ends: Ends,
@@ -183,32 +161,19 @@ impl House {
         exchange(rt, self.alloc, self.address, octets)
     }
 
-    /// Waits for its end.
-    pub(crate) fn join<R: Threads>(self, rt: &R) -> io::Result<()> {
+    /// Stops it, and waits for its end.
+    pub(crate) fn end<R: Threads>(self, rt: &R) -> io::Result<()> {
         let Self {
             alloc: _,
             address: _,
             ends,
             thread,
         } = self;
+        let mut ends = ends;
+        ends.send_stop();
         let ended = thread.join(rt);
         drop(ends);
         ended
-    }
-
-    /// Stops it, and waits for its end.
-    pub(crate) fn end<R: Threads>(self, rt: &R) -> io::Result<()> {
-        let mut house = self;
-        house.ends.send_stop();
-        house.join(rt)
-    }
-
-    // Stops it without a grace, and waits for its end.
-    fn end_at_once<R: Threads>(self, rt: &R) -> io::Result<()> {
-        let mut house = self;
-        house.ends.send_stop();
-        house.ends.send_hurry();
-        house.join(rt)
     }
 }
 
@@ -227,96 +192,4 @@ where
         serve_clients(rt, socket, "edge", front, bound, stops, open, limits)
     })?;
     House::new(&rt, alloc, ends, told, thread)
-}
-
-/// What a front is told of a request.
-#[derive(Clone, Copy, PartialEq)]
-pub(crate) struct Line {
-    /// Whether there is a request.
-    pub(crate) is_asked: bool,
-    pub(crate) status: Option<u16>,
-    pub(crate) how: How,
-    pub(crate) supplier: Option<Supplier>,
-    pub(crate) octets: u64,
-    pub(crate) is_whole: bool,
-}
-
-impl Line {
-    /// What is told, but for the request.
-    pub(crate) fn of(told: &Told<'_>, is_asked: bool) -> Line {
-        Line {
-            is_asked,
-            status: told.status,
-            how: told.how,
-            supplier: told.supplier,
-            octets: told.octets,
-            is_whole: told.is_whole,
-        }
-    }
-
-    /// Passes it on, if there is still somebody who listens.
-    pub(crate) fn pass<R: Wait>(self, rt: &R, lines: &Sender<Line, Global>) {
-        let _ = lines.send(rt, self);
-    }
-}
-
-/// A server whose front passes on what it is told, and a count of what is under way there.
-pub(crate) struct Watched {
-    pub(crate) house: House,
-    told: Receiver<Line, Global>,
-    count: Arc<AtomicUsize>,
-}
-
-impl Drop for Watched {
-    fn drop(self) {
-        let Self {
-            house: _,
-            told: _,
-            count: _,
-        } = self;
-    }
-}
-
-impl Watched {
-    pub(crate) fn new(
-        house: House,
-        told: Receiver<Line, Global>,
-        count: Arc<AtomicUsize>,
-    ) -> Watched {
-        Watched { house, told, count }
-    }
-
-    /// What its front is told next.
-    pub(crate) fn told<R: Wait>(&self, rt: &R) -> Result<Line, Fail> {
-        Ok(self.told.recv(rt)?)
-    }
-
-    /// Whether its front is told this next.
-    pub(crate) fn tells<R: Wait>(&self, rt: &R, wanted: Line) -> Result<bool, Fail> {
-        Ok(self.told(rt)? == wanted)
-    }
-
-    /// Whether its front was told more by now.
-    pub(crate) fn has_told<R: Wait>(&self, rt: &R) -> bool {
-        self.told.try_recv(rt).is_ok()
-    }
-
-    /// How many are under way.
-    pub(crate) fn count(&self) -> usize {
-        self.count.load(Ordering::SeqCst)
-    }
-
-    /// Ends it at once. Errors: it failed, it has told more than was taken, or something is still under way.
-    pub(crate) fn end_at_once<R: Threads + Wait>(self, rt: &R) -> Result<(), Fail> {
-        let Self { house, told, count } = self;
-        let ended = house.end_at_once(rt);
-        let is_over = told.recv(rt).is_err() && count.load(Ordering::SeqCst) == 0;
-        drop(told);
-        drop(count);
-        ended?;
-        if !is_over {
-            return Err(Fail::new("more was told, or a connection is still counted"));
-        }
-        Ok(())
-    }
 }

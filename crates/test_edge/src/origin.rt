@@ -20,13 +20,13 @@ fn head_of(alloc: Global, socket: &TcpStream) -> io::Result<String> {
     Ok(head)
 }
 
-/// The target of a request, by its head.
-pub(crate) fn target_of(head: &str) -> &str {
+// The target of a request, by its head.
+fn target_of(head: &str) -> &str {
     head.split(' ').nth(1).unwrap_or("")
 }
 
 // The responses to targets, after which the connection is closed.
-const TEXTS: [(&str, &[u8]); 14] = [
+const TEXTS: [(&str, &[u8]); 13] = [
     (
         "/good",
         b"HTTP/1.1 200 OK\r\nContent-Length: 5\r\n\r\nhello",
@@ -67,10 +67,6 @@ const TEXTS: [(&str, &[u8]); 14] = [
     ("/upgrade", b"HTTP/1.1 101 Switching Protocols\r\n\r\n"),
     ("/half", b"HTTP/1.1 200 OK\r\nContent-Len"),
     ("/mail", b"220 origin ESMTP\r\n"),
-    (
-        "/minute",
-        b"HTTP/1.1 200 OK\r\nContent-Length: 2\r\nCache-Control: max-age=60\r\n\r\nhi",
-    ),
 ];
 
 fn text_for(target: &str) -> &'static [u8] {
@@ -142,8 +138,8 @@ where
     Ok(())
 }
 
-/// Waits for the end of these threads.
-pub(crate) fn join_all<R: Threads>(rt: &R, threads: Vec<JoinHandle<io::Result<()>>>) {
+// Waits for the end of these threads.
+fn join_all<R: Threads>(rt: &R, threads: Vec<JoinHandle<io::Result<()>>>) {
     for thread in threads {
         let _ = thread.join(rt);
     }

@@ -3,7 +3,7 @@ use crate::clients::Seen::{Answered, Closed, Silent};
 use crate::clients::{Seen, seen_after};
 use crate::houses::{House, Place, local, open_house};
 use crate::limits::{client_limits, serve_limits};
-use crate::servers::Script;
+use crate::script::Script;
 use client_streams::{ClientLimits, SeatShare, seat_shares};
 use http_clients::{ClientSocket, ServeLimits, client_sockets};
 use std::alloc::{AllocGlobal, Global};
@@ -136,8 +136,7 @@ where
 {
     let alloc = rt.alloc();
     let (place, ends) = Place::of(alloc, socket, limits)?;
-    let script = Script::new(rt, alloc)?;
-    open_house(rt, place, ends, script)
+    open_house(rt, place, ends, Script::new(alloc))
 }
 
 // Starts a thread for each of these sockets.
