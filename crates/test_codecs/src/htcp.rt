@@ -1,12 +1,13 @@
 //! HTCP messages: reading, writing, signing, verifying, truncated messages.
 
+use crate::made::repeated;
 use crate::rows::{Question, all_hold};
 use htcp_packet::{
     Detail, EncodeFault, Form, HtcpAuth, HtcpBody, HtcpFault, HtcpView, Sign, Specifier, decode,
     encode, sign, verify,
 };
 use std::alloc::Global;
-use std::test::*;
+use std::process::Abort;
 
 // A TST request for `http://a/` with TRANS-ID 9.
 const TEST: &str =
@@ -20,13 +21,18 @@ const SIGNED: &str =
 const ENDS: [u8; 12] = [10, 0, 0, 9, 0x12, 0xdb, 10, 0, 0, 1, 0x12, 0xdb];
 
 /// The octets of a text in hexadecimal.
-fn octets_of(alloc: Global, text: &str) -> Result<Vec<u8>, Fail> {
-    Ok(hex::decode(alloc, text)?)
+fn octets_of<R: Abort>(rt: &R, alloc: Global, text: &str) -> Vec<u8> {
+    hex::decode(alloc, text).ok().expect(rt, "hexadecimal")
 }
 
 /// The message of these octets.
-fn message(octets: &[u8]) -> Result<HtcpView<'_>, Fail> {
-    Ok(decode(octets).ok().ok_or("a message")?)
+fn message<'a, R: Abort>(rt: &R, octets: &'a [u8]) -> HtcpView<'a> {
+    decode(octets).ok().expect(rt, "a message")
+}
+
+/// The fault of octets that are no message.
+fn fault_of(octets: &[u8]) -> Option<HtcpFault> {
+    decode(octets).err()
 }
 
 fn shape_of(view: &HtcpView<'_>) -> Shape {
@@ -85,56 +91,53 @@ const MESSAGES: &[(&str, Shape)] = &[
 ];
 
 /// Whether a message is encoded as these octets.
-fn is_written(alloc: Global, view: &HtcpView<'_>, octets: &[u8]) -> Result<bool, Fail> {
+fn is_written<R: Abort>(rt: &R, alloc: Global, view: &HtcpView<'_>, octets: &[u8]) -> bool {
     if !view.is_writable() {
-        return Ok(false);
+        return false;
     }
-    let written = encode(alloc, view)?;
-    Ok(written.as_slice() == octets)
+    let written = encode(alloc, view).ok().expect(rt, "octets");
+    let is_same = written.as_slice() == octets;
+    drop(written);
+    is_same
 }
 
 /// The octets of a row decode to a message of its shape, which is encoded as the same octets.
 struct ReadAndWritten;
 
 impl Question<(&'static str, Shape)> for ReadAndWritten {
-    fn holds(&self, alloc: Global, row: &(&'static str, Shape)) -> Result<bool, Fail> {
-        let octets = octets_of(alloc, row.0)?;
-        let view = message(&octets)?;
-        Ok(is_written(alloc, &view, &octets)? && shape_of(&view) == row.1)
+    fn holds<R: Abort>(&self, rt: &R, alloc: Global, row: &(&'static str, Shape)) -> bool {
+        let octets = octets_of(rt, alloc, row.0);
+        let view = message(rt, &octets);
+        let is_so = is_written(rt, alloc, &view, &octets) && shape_of(&view) == row.1;
+        drop(octets);
+        is_so
     }
 }
 
 #[test]
-fn messages_are_read_and_written(rt: HostRuntime) -> Result<(), Fail> {
-    all_hold(rt.alloc(), MESSAGES, &ReadAndWritten)
+fn messages_are_read_and_written(rt: HostRuntime) {
+    all_hold(&rt, rt.alloc(), MESSAGES, &ReadAndWritten);
 }
 
 /// A TST request with the method GET, for `http://a:80/` with HTTP/1.1.
 const TEXTS: &str =
     "002d000000271002000000090003474554000c687474703a2f2f613a38302f0008485454502f312e3100000002";
 
-/// Whether a message has a SPECIFIER with these strings.
-fn has_texts(octets: &[u8], method: &[u8], uri: &[u8], version: &[u8]) -> Result<bool, Fail> {
-    let view = message(octets)?;
-    let HtcpBody::Specifier(specifier) = view.body else {
-        return Err(Fail::from("a specifier"));
-    };
-    Ok(
-        specifier.method == method
-            && specifier.uri == uri
-            && specifier.version == version
-            && specifier.headers.is_empty(),
-    )
-}
+/// Its OP-DATA.
+const NAMED: HtcpBody<'static> = HtcpBody::Specifier(Specifier {
+    method: b"GET",
+    uri: b"http://a:80/",
+    version: b"HTTP/1.1",
+    headers: b"",
+});
 
 /// The strings of a SPECIFIER.
 #[test]
-fn texts(rt: HostRuntime) -> Result<(), Fail> {
-    let octets = octets_of(rt.alloc(), TEXTS)?;
-    let has_texts = has_texts(&octets, b"GET", b"http://a:80/", b"HTTP/1.1");
+fn texts(rt: HostRuntime) {
+    let octets = octets_of(&rt, rt.alloc(), TEXTS);
+    let has_texts = message(&rt, &octets).body == NAMED;
     drop(octets);
-    assert!(rt; has_texts?);
-    Ok(())
+    assert!(rt; has_texts);
 }
 
 /// A NOP request.
@@ -143,85 +146,80 @@ const PLAIN: &str = "000e000000080002000000070002";
 /// The same with reserved bits set, three octets of padding in DATA, and two octets after AUTH.
 const PADDED: &str = "00130000000b00fe00000007aabbcc0002ffff";
 
-/// Whether the second text decodes to the same message as the first, with this DATA, and is encoded as the first.
-fn is_padded(alloc: Global, plain: &str, padded: &str, data: &str) -> Result<bool, Fail> {
-    let plain = octets_of(alloc, plain)?;
-    let padded = octets_of(alloc, padded)?;
-    let first = message(&plain)?;
-    let second = message(&padded)?;
-    let is_same = first == second && hex::encode(alloc, second.raw)?.as_str() == data;
-    Ok(is_same && is_written(alloc, &second, &plain)?)
+/// The octets of its DATA.
+const DATA: &str = "000b00fe00000007aabbcc";
+
+/// Whether both decode to the same message.
+fn are_same<R: Abort>(rt: &R, first: &[u8], second: &[u8]) -> bool {
+    message(rt, first) == message(rt, second)
+}
+
+/// Whether octets decode to a message with this DATA, which is encoded as the plain ones.
+fn has_data<R: Abort>(rt: &R, alloc: Global, octets: &[u8], data: &[u8], plain: &[u8]) -> bool {
+    let view = message(rt, octets);
+    view.raw == data && is_written(rt, alloc, &view, plain)
 }
 
 /// What doesn't belong to a message: padding, reserved bits and the octets of DATA.
 #[test]
-fn padding(rt: HostRuntime) -> Result<(), Fail> {
-    assert!(rt; is_padded(rt.alloc(), PLAIN, PADDED, "000b00fe00000007aabbcc")?);
-    Ok(())
-}
-
-/// Whether two texts decode to the same message.
-fn are_same(alloc: Global, first: &str, second: &str) -> Result<bool, Fail> {
-    let first = octets_of(alloc, first)?;
-    let second = octets_of(alloc, second)?;
-    Ok(message(&first)? == message(&second)?)
-}
-
-#[test]
-fn other_messages_are_others(rt: HostRuntime) -> Result<(), Fail> {
-    assert!(rt; are_same(rt.alloc(), PLAIN, PLAIN)?);
-    assert!(rt; !are_same(rt.alloc(), PLAIN, TEXTS)?);
-    Ok(())
+fn padding(rt: HostRuntime) {
+    let plain = octets_of(&rt, rt.alloc(), PLAIN);
+    let padded = octets_of(&rt, rt.alloc(), PADDED);
+    let data = octets_of(&rt, rt.alloc(), DATA);
+    let are_same = are_same(&rt, &plain, &padded);
+    let has_data = has_data(&rt, rt.alloc(), &padded, &data, &plain);
+    drop(data);
+    drop(padded);
+    drop(plain);
+    assert!(rt; are_same && has_data);
 }
 
 #[test]
-fn no_opcode_above_15_is_written(rt: HostRuntime) -> Result<(), Fail> {
-    let plain = octets_of(rt.alloc(), PLAIN)?;
-    let view = message(&plain)?;
-    let odd = HtcpView { opcode: 16, ..view };
-    assert!(rt; !odd.is_writable());
-    Ok(())
+fn other_messages_are_others(rt: HostRuntime) {
+    let plain = octets_of(&rt, rt.alloc(), PLAIN);
+    let other = octets_of(&rt, rt.alloc(), TEXTS);
+    let found = (are_same(&rt, &plain, &plain), are_same(&rt, &plain, &other));
+    drop(other);
+    drop(plain);
+    assert!(rt; found == (true, false));
 }
 
-/// The fault of a message truncated to n octets.
-fn fault_of_cut(n: usize) -> HtcpFault {
-    if n < 4 {
-        HtcpFault::Short
-    } else {
-        HtcpFault::Length
-    }
-}
-
-/// The result of decoding the signature when the length in the header is set to n, the number of octets that are left.
-fn read_of_cut(n: usize) -> Result<HtcpAuth<'static>, HtcpFault> {
-    match n {
-        40 => Ok(HtcpAuth::Unsigned),
-        41 => Err(HtcpFault::Auth),
-        _ => Err(HtcpFault::Data),
-    }
-}
-
-/// The signature of a message.
-fn auth_of(octets: &[u8]) -> Result<HtcpAuth<'_>, HtcpFault> {
-    let view = decode(octets)?;
-    Ok(view.auth)
+#[test]
+fn no_opcode_above_15_is_written(rt: HostRuntime) {
+    let plain = octets_of(&rt, rt.alloc(), PLAIN);
+    let mut odd = message(&rt, &plain);
+    odd.opcode = 16;
+    let is_writable = odd.is_writable();
+    drop(plain);
+    assert!(rt; !is_writable);
 }
 
 /// Whether a message that is truncated, with its length in the header as it was, has the fault of each length.
 fn are_faulty(octets: &[u8; 42]) -> bool {
     for n in 0..42 {
-        if decode(&octets[..n]).err() != Some(fault_of_cut(n)) {
+        let short = (n < 4).then_some(HtcpFault::Short);
+        if fault_of(&octets[..n]) != short.or(Some(HtcpFault::Length)) {
             return false;
         }
     }
     true
 }
 
+/// Whether a message is read as it should be when it is truncated to n octets, the length in its header: without a signature where
+/// its DATA alone is left.
+fn is_read<R: Abort>(rt: &R, octets: &[u8], n: usize) -> bool {
+    match n {
+        40 => message(rt, octets).auth == HtcpAuth::Unsigned,
+        41 => fault_of(octets) == Some(HtcpFault::Auth),
+        _ => fault_of(octets) == Some(HtcpFault::Data),
+    }
+}
+
 /// Whether a message that is truncated, with its length in the header set to what is left, is read as it should be.
-fn are_read(octets: &mut [u8; 42]) -> bool {
+fn are_read<R: Abort>(rt: &R, octets: &mut [u8; 42]) -> bool {
     for n in 4..42 {
         octets[1] = n as u8;
-        if auth_of(&octets[..n]) != read_of_cut(n) {
+        if !is_read(rt, &octets[..n], n) {
             return false;
         }
     }
@@ -230,12 +228,11 @@ fn are_read(octets: &mut [u8; 42]) -> bool {
 
 /// A datagram truncated to n octets, with its length in the header as it was, and set to n.
 #[test]
-fn cut_short(rt: HostRuntime) -> Result<(), Fail> {
+fn cut_short(rt: HostRuntime) {
     let mut octets = [0u8; 42];
-    hex::decode_to_slice(TEST, &mut octets)?;
+    hex::decode_to_slice(TEST, &mut octets).expect(&rt, "hexadecimal");
     assert!(rt; are_faulty(&octets));
-    assert!(rt; are_read(&mut octets));
-    Ok(())
+    assert!(rt; are_read(&rt, &mut octets));
 }
 
 const FAULTS: &[(&str, HtcpFault)] = &[
@@ -253,19 +250,24 @@ const FAULTS: &[(&str, HtcpFault)] = &[
 struct IsFaulty;
 
 impl Question<(&'static str, HtcpFault)> for IsFaulty {
-    fn holds(&self, alloc: Global, row: &(&'static str, HtcpFault)) -> Result<bool, Fail> {
-        let octets = octets_of(alloc, row.0)?;
-        Ok(decode(&octets).err() == Some(row.1))
+    fn holds<R: Abort>(&self, rt: &R, alloc: Global, row: &(&'static str, HtcpFault)) -> bool {
+        let octets = octets_of(rt, alloc, row.0);
+        let fault = fault_of(&octets);
+        drop(octets);
+        fault == Some(row.1)
     }
 }
 
 #[test]
-fn faults(rt: HostRuntime) -> Result<(), Fail> {
-    all_hold(rt.alloc(), FAULTS, &IsFaulty)
+fn faults(rt: HostRuntime) {
+    all_hold(&rt, rt.alloc(), FAULTS, &IsFaulty);
 }
 
-/// Each body without a signature, and signed as above. The codes were computed by Python's hmac.
-const BODIES: &[(&str, &str)] = &[
+/// A message without a signature, and signed as above.
+type Signed = (&'static str, &'static str);
+
+/// Each body. The codes were computed by Python's hmac.
+const BODIES: &[Signed] = &[
     // a NOP request
     (
         "000e000000080002000000090002",
@@ -308,32 +310,49 @@ const BODIES: &[(&str, &str)] = &[
     ),
 ];
 
-/// The message signed at second 100 with the key named `key`, in hexadecimal, if its signature verifies.
-fn signed(alloc: Global, view: &HtcpView<'_>) -> Result<String, Fail> {
+/// Whether a message is signed as these octets, at second 100 with the key named `key`, and its signature verifies.
+fn is_signed<R: Abort>(rt: &R, alloc: Global, view: &HtcpView<'_>, signed: &[u8]) -> bool {
     if !view.is_writable() {
-        return Err(Fail::from("not writable"));
+        return false;
     }
-    let written = sign(alloc, view, &ENDS, b"key", b"Jefe", 100)?;
-    if verify(&message(&written)?, &ENDS, b"Jefe", 100) != Sign::Good {
-        return Err(Fail::from("a bad signature"));
-    }
-    Ok(hex::encode(alloc, &written)?)
+    let made = sign(alloc, view, &ENDS, b"key", b"Jefe", 100);
+    let made = made.ok().expect(rt, "octets");
+    let is_good = verify(&message(rt, &made), &ENDS, b"Jefe", 100) == Sign::Good;
+    let is_same = made.as_slice() == signed;
+    drop(made);
+    is_good && is_same
 }
 
-/// A message is encoded as it was decoded, and signed as in its row.
+/// Whether a message has no signature, is encoded as it was decoded, and is signed as these octets.
+fn is_plain<R: Abort>(rt: &R, alloc: Global, octets: &[u8], signed: &[u8]) -> bool {
+    let view = message(rt, octets);
+    verify(&view, &ENDS, b"Jefe", 100) == Sign::Absent
+        && is_written(rt, alloc, &view, octets)
+        && is_signed(rt, alloc, &view, signed)
+}
+
+/// All of this holds of a row.
 struct IsSigned;
 
-impl Question<(&'static str, &'static str)> for IsSigned {
-    fn holds(&self, alloc: Global, row: &(&'static str, &'static str)) -> Result<bool, Fail> {
-        let octets = octets_of(alloc, row.0)?;
-        let view = message(&octets)?;
-        Ok(is_written(alloc, &view, &octets)? && signed(alloc, &view)?.as_str() == row.1)
+impl Question<Signed> for IsSigned {
+    fn holds<R: Abort>(&self, rt: &R, alloc: Global, row: &Signed) -> bool {
+        let octets = octets_of(rt, alloc, row.0);
+        let signed = octets_of(rt, alloc, row.1);
+        let is_plain = is_plain(rt, alloc, &octets, &signed);
+        drop(signed);
+        drop(octets);
+        is_plain
     }
 }
 
 #[test]
-fn each_body_is_written(rt: HostRuntime) -> Result<(), Fail> {
-    all_hold(rt.alloc(), BODIES, &IsSigned)
+fn each_body_is_written(rt: HostRuntime) {
+    all_hold(&rt, rt.alloc(), BODIES, &IsSigned);
+}
+
+#[test]
+fn no_signature_is_absent(rt: HostRuntime) {
+    all_hold(&rt, rt.alloc(), &[(TEST, SIGNED)], &IsSigned);
 }
 
 /// The endpoints and the second with which a message is verified, and the result.
@@ -350,49 +369,23 @@ const VERIFIED: &[Verified] = &[
     (ELSEWHERE, 159, Sign::Bad),
 ];
 
-/// A message is verified with its secret as in a row, and never with another.
-#[derive(Drop)]
-struct VerifiedAs<'a> {
-    view: HtcpView<'a>,
-}
+/// The signed message is verified with its secret as in a row, and never with another.
+struct IsVerified;
 
-impl Question<Verified> for VerifiedAs<'_> {
-    fn holds(&self, _alloc: Global, row: &Verified) -> Result<bool, Fail> {
-        let (ends, seconds, says) = row;
-        let with_secret = verify(&self.view, ends, b"Jefe", *seconds);
-        let with_other = verify(&self.view, ends, b"jefe", *seconds);
-        Ok(with_secret == *says && with_other == Sign::Bad)
+impl Question<Verified> for IsVerified {
+    fn holds<R: Abort>(&self, rt: &R, alloc: Global, row: &Verified) -> bool {
+        let octets = octets_of(rt, alloc, SIGNED);
+        let view = message(rt, &octets);
+        let with_secret = verify(&view, &row.0, b"Jefe", row.1);
+        let with_other = verify(&view, &row.0, b"jefe", row.1);
+        drop(octets);
+        with_secret == row.2 && with_other == Sign::Bad
     }
 }
 
-/// Whether all rows hold of the message of these octets.
-fn are_verified(alloc: Global, octets: &[u8]) -> Result<(), Fail> {
-    let view = message(octets)?;
-    all_hold(alloc, VERIFIED, &VerifiedAs { view })
-}
-
 #[test]
-fn signatures(rt: HostRuntime) -> Result<(), Fail> {
-    let octets = octets_of(rt.alloc(), SIGNED)?;
-    let told = are_verified(rt.alloc(), &octets);
-    drop(octets);
-    told
-}
-
-/// Whether a message without a signature is read as such, and is signed as the other.
-fn is_signed_as(alloc: Global, octets: &[u8], signed_text: &str) -> Result<bool, Fail> {
-    let view = message(octets)?;
-    let is_absent = verify(&view, &ENDS, b"Jefe", 100) == Sign::Absent;
-    Ok(view.is_writable() && signed(alloc, &view)?.as_str() == signed_text && is_absent)
-}
-
-#[test]
-fn no_signature_is_absent(rt: HostRuntime) -> Result<(), Fail> {
-    let octets = octets_of(rt.alloc(), TEST)?;
-    let is_signed = is_signed_as(rt.alloc(), &octets, SIGNED);
-    drop(octets);
-    assert!(rt; is_signed?);
-    Ok(())
+fn signatures(rt: HostRuntime) {
+    all_hold(&rt, rt.alloc(), VERIFIED, &IsVerified);
 }
 
 /// The length of the first string of a DETAIL, whether the message can be encoded, and whether it can be signed.
@@ -407,61 +400,41 @@ const LENGTHS: &[Length] = &[
 ];
 
 /// Why a message can't be encoded, and why it can't be signed.
-fn refusals(
-    alloc: Global,
-    view: HtcpView<'_>,
-    text: &[u8],
-) -> Result<(Option<EncodeFault>, Option<EncodeFault>), Fail> {
+type Refusals = (Option<EncodeFault>, Option<EncodeFault>);
+
+/// The refusals of the message of these octets, with a DETAIL that has this string.
+fn refusals<R: Abort>(rt: &R, alloc: Global, octets: &[u8], text: &[u8]) -> Refusals {
     let detail = Detail {
         response_headers: text,
         entity_headers: b"",
         cache_headers: b"",
     };
+    let view = message(rt, octets);
     let long = HtcpView {
         body: HtcpBody::Detail(detail),
         ..view
     };
-    if !long.is_writable() {
-        return Err(Fail::from("not writable"));
-    }
+    assert!(*rt; long.is_writable(), "not writable");
     let written = encode(alloc, &long).err();
-    Ok((written, sign(alloc, &long, &ENDS, b"k", b"", 0).err()))
-}
-
-/// `None` if it fits.
-fn fault_unless(fits: bool) -> Option<EncodeFault> {
-    if fits {
-        None
-    } else {
-        Some(EncodeFault::TooLong)
-    }
+    (written, sign(alloc, &long, &ENDS, b"k", b"", 0).err())
 }
 
 /// A message with a string of a row's length can be encoded and signed as the row says.
-#[derive(Drop)]
-struct FitsAs<'a> {
-    view: HtcpView<'a>,
-}
+struct FitsAs;
 
-impl Question<Length> for FitsAs<'_> {
-    fn holds(&self, alloc: Global, row: &Length) -> Result<bool, Fail> {
-        let (len, fits, fits_signed) = *row;
-        let text = vec![in alloc; 0u8; len]?;
-        let refusals = refusals(alloc, self.view, &text)?;
-        Ok(refusals == (fault_unless(fits), fault_unless(fits_signed)))
+impl Question<Length> for FitsAs {
+    fn holds<R: Abort>(&self, rt: &R, alloc: Global, row: &Length) -> bool {
+        let octets = octets_of(rt, alloc, "00140000000e1001000000090000000000000002");
+        let text = repeated(rt, alloc, 0, row.0);
+        let refusals = refusals(rt, alloc, &octets, &text);
+        drop(text);
+        drop(octets);
+        let too_long = EncodeFault::TooLong;
+        refusals == ((!row.1).then_some(too_long), (!row.2).then_some(too_long))
     }
 }
 
-/// Whether all rows hold of the message of these octets.
-fn are_too_long(alloc: Global, octets: &[u8]) -> Result<(), Fail> {
-    let view = message(octets)?;
-    all_hold(alloc, LENGTHS, &FitsAs { view })
-}
-
 #[test]
-fn too_long(rt: HostRuntime) -> Result<(), Fail> {
-    let octets = octets_of(rt.alloc(), "00140000000e1001000000090000000000000002")?;
-    let told = are_too_long(rt.alloc(), &octets);
-    drop(octets);
-    told
+fn too_long(rt: HostRuntime) {
+    all_hold(&rt, rt.alloc(), LENGTHS, &FitsAs);
 }

@@ -1,16 +1,16 @@
 //! ICP messages: reading, writing, truncated messages and messages that are too long.
 
-ghost use Rattle.std.specs.Prelude.{IfOk, IfSome};
 ghost use Rattle.icp_packet.specs.Message.{FitsOpcode};
 ghost use Rattle.icp_packet.specs.View.{shown_body};
 
+use crate::made::{NO_MEMORY, octets, repeated};
 use crate::rows::{Question, all_hold};
 use icp_packet::{EncodeFault, IcpBody, IcpFault, IcpView, Opcode, decode, encode};
 use std::alloc::Global;
-use std::test::Fail;
+use std::process::Abort;
 
-// A QUERY for http://a/ with request number 1.
-const QUERY: [u8; 34] = [
+/// A QUERY for http://a/ with request number 1.
+pub(crate) const QUERY: [u8; 34] = [
     1, 2, 0, 34, 0, 0, 0, 1, 0, 0, 0, 0, 0, 0, 0, 0, 0, 0, 0, 0, 0, 0, 0, 0, 104, 116, 116, 112,
     58, 47, 47, 97, 47, 0,
 ];
@@ -64,35 +64,44 @@ const ROWS: [Row; 4] = [
 ];
 
 // Whether a message is encoded as these octets.
-fn is_written(alloc: Global, view: &IcpView<'_>, octets: &[u8]) -> Result<bool, Fail>
+fn is_written<R: Abort>(rt: &R, alloc: Global, view: &IcpView<'_>, octets: &[u8]) -> bool
     requires { FitsOpcode view.now.op (shown_body view.now.body) }
 {
-    let again = encode(alloc, view).ok().ok_or("octets")?;
-    Ok(again.as_slice() == octets)
+    let again = encode(alloc, view).ok().expect(rt, "octets");
+    let is_same = again.as_slice() == octets;
+    drop(again);
+    is_same
 }
 
 // The message of these octets.
-fn read(octets: &[u8]) -> Result<IcpView<'_>, Fail>
-    ensures { IfOk result (λ view. FitsOpcode view.op (shown_body view.body)) }
+fn read<'a, R: Abort>(rt: &R, octets: &'a [u8]) -> IcpView<'a>
+    ensures { FitsOpcode result.op (shown_body result.body) }
 {
-    Ok(decode(octets).ok().ok_or("a message")?)
+    decode(octets).ok().expect(rt, "a message")
 }
 
-// Octets decode to what the row says, and are encoded as the same octets.
+// Octets decode to what the row says, without options, and are encoded as the same octets.
 struct IsRead;
 
 impl Question<Row> for IsRead {
-    fn holds(&self, alloc: Global, row: &Row) -> Result<bool, Fail> {
+    fn holds<R: Abort>(&self, rt: &R, alloc: Global, row: &Row) -> bool {
         let (octets, op, sender, body) = *row;
-        let view = read(octets)?;
-        let is_same = (view.op, view.number, view.sender) == (op, 1, sender) && view.body == body;
-        Ok(is_same && is_written(alloc, &view, octets)?)
+        let wanted = IcpView {
+            op,
+            number: 1,
+            options: 0,
+            option_data: 0,
+            sender,
+            body,
+        };
+        let view = read(rt, octets);
+        view == wanted && is_written(rt, alloc, &view, octets)
     }
 }
 
 #[test]
-fn messages_are_read_and_written_again(rt: HostRuntime) -> Result<(), Fail> {
-    all_hold(rt.alloc(), &ROWS, &IsRead)
+fn messages_are_read_and_written_again(rt: HostRuntime) {
+    all_hold(&rt, rt.alloc(), &ROWS, &IsRead);
 }
 
 // Each opcode with its number, and a payload that may follow its header.
@@ -113,93 +122,101 @@ const EACH_OPCODE: [Coded; 11] = [
 ];
 
 // A message with this opcode and payload, request number 258, options and option data, from 10.0.0.9.
-fn message(alloc: Global, code: u8, payload: &[u8]) -> Result<Vec<u8>, Fail> {
+fn message<R: Abort>(rt: &R, alloc: Global, code: u8, payload: &[u8]) -> Vec<u8> {
     let length = payload.len().saturating_add(20);
-    let length = u8::try_from(length).map_err(|_| "a long payload")?;
-    let mut octets = Vec::new(alloc);
-    octets.extend_from_slice(&[code, 2, 0, length])?;
-    octets.extend_from_slice(&[0, 0, 1, 2, 0x80, 0, 0, 3, 0, 4, 0, 5, 10, 0, 0, 9])?;
-    octets.extend_from_slice(payload)?;
-    Ok(octets)
+    let length = u8::try_from(length).ok().expect(rt, "a long payload");
+    let header = [
+        code, 2, 0, length, 0, 0, 1, 2, 0x80, 0, 0, 3, 0, 4, 0, 5, 10, 0, 0, 9,
+    ];
+    let mut message = octets(rt, alloc, &header);
+    message.extend_from_slice(payload).expect(rt, NO_MEMORY);
+    message
+}
+
+// Whether octets decode to a message with this opcode and the other fields of that header, and are encoded as the same octets.
+fn has_header<R: Abort>(rt: &R, alloc: Global, octets: &[u8], op: Opcode) -> bool {
+    let view = read(rt, octets);
+    let wanted = IcpView {
+        op,
+        number: 258,
+        options: 0x8000_0003,
+        option_data: 0x0004_0005,
+        sender: [10, 0, 0, 9],
+        body: view.body,
+    };
+    view == wanted && is_written(rt, alloc, &view, octets)
 }
 
 // Such a message decodes with each field of its header, and is encoded as the same octets.
 struct HasItsHeader;
 
 impl Question<Coded> for HasItsHeader {
-    fn holds(&self, alloc: Global, row: &Coded) -> Result<bool, Fail> {
-        let (code, op, payload) = *row;
-        let octets = message(alloc, code, payload)?;
-        let view = read(&octets)?;
-        let is_first = (view.op, view.number, view.options) == (op, 258, 0x8000_0003);
-        let is_second = (view.option_data, view.sender) == (0x0004_0005, [10, 0, 0, 9]);
-        Ok(is_first && is_second && is_written(alloc, &view, &octets)?)
+    fn holds<R: Abort>(&self, rt: &R, alloc: Global, row: &Coded) -> bool {
+        let octets = message(rt, alloc, row.0, row.2);
+        let has_header = has_header(rt, alloc, &octets, row.1);
+        drop(octets);
+        has_header
     }
 }
 
 #[test]
-fn each_opcode_is_read_and_written(rt: HostRuntime) -> Result<(), Fail> {
-    all_hold(rt.alloc(), &EACH_OPCODE, &HasItsHeader)
+fn each_opcode_is_read_and_written(rt: HostRuntime) {
+    all_hold(&rt, rt.alloc(), &EACH_OPCODE, &HasItsHeader);
 }
 
-// The index and the new value of an octet of the QUERY, and the fault of the result.
-type Faulty = (usize, u8, IcpFault);
+// A message, the index and the new value of one of its octets, and the fault of the result.
+type Faulty = (&'static [u8; 34], usize, u8, IcpFault);
 
-const FAULTS: [Faulty; 6] = [
-    (0, 0, IcpFault::Opcode),
-    (0, 24, IcpFault::Opcode),
-    (1, 3, IcpFault::Version),
-    (3, 33, IcpFault::Length),
-    (28, 0, IcpFault::Url),
-    (33, 47, IcpFault::Url),
+const FAULTS: [Faulty; 9] = [
+    (&QUERY, 0, 0, IcpFault::Opcode),
+    (&QUERY, 0, 24, IcpFault::Opcode),
+    (&QUERY, 1, 3, IcpFault::Version),
+    (&QUERY, 3, 33, IcpFault::Length),
+    (&QUERY, 28, 0, IcpFault::Url),
+    (&QUERY, 33, 47, IcpFault::Url),
+    // sizes of the object that are not its own
+    (&HIT_OBJECT, 31, 0, IcpFault::Object),
+    (&HIT_OBJECT, 31, 1, IcpFault::Object),
+    (&HIT_OBJECT, 31, 3, IcpFault::Object),
 ];
 
+// The fault of octets that are no message.
+fn fault_of(octets: &[u8]) -> Option<IcpFault> {
+    decode(octets).err()
+}
+
 // The fault of a message with another octet at index `place`.
-fn fault_with<const N: usize>(message: [u8; N], place: usize, octet: u8) -> Option<IcpFault> {
+fn fault_with(message: [u8; 34], place: usize, octet: u8) -> Option<IcpFault> {
     let mut octets = message;
     if let Some(one) = octets.get_mut(place) {
         *one = octet;
     }
-    decode(&octets).err()
+    fault_of(&octets)
 }
 
-// The QUERY with the octet of a row has its fault.
+// The message of a row has its fault with the row's octet.
 struct IsFaulty;
 
 impl Question<Faulty> for IsFaulty {
-    fn holds(&self, _alloc: Global, row: &Faulty) -> Result<bool, Fail> {
-        Ok(fault_with(QUERY, row.0, row.1) == Some(row.2))
-    }
-}
-
-// Sizes of the object that are not its own.
-const WRONG_SIZES: [u8; 3] = [0, 1, 3];
-
-// The HIT_OBJ with the size of a row has a fault in its object.
-struct IsWrongSize;
-
-impl Question<u8> for IsWrongSize {
-    fn holds(&self, _alloc: Global, row: &u8) -> Result<bool, Fail> {
-        Ok(fault_with(HIT_OBJECT, 31, *row) == Some(IcpFault::Object))
+    fn holds<R: Abort>(&self, _rt: &R, _alloc: Global, row: &Faulty) -> bool {
+        fault_with(*row.0, row.1, row.2) == Some(row.3)
     }
 }
 
 #[test]
-fn faults(rt: HostRuntime) -> Result<(), Fail> {
-    all_hold(rt.alloc(), &FAULTS, &IsFaulty)?;
-    all_hold(rt.alloc(), &WRONG_SIZES, &IsWrongSize)
+fn faults(rt: HostRuntime) {
+    all_hold(&rt, rt.alloc(), &FAULTS, &IsFaulty);
 }
 
 // Whether a QUERY truncated to each length has the fault of that length, with its length in the header as it was, and set to it.
 fn are_faulty() -> bool {
     let mut octets = QUERY;
     for len in 0..34 {
-        let short = (len < 20).then_some(IcpFault::Short);
-        if decode(&QUERY[..len]).err() != short.or(Some(IcpFault::Length)) {
-            return false;
-        }
         octets[3] = len as u8;
-        if decode(&octets[..len]).err() != short.or(Some(IcpFault::Url)) {
+        let short = (len < 20).then_some(IcpFault::Short);
+        if fault_of(&QUERY[..len]) != short.or(Some(IcpFault::Length))
+            || fault_of(&octets[..len]) != short.or(Some(IcpFault::Url))
+        {
             return false;
         }
     }
@@ -215,33 +232,34 @@ fn cut_short(rt: HostRuntime) {
 fn one_octet_too_many(rt: HostRuntime) {
     let mut longer = [0; 35];
     longer[..34].copy_from_slice(&QUERY);
-    assert!(rt; decode(&longer).err() == Some(IcpFault::Length));
+    assert!(rt; fault_of(&longer) == Some(IcpFault::Length));
 }
 
 // The length of an encoded QUERY for a URL of this many octets.
-fn length_for(alloc: Global, octets: usize) -> Result<Result<usize, EncodeFault>, Fail> {
-    let url = vec![in alloc; 97u8; octets]?;
-    let view = query_for(&url).ok_or("a text")?;
-    match encode(alloc, &view) {
-        Ok(message) => Ok(Ok(message.len())),
-        Err(fault) => Ok(Err(fault)),
-    }
+fn length_for<R: Abort>(rt: &R, alloc: Global, octets: usize) -> Result<usize, EncodeFault> {
+    let url = repeated(rt, alloc, 97, octets);
+    let encoded = encode(alloc, &query_for(rt, &url));
+    let length = match &encoded {
+        Ok(message) => Ok(message.len()),
+        Err(fault) => Err(*fault),
+    };
+    drop(encoded);
+    drop(url);
+    length
 }
 
 #[test]
-fn longest_message(rt: HostRuntime) -> Result<(), Fail> {
-    assert!(rt; length_for(rt.alloc(), 16_359)? == Ok(16_384));
-    assert!(rt; length_for(rt.alloc(), 16_360)? == Err(EncodeFault::TooLong));
-    Ok(())
+fn longest_message(rt: HostRuntime) {
+    assert!(rt; length_for(&rt, rt.alloc(), 16_359) == Ok(16_384));
+    assert!(rt; length_for(&rt, rt.alloc(), 16_360) == Err(EncodeFault::TooLong));
 }
 
-fn query_for(url: &[u8]) -> Option<IcpView<'_>>
-    ensures { IfSome result (λ view. FitsOpcode view.op (shown_body view.body)) }
+// A QUERY for a URL.
+fn query_for<'a, R: Abort>(rt: &R, url: &'a [u8]) -> IcpView<'a>
+    ensures { FitsOpcode result.op (shown_body result.body) }
 {
-    if url.iter().any(|octet| *octet == 0) {
-        return None;
-    }
-    Some(IcpView {
+    assert!(*rt; !url.contains(&0), "a text");
+    IcpView {
         op: Opcode::Query,
         number: 1,
         options: 0,
@@ -251,5 +269,5 @@ fn query_for(url: &[u8]) -> Option<IcpView<'_>>
             requester: [0; 4],
             url,
         },
-    })
+    }
 }

@@ -10,6 +10,8 @@ mod htcp;
 #[cfg(test)]
 mod icp;
 #[cfg(test)]
+mod made;
+#[cfg(test)]
 mod programs;
 #[cfg(test)]
 mod rounds;

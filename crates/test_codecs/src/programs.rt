@@ -1,12 +1,15 @@
 //! Verdicts of programs on the packets of two datagrams, and programs that the checker refuses.
 
+use crate::icp::QUERY;
+use crate::made::add;
 use crate::rows::{Question, all_hold};
 use bpf_check::{CheckFault, Checked, Insn, check};
 use bpf_run::{End, Packet, Verdict, judge};
 use std::alloc::Global;
-use std::test::Fail;
+use std::process::Abort;
 
-const FROM: End = End {
+/// Where the datagrams come from.
+pub(crate) const FROM: End = End {
     addr: [10, 0, 0, 9],
     port: 3130,
 };
@@ -16,64 +19,61 @@ const TO: End = End {
     port: 3131,
 };
 
-// An ICP QUERY of 34 octets for `http://a/`.
-const QUERY: [u8; 34] = [
-    1, 2, 0, 34, 0, 0, 0, 1, 0, 0, 0, 0, 0, 0, 0, 0, 0, 0, 0, 0, 0, 0, 0, 0, 104, 116, 116, 112,
-    58, 47, 47, 97, 47, 0,
-];
-
 // An ICP MISS of 30 octets for `http://a/`, from 10.0.0.9.
 const MISS: [u8; 30] = [
     3, 2, 0, 30, 0, 0, 0, 1, 0, 0, 0, 0, 0, 0, 0, 0, 10, 0, 0, 9, 104, 116, 116, 112, 58, 47, 47,
     97, 47, 0,
 ];
 
-// The instructions of a program: code, `jt`, `jf` and `k` of each. (0x16, 0, 0, 0) is `ret a`.
-pub(crate) type Listing = &'static [(u16, u8, u8, u32)];
+/// An instruction: code, `jt`, `jf` and `k`. (0x16, 0, 0, 0) is `ret a`.
+pub(crate) type Line = (u16, u8, u8, u32);
 
-// The instructions of a listing.
-pub(crate) fn insns_of(alloc: Global, listing: Listing) -> Result<Vec<Insn>, Fail> {
+/// The instructions of a program.
+pub(crate) type Listing = &'static [Line];
+
+/// The instructions of a listing.
+pub(crate) fn insns_of<R: Abort>(rt: &R, alloc: Global, lines: &[Line]) -> Vec<Insn> {
     let mut insns = Vec::new(alloc);
-    for (code, jt, jf, k) in listing {
-        insns.push(Insn {
+    for (code, jt, jf, k) in lines {
+        let insn = Insn {
             code: *code,
             jt: *jt,
             jf: *jf,
             k: *k,
-        })?;
+        };
+        add(rt, &mut insns, insn);
     }
-    Ok(insns)
+    insns
+}
+
+/// A program that the checker accepts.
+pub(crate) fn program_of<R: Abort>(rt: &R, insns: Vec<Insn>) -> Checked {
+    check(insns).ok().expect(rt, "refused")
 }
 
 // The result of a program on a payload: the value and the number of steps.
-fn verdict(insns: Vec<Insn>, payload: &[u8]) -> Result<(u32, u16), Fail> {
-    let program = program_of(insns)?;
-    let verdict = verdict_of(&program, payload);
+fn verdict<R: Abort>(rt: &R, insns: Vec<Insn>, payload: &[u8]) -> (u32, u16) {
+    let program = program_of(rt, insns);
+    let packet = Packet::new(FROM, TO, payload).expect(rt, "too long");
+    let Verdict { value, steps } = judge(&program, &packet);
+    drop(packet);
     drop(program);
-    verdict
-}
-
-// A program that the checker accepts.
-pub(crate) fn program_of(insns: Vec<Insn>) -> Result<Checked, Fail> {
-    Ok(check(insns).ok().ok_or("refused")?)
-}
-
-// The result of a checked program on a payload.
-fn verdict_of(program: &Checked, payload: &[u8]) -> Result<(u32, u16), Fail> {
-    let packet = Packet::new(FROM, TO, payload).ok_or("too long")?;
-    let Verdict { value, steps } = judge(program, &packet);
-    Ok((value, steps))
+    (value, steps)
 }
 
 // The fault that the checker finds in a program.
 fn fault(insns: Vec<Insn>) -> Option<CheckFault> {
-    let (fault, insns) = check(insns).err()?;
-    drop(insns);
-    Some(fault)
+    let checked = check(insns);
+    let fault = match &checked {
+        Ok(_) => None,
+        Err((fault, _)) => Some(*fault),
+    };
+    drop(checked);
+    fault
 }
 
-// Accepts ICP queries: `ldb [28]`, `jeq #1`, `ret #65535`, `ret #0`.
-const QUERIES: Listing = &[
+/// Accepts ICP queries: `ldb [28]`, `jeq #1`, `ret #65535`, `ret #0`.
+pub(crate) const QUERIES: Listing = &[
     (48, 0, 0, 28),
     (21, 0, 1, 1),
     (6, 0, 0, 65_535),
@@ -82,6 +82,7 @@ const QUERIES: Listing = &[
 
 // Each program with its value and number of steps on the QUERY.
 const PROGRAMS: &[(Listing, (u32, u16))] = &[
+    (QUERIES, (65_535, 3)),
     // ldb [61], the last octet; ldh [61], where one octet is outside
     (&[(0x30, 0, 0, 61), (0x16, 0, 0, 0)], (0, 2)),
     (&[(0x28, 0, 0, 61), (0x16, 0, 0, 0)], (0, 1)),
@@ -132,16 +133,16 @@ const PROGRAMS: &[(Listing, (u32, u16))] = &[
 struct Judges;
 
 impl Question<(Listing, (u32, u16))> for Judges {
-    fn holds(&self, alloc: Global, row: &(Listing, (u32, u16))) -> Result<bool, Fail> {
-        Ok(verdict(insns_of(alloc, row.0)?, &QUERY)? == row.1)
+    fn holds<R: Abort>(&self, rt: &R, alloc: Global, row: &(Listing, (u32, u16))) -> bool {
+        verdict(rt, insns_of(rt, alloc, row.0), &QUERY) == row.1
     }
 }
 
 #[test]
-fn verdicts(rt: HostRuntime) -> Result<(), Fail> {
-    assert!(rt; verdict(insns_of(rt.alloc(), QUERIES)?, &QUERY)? == (65_535, 3));
-    assert!(rt; verdict(insns_of(rt.alloc(), QUERIES)?, &MISS)? == (0, 3));
-    all_hold(rt.alloc(), PROGRAMS, &Judges)
+fn verdicts(rt: HostRuntime) {
+    all_hold(&rt, rt.alloc(), PROGRAMS, &Judges);
+    let insns = insns_of(&rt, rt.alloc(), QUERIES);
+    assert!(rt; verdict(&rt, insns, &MISS) == (0, 3));
 }
 
 const REFUSED: &[(Listing, CheckFault)] = &[
@@ -173,14 +174,14 @@ const REFUSED: &[(Listing, CheckFault)] = &[
 struct Refuses;
 
 impl Question<(Listing, CheckFault)> for Refuses {
-    fn holds(&self, alloc: Global, row: &(Listing, CheckFault)) -> Result<bool, Fail> {
-        Ok(fault(insns_of(alloc, row.0)?) == Some(row.1))
+    fn holds<R: Abort>(&self, rt: &R, alloc: Global, row: &(Listing, CheckFault)) -> bool {
+        fault(insns_of(rt, alloc, row.0)) == Some(row.1)
     }
 }
 
 #[test]
-fn refusals(rt: HostRuntime) -> Result<(), Fail> {
-    all_hold(rt.alloc(), REFUSED, &Refuses)
+fn refusals(rt: HostRuntime) {
+    all_hold(&rt, rt.alloc(), REFUSED, &Refuses);
 }
 
 // `ld #0`.
@@ -200,13 +201,13 @@ const RETURN: Insn = Insn {
 };
 
 // `count` instructions: loads of a constant, and `ret #1` at the end.
-fn of_length(alloc: Global, count: usize) -> Result<Vec<Insn>, Fail> {
+fn of_length<R: Abort>(rt: &R, alloc: Global, count: usize) -> Vec<Insn> {
     let mut insns = Vec::new(alloc);
     for _ in 1..count {
-        insns.push(LOAD)?;
+        add(rt, &mut insns, LOAD);
     }
-    insns.push(RETURN)?;
-    Ok(insns)
+    add(rt, &mut insns, RETURN);
+    insns
 }
 
 const LENGTHS: [(usize, Option<CheckFault>); 4] = [
@@ -220,14 +221,14 @@ const LENGTHS: [(usize, Option<CheckFault>); 4] = [
 struct OfLength;
 
 impl Question<(usize, Option<CheckFault>)> for OfLength {
-    fn holds(&self, alloc: Global, row: &(usize, Option<CheckFault>)) -> Result<bool, Fail> {
-        Ok(fault(of_length(alloc, row.0)?) == row.1)
+    fn holds<R: Abort>(&self, rt: &R, alloc: Global, row: &(usize, Option<CheckFault>)) -> bool {
+        fault(of_length(rt, alloc, row.0)) == row.1
     }
 }
 
 #[test]
-fn lengths(rt: HostRuntime) -> Result<(), Fail> {
-    all_hold(rt.alloc(), &LENGTHS, &OfLength)?;
-    assert!(rt; verdict(of_length(rt.alloc(), 4096)?, &QUERY)? == (1, 4096));
-    Ok(())
+fn lengths(rt: HostRuntime) {
+    all_hold(&rt, rt.alloc(), &LENGTHS, &OfLength);
+    let insns = of_length(&rt, rt.alloc(), 4096);
+    assert!(rt; verdict(&rt, insns, &QUERY) == (1, 4096));
 }

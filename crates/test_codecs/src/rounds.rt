@@ -3,35 +3,22 @@
 ghost use Rattle.std.specs.Prelude.{◌≡◌, true};
 ghost use Rattle.peer_select.specs.Poll.{matches};
 
+use crate::made::add;
 use crate::rows::{Question, all_hold};
-use neighbours::{End, Moment, Neighbour, Role, Socket, Table};
+use crate::table::{end_of, neighbour_at, parent, table_of};
+use neighbours::{Moment, Role, Socket, Table};
 use peer_select::{Kind, Round, Source};
-use std::alloc::{AllocError, Global};
-use std::test::Fail;
-
-fn neighbour(kind: Role, last: u8, weight: u32) -> Neighbour {
-    Neighbour {
-        kind,
-        protocol: Socket::Icp,
-        end: End {
-            addr: [10, 0, 0, last],
-            port: 3130,
-        },
-        http_port: 3128,
-        weight,
-        key: None,
-    }
-}
+use std::alloc::Global;
+use std::process::Abort;
 
 // Two parents of weight 1 and 2, and a sibling of weight 1.
-fn table(alloc: Global) -> Result<Table, AllocError> {
+fn table<R: Abort>(rt: &R, alloc: Global) -> Table {
+    let sibling = neighbour_at(Role::Sibling, Socket::Icp, end_of(4, 3130), 1, None);
     let mut list = Vec::new(alloc);
-    list.push(neighbour(Role::Parent, 2, 1))?;
-    list.push(neighbour(Role::Parent, 3, 2))?;
-    list.push(neighbour(Role::Sibling, 4, 1))?;
-    Table::new(alloc, list, Vec::new(alloc))
-        .ok()
-        .ok_or(AllocError)
+    add(rt, &mut list, parent(2, 1, None));
+    add(rt, &mut list, parent(3, 2, None));
+    add(rt, &mut list, sibling);
+    table_of(rt, alloc, list, Vec::new(alloc))
 }
 
 // Peer n replies after 40, 70 or 100 ms, given in eighths of a millisecond.
@@ -67,12 +54,14 @@ fn sources(
     answer(&mut round, table, first, kinds);
     answer(&mut round, table, second, kinds);
     answer(&mut round, table, third, kinds);
-    [
+    let sources = [
         name(round.source(table, 0, origin)),
         name(round.source(table, 1, origin)),
         name(round.source(table, 2, origin)),
         name(round.source(table, 3, origin)),
-    ]
+    ];
+    drop(round);
+    sources
 }
 
 const ORDERS: [[usize; 3]; 6] = [
@@ -120,36 +109,37 @@ const REPLIES: [Replies; 3] = [
     ),
 ];
 
-// The sources of a round are those of a row, for each order of its replies.
-#[derive(Drop)]
-struct ChosenFrom<'a> {
-    table: &'a Table,
+// Whether the sources of a round are these, for each order of its replies.
+fn are_chosen(
+    table: &Table,
     now: Moment,
-}
-
-impl ChosenFrom<'_> {
-    // Whether they are these, for each order.
-    fn are(&self, kinds: [Kind; 3], origin: bool, wanted: &[[usize; 4]; 6]) -> bool {
-        for i in 0..6 {
-            if sources(self.table, self.now, ORDERS[i], kinds, origin) != wanted[i] {
-                return false;
-            }
+    kinds: [Kind; 3],
+    origin: bool,
+    wanted: &[[usize; 4]; 6],
+) -> bool {
+    for i in 0..6 {
+        if sources(table, now, ORDERS[i], kinds, origin) != wanted[i] {
+            return false;
         }
-        true
     }
+    true
 }
 
-impl Question<Replies> for ChosenFrom<'_> {
-    fn holds(&self, _alloc: Global, row: &Replies) -> Result<bool, Fail> {
-        Ok(self.are(row.0, true, &row.1) && self.are(row.0, false, &row.2))
+// They are those of a row, with the origin and without it.
+struct AreChosen;
+
+impl Question<Replies> for AreChosen {
+    fn holds<R: Abort>(&self, rt: &R, alloc: Global, row: &Replies) -> bool {
+        let now = Moment::new(1000).expect(rt, "a moment");
+        let table = table(rt, alloc);
+        let are_chosen = are_chosen(&table, now, row.0, true, &row.1)
+            && are_chosen(&table, now, row.0, false, &row.2);
+        drop(table);
+        are_chosen
     }
 }
 
 #[test]
-fn sources_in_every_order(rt: HostRuntime) -> Result<(), Fail> {
-    let now = Moment::new(1000).ok_or("a moment")?;
-    let table = table(rt.alloc())?;
-    let told = all_hold(rt.alloc(), &REPLIES, &ChosenFrom { table: &table, now });
-    drop(table);
-    told
+fn sources_in_every_order(rt: HostRuntime) {
+    all_hold(&rt, rt.alloc(), &REPLIES, &AreChosen);
 }

@@ -1,37 +1,26 @@
-//! Tables of cases. One loop is proved for all of them, so that a test has neither a loop nor assertions of its own: each of these lays
-//! out once more how what the test holds is dropped (docs/GATE.md).
+//! Tables of cases. One loop is proved for all of them, so that a test has neither a loop nor assertions of its own: each of these
+//! lays out once more how what the test holds is dropped (docs/GATE.md). What a question needs for a row it makes, lends, and drops
+//! by a call.
 
 use std::alloc::Global;
-use std::test::Fail;
+use std::process::Abort;
 
 /// What is asked for each row of a table.
-pub(crate) trait Question<R> {
+pub(crate) trait Question<T> {
     /// Whether the answer is the one that the row has.
-    fn holds(&self, alloc: Global, row: &R) -> Result<bool, Fail>;
+    fn holds<R: Abort>(&self, rt: &R, alloc: Global, row: &T) -> bool;
 }
 
-// The place of the first row that does not hold.
-fn first_wrong<R, Q: Question<R>>(
+/// Ends the test with the place of the first row that does not hold, counted from 0.
+pub(crate) fn all_hold<R: Abort, T, Q: Question<T>>(
+    rt: &R,
     alloc: Global,
-    rows: &[R],
+    rows: &[T],
     question: &Q,
-) -> Result<Option<usize>, Fail> {
+) {
     for (place, row) in rows.iter().enumerate() {
-        if !question.holds(alloc, row)? {
-            return Ok(Some(place));
+        if !question.holds(rt, alloc, row) {
+            panic!(*rt; "row {place} does not hold");
         }
-    }
-    Ok(None)
-}
-
-/// Fails with the place of the first row that does not hold, counted from 0.
-pub(crate) fn all_hold<R, Q: Question<R>>(
-    alloc: Global,
-    rows: &[R],
-    question: &Q,
-) -> Result<(), Fail> {
-    match first_wrong(alloc, rows, question)? {
-        Some(place) => Err(Fail::new(format_args!("row {place} does not hold"))),
-        None => Ok(()),
     }
 }

@@ -1,17 +1,13 @@
 //! Filter slots: verdicts on one datagram under each program, and slots that are filled, shared and cleared.
 
-use crate::programs::{Listing, insns_of, program_of};
+use crate::icp::QUERY;
+use crate::made::{NO_MEMORY, add, octets, repeated, shared};
+use crate::programs::{FROM, Line, Listing, QUERIES, insns_of, program_of};
 use crate::rows::{Question, all_hold};
-use bpf_check::Insn;
 use filter_slots::{Checked, Datagram, End, Judged, NoSlot, Slot, Slots, Socket, Verdict, cut};
 use std::alloc::Global;
+use std::process::Abort;
 use std::sync::Arc;
-use std::test::Fail;
-
-const FROM: End = End {
-    addr: [10, 0, 0, 9],
-    port: 3130,
-};
 
 const TO: End = End {
     addr: [192, 0, 2, 1],
@@ -21,66 +17,96 @@ const TO: End = End {
 // The slot of the ICP socket.
 const ICP: Slot = Slot::Socket(Socket::Icp);
 
-// An ICP QUERY of 34 octets for `http://a/`.
-const QUERY: [u8; 34] = [
-    1, 2, 0, 34, 0, 0, 0, 1, 0, 0, 0, 0, 0, 0, 0, 0, 0, 0, 0, 0, 0, 0, 0, 0, 104, 116, 116, 112,
-    58, 47, 47, 97, 47, 0,
-];
+// The slot of the first neighbour.
+const FIRST: Slot = Slot::Neighbour(0);
+
+// The verdict of an empty slot.
+const WHOLE: u32 = 4_294_967_295;
 
 // The program with these instructions.
-fn program(alloc: Global, listing: Listing) -> Result<Arc<Checked>, Fail> {
-    Ok(Arc::new(alloc, program_of(insns_of(alloc, listing)?)?)?)
+fn program<R: Abort>(rt: &R, alloc: Global, lines: &[Line]) -> Arc<Checked> {
+    let program = program_of(rt, insns_of(rt, alloc, lines));
+    shared(rt, alloc, program)
 }
 
-// The program `ret #k`.
-fn limit(alloc: Global, k: u32) -> Result<Arc<Checked>, Fail> {
-    let insns = [Insn {
-        code: 6,
-        jt: 0,
-        jf: 0,
-        k,
-    }];
-    Ok(Arc::new(alloc, program_of(insns.to_vec(alloc)?)?)?)
+// The program with these instructions, if there are any.
+fn program_if<R: Abort>(rt: &R, alloc: Global, lines: &[Line]) -> Option<Arc<Checked>> {
+    if lines.is_empty() {
+        None
+    } else {
+        Some(program(rt, alloc, lines))
+    }
 }
 
-// Installs a program, and lets go of the one that was replaced.
-fn put(slots: &mut Slots, slot: Slot, program: Arc<Checked>) -> Result<(), Fail> {
-    drop(slots.install(slot, program)?);
-    Ok(())
+// The program `ret #k`, if there is a limit.
+fn limit_if<R: Abort>(rt: &R, alloc: Global, limit: Option<u32>) -> Option<Arc<Checked>> {
+    match limit {
+        None => None,
+        Some(k) => Some(program(rt, alloc, &[(6, 0, 0, k)])),
+    }
+}
+
+// Installs a program, or clears the slot. Returns the limit of the program that was there.
+fn put<R: Abort>(
+    rt: &R,
+    slots: &mut Slots,
+    slot: Slot,
+    program: Option<Arc<Checked>>,
+) -> Option<u32> {
+    let told = match program {
+        None => slots.clear(slot),
+        Some(program) => slots.install(slot, program),
+    };
+    let before = told.ok().expect(rt, "a slot");
+    let limit = match &before {
+        None => None,
+        Some(program) => Some(program.insns()[0].k),
+    };
+    drop(before);
+    limit
+}
+
+// The same with the program of a limit.
+fn put_limit<R: Abort>(
+    rt: &R,
+    alloc: Global,
+    slots: &mut Slots,
+    slot: Slot,
+    limit: Option<u32>,
+) -> Option<u32> {
+    put(rt, slots, slot, limit_if(rt, alloc, limit))
 }
 
 // A datagram received on this socket from this endpoint.
-fn datagram(alloc: Global, socket: Socket, from: End, octets: &[u8]) -> Result<Datagram, Fail> {
-    let payload = octets.to_vec(alloc)?;
-    Ok(
-        Datagram::new(socket, from, TO, payload)
-            .ok()
-            .ok_or("too long")?,
-    )
+fn datagram<R: Abort>(rt: &R, socket: Socket, from: End, payload: Vec<u8>) -> Datagram {
+    Datagram::new(socket, from, TO, payload)
+        .ok()
+        .expect(rt, "too long")
 }
 
-// The QUERY, received on this socket.
-fn query(alloc: Global, socket: Socket) -> Result<Datagram, Fail> {
-    datagram(alloc, socket, FROM, &QUERY)
+// The QUERY, received on the ICP socket.
+fn query<R: Abort>(rt: &R, alloc: Global) -> Datagram {
+    datagram(rt, Socket::Icp, FROM, octets(rt, alloc, &QUERY))
 }
 
 // The verdict on a datagram received on this socket from this endpoint.
-fn forced(
+fn forced<R: Abort>(
+    rt: &R,
     alloc: Global,
     slots: &Slots,
     socket: Socket,
     from: End,
-    octets: &[u8],
-) -> Result<Verdict, Fail> {
-    let datagram = datagram(alloc, socket, from, octets)?;
+    payload: &[u8],
+) -> Verdict {
+    let datagram = datagram(rt, socket, from, octets(rt, alloc, payload));
     let forced = slots.force(&datagram);
     drop(datagram);
-    Ok(forced)
+    forced
 }
 
 // Slots for the sockets, without neighbours.
-fn sockets() -> Result<Slots, Fail> {
-    Ok(Slots::new(&[]).ok_or("slots")?)
+fn sockets<R: Abort>(rt: &R) -> Slots {
+    Slots::new(&[]).expect(rt, "slots")
 }
 
 // Limits, and how many octets of the payload of the QUERY they leave.
@@ -94,99 +120,78 @@ const LIMITS: [(u32, usize); 7] = [
     (65_535, 34),
 ];
 
-// Whether a limit that is installed in the ICP slot is the verdict, and leaves this many octets.
-fn leaves(
-    alloc: Global,
-    slots: &mut Slots,
-    datagram: &Datagram,
-    k: u32,
-    left: usize,
-) -> Result<bool, Fail> {
-    put(slots, ICP, limit(alloc, k)?)?;
+// Whether a limit that is in force is the verdict, and leaves this many octets.
+fn leaves(slots: &Slots, datagram: &Datagram, k: u32, left: usize) -> bool {
     let forced = slots.force(datagram);
     let kept = cut(datagram, forced.value);
     let is_front = kept.len() == left && QUERY.as_slice().starts_with(kept);
-    Ok(forced == Verdict { value: k, steps: 1 } && is_front)
+    is_front && forced == Verdict { value: k, steps: 1 }
 }
 
-// Whether this holds of all limits, one after another.
-fn all_leave(alloc: Global, slots: &mut Slots, datagram: &Datagram) -> Result<bool, Fail> {
+// Whether this holds of all limits, installed in the ICP slot one after another.
+fn all_leave<R: Abort>(rt: &R, alloc: Global, slots: &mut Slots, datagram: &Datagram) -> bool {
     for (k, left) in &LIMITS {
-        if !leaves(alloc, slots, datagram, *k, *left)? {
-            return Ok(false);
+        put_limit(rt, alloc, slots, ICP, Some(*k));
+        if !leaves(slots, datagram, *k, *left) {
+            return false;
         }
     }
-    Ok(true)
+    true
 }
 
 // Whether an empty slot leaves the QUERY whole.
 fn is_left_whole(slots: &Slots, datagram: &Datagram) -> bool {
     let empty = slots.force(datagram);
-    (empty.value, empty.steps) == (4_294_967_295, 0)
-        && cut(datagram, empty.value) == QUERY.as_slice()
-}
-
-// Whether both hold of new slots.
-fn are_cut(alloc: Global, datagram: &Datagram) -> Result<bool, Fail> {
-    let mut slots = sockets()?;
-    let is_whole = is_left_whole(&slots, datagram);
-    let all_leave = all_leave(alloc, &mut slots, datagram);
-    drop(slots);
-    Ok(all_leave? && is_whole)
+    (empty.value, empty.steps) == (WHOLE, 0) && cut(datagram, empty.value) == QUERY.as_slice()
 }
 
 #[test]
-fn verdicts_and_cuts(rt: HostRuntime) -> Result<(), Fail> {
-    let datagram = query(rt.alloc(), Socket::Icp)?;
-    let are_cut = are_cut(rt.alloc(), &datagram);
+fn verdicts_and_cuts(rt: HostRuntime) {
+    let datagram = query(&rt, rt.alloc());
+    let mut slots = sockets(&rt);
+    let is_whole = is_left_whole(&slots, &datagram);
+    let all_leave = all_leave(&rt, rt.alloc(), &mut slots, &datagram);
+    drop(slots);
     drop(datagram);
-    assert!(rt; are_cut?);
-    Ok(())
+    assert!(rt; all_leave && is_whole);
 }
 
-// Installs a limit in the ICP slot, and returns the limit that was replaced.
-fn limit_before(alloc: Global, slots: &mut Slots, k: u32) -> Result<Option<u32>, Fail> {
-    Ok(limit_of(slots.install(ICP, limit(alloc, k)?)?))
+// The verdicts on the QUERY by the ICP socket and the HTCP socket.
+fn verdicts<R: Abort>(rt: &R, alloc: Global, slots: &Slots) -> (u32, u32) {
+    let icp = forced(rt, alloc, slots, Socket::Icp, FROM, &QUERY);
+    let htcp = forced(rt, alloc, slots, Socket::Htcp, FROM, &QUERY);
+    (icp.value, htcp.value)
 }
 
 // Whether the ICP slot returns the limit 40 when 0 is installed, returns 0 when it is cleared, and is empty then.
-fn is_emptied(alloc: Global, slots: &mut Slots) -> Result<bool, Fail> {
-    let first = limit_before(alloc, slots, 0)?;
-    let second = limit_of(slots.clear(ICP)?);
-    Ok((first, second) == (Some(40), Some(0)) && slots.installed(ICP).is_none())
+fn is_emptied<R: Abort>(rt: &R, alloc: Global, slots: &mut Slots) -> bool {
+    let first = put_limit(rt, alloc, slots, ICP, Some(0));
+    let second = put_limit(rt, alloc, slots, ICP, None);
+    (first, second) == (Some(40), Some(0)) && slots.installed(ICP).is_none()
 }
 
 // Whether the ICP slot holds the one instruction of the limit 40.
-fn has_forty(alloc: Global, slots: &Slots) -> Result<bool, Fail> {
-    let kept = slots.installed(ICP).ok_or("the shared program")?;
-    Ok(kept.insns().len() == 1 && verdicts(alloc, slots)? == (40, WHOLE))
-}
-
-// Whether slots are cleared while their copy keeps its program.
-fn are_apart(alloc: Global, slots: &mut Slots, copy: &Slots) -> Result<bool, Fail> {
-    Ok(is_emptied(alloc, slots)? && has_forty(alloc, copy)?)
+fn has_forty<R: Abort>(rt: &R, alloc: Global, slots: &Slots) -> bool {
+    let kept = slots.installed(ICP).expect(rt, "the shared program");
+    kept.insns().len() == 1 && verdicts(rt, alloc, slots) == (40, WHOLE)
 }
 
 // Whether the first program finds the ICP slot empty, and is still in a copy after the slots have lost it.
-fn is_shared(alloc: Global, slots: &mut Slots) -> Result<bool, Fail> {
-    let first = limit_before(alloc, slots, 40)?;
-    let copy = slots.copy()?;
-    let are_apart = are_apart(alloc, slots, &copy);
+fn is_shared<R: Abort>(rt: &R, alloc: Global, slots: &mut Slots) -> bool {
+    let first = put_limit(rt, alloc, slots, ICP, Some(40));
+    let copy = slots.copy().expect(rt, NO_MEMORY);
+    let are_apart = is_emptied(rt, alloc, slots) && has_forty(rt, alloc, &copy);
     drop(copy);
-    Ok(are_apart? && first == None)
+    are_apart && first.is_none()
 }
 
 #[test]
-fn slots_are_shared_and_emptied(rt: HostRuntime) -> Result<(), Fail> {
-    let mut slots = sockets()?;
-    let is_shared = is_shared(rt.alloc(), &mut slots);
+fn slots_are_shared_and_emptied(rt: HostRuntime) {
+    let mut slots = sockets(&rt);
+    let is_shared = is_shared(&rt, rt.alloc(), &mut slots);
     drop(slots);
-    assert!(rt; is_shared?);
-    Ok(())
+    assert!(rt; is_shared);
 }
-
-// The verdict of an empty slot.
-const WHOLE: u32 = 4_294_967_295;
 
 // A slot, the limit to install (`None` clears it), the limit that it returns, and the verdicts on the QUERY by the ICP socket
 // and the HTCP socket.
@@ -202,98 +207,60 @@ const STEPS: [Row; 7] = [
     (Socket::Htcp, None, Some(0), 61, WHOLE),
 ];
 
-// The limit of a program that was installed.
-fn limit_of(program: Option<Arc<Checked>>) -> Option<u32> {
-    let program = program?;
-    let limit = program.insns()[0].k;
-    drop(program);
-    Some(limit)
-}
-
-// The verdicts on the QUERY by the ICP socket and the HTCP socket.
-fn verdicts(alloc: Global, slots: &Slots) -> Result<(u32, u32), Fail> {
-    let icp = forced(alloc, slots, Socket::Icp, FROM, &QUERY)?.value;
-    let htcp = forced(alloc, slots, Socket::Htcp, FROM, &QUERY)?.value;
-    Ok((icp, htcp))
-}
-
-// The limit that the slot of a step returns.
-fn given(alloc: Global, slots: &mut Slots, step: &Row) -> Result<Option<u32>, Fail> {
-    let slot = Slot::Socket(step.0);
-    let program = match step.1 {
-        None => slots.clear(slot)?,
-        Some(k) => slots.install(slot, limit(alloc, k)?)?,
-    };
-    Ok(limit_of(program))
-}
-
 // Whether a step returns the expected limit, then the slots give the step's verdicts, and the earlier copy the last ones.
-fn is_step(
+fn is_step<R: Abort>(
+    rt: &R,
     alloc: Global,
     slots: &mut Slots,
-    copy: &Slots,
     last: (u32, u32),
     step: &Row,
-) -> Result<bool, Fail> {
-    let is_given = given(alloc, slots, step)? == step.2;
-    Ok(is_given && verdicts(alloc, slots)? == (step.3, step.4) && verdicts(alloc, copy)? == last)
-}
-
-// The same with a copy made before the step.
-fn is_done(alloc: Global, slots: &mut Slots, last: (u32, u32), step: &Row) -> Result<bool, Fail> {
-    let copy = slots.copy()?;
-    let is_step = is_step(alloc, slots, &copy, last, step);
+) -> bool {
+    let copy = slots.copy().expect(rt, NO_MEMORY);
+    let given = put_limit(rt, alloc, slots, Slot::Socket(step.0), step.1);
+    let after = verdicts(rt, alloc, slots);
+    let before = verdicts(rt, alloc, &copy);
     drop(copy);
-    is_step
+    given == step.2 && after == (step.3, step.4) && before == last
 }
 
 // Whether all steps are done, one after another.
-fn all_done(alloc: Global, slots: &mut Slots) -> Result<bool, Fail> {
+fn all_done<R: Abort>(rt: &R, alloc: Global, slots: &mut Slots) -> bool {
     let mut last = (WHOLE, WHOLE);
     for step in &STEPS {
-        if !is_done(alloc, slots, last, step)? {
-            return Ok(false);
+        if !is_step(rt, alloc, slots, last, step) {
+            return false;
         }
         last = (step.3, step.4);
     }
-    Ok(true)
+    true
 }
 
 #[test]
-fn slots_are_independent(rt: HostRuntime) -> Result<(), Fail> {
-    let mut slots = sockets()?;
-    let all_done = all_done(rt.alloc(), &mut slots);
+fn slots_are_independent(rt: HostRuntime) {
+    let mut slots = sockets(&rt);
+    let all_done = all_done(&rt, rt.alloc(), &mut slots);
     drop(slots);
-    assert!(rt; all_done?);
-    Ok(())
+    assert!(rt; all_done);
 }
 
 // How many octets a payload has that is refused, of this many octets.
-fn refused_of(alloc: Global, size: usize) -> Result<Option<usize>, Fail> {
-    let payload = vec![in alloc; 7u8; size]?;
-    Ok(length_of(Datagram::new(Socket::Icp, FROM, TO, payload).err()))
-}
-
-// The length of octets, if there are any.
-fn length_of(octets: Option<Vec<u8>>) -> Option<usize> {
-    let octets = octets?;
-    Some(octets.len())
-}
-
-// Both ends of the QUERY, in octets.
-fn ends_of_query(alloc: Global) -> Result<[u8; 12], Fail> {
-    let query = query(alloc, Socket::Icp)?;
-    let ends = query.ends();
-    drop(query);
-    Ok(ends)
+fn refused_of<R: Abort>(rt: &R, alloc: Global, size: usize) -> Option<usize> {
+    let made = Datagram::new(Socket::Icp, FROM, TO, repeated(rt, alloc, 7, size));
+    let length = match &made {
+        Ok(_) => None,
+        Err(payload) => Some(payload.len()),
+    };
+    drop(made);
+    length
 }
 
 #[test]
-fn ends_and_length(rt: HostRuntime) -> Result<(), Fail> {
-    let ends = ends_of_query(rt.alloc())?;
+fn ends_and_length(rt: HostRuntime) {
+    let query = query(&rt, rt.alloc());
+    let ends = query.ends();
+    drop(query);
     assert!(rt; ends == [10, 0, 0, 9, 0x0c, 0x3a, 192, 0, 2, 1, 0x12, 0xdb]);
-    assert!(rt; refused_of(rt.alloc(), 65_508)? == Some(65_508));
-    Ok(())
+    assert!(rt; refused_of(&rt, rt.alloc(), 65_508) == Some(65_508));
 }
 
 // The limit of the program by which a datagram is judged, the limit installed afterwards, and the verdict in force.
@@ -307,61 +274,38 @@ const JUDGED: [InForce; 5] = [
     (None, Some(29), 29),
 ];
 
-// The program of a limit, if there is one.
-fn limit_if(alloc: Global, k: Option<u32>) -> Result<Option<Arc<Checked>>, Fail> {
-    match k {
-        None => Ok(None),
-        Some(k) => Ok(Some(limit(alloc, k)?)),
-    }
+// The QUERY on the ICP socket.
+fn arrived<R: Abort>(rt: &R, alloc: Global) -> Arc<Datagram> {
+    shared(rt, alloc, query(rt, alloc))
 }
 
 // The QUERY on the ICP socket, judged by the limits of the socket and the sender.
-fn judged_by(alloc: Global, socket: Option<u32>, sender: Option<u32>) -> Result<Judged, Fail> {
-    let first = limit_if(alloc, socket)?;
-    let second = limit_if(alloc, sender)?;
-    Ok(Judged::new(arrived(alloc)?, first, second))
-}
-
-// The QUERY on the ICP socket.
-fn arrived(alloc: Global) -> Result<Arc<Datagram>, Fail> {
-    Ok(Arc::new(alloc, query(alloc, Socket::Icp)?)?)
-}
-
-// Installs this limit, or none.
-fn put_if(alloc: Global, slots: &mut Slots, slot: Slot, k: Option<u32>) -> Result<(), Fail> {
-    match k {
-        None => Ok(()),
-        Some(k) => put(slots, slot, limit(alloc, k)?),
-    }
-}
-
-// The verdict in force after this limit is installed in the ICP slot, or in an empty slot.
-fn in_force(alloc: Global, limit: Option<u32>, judged: &Judged) -> Result<u32, Fail> {
-    let mut slots = sockets()?;
-    let is_put = put_if(alloc, &mut slots, ICP, limit);
-    let forced = slots.force_judged(judged).value;
-    drop(slots);
-    is_put?;
-    Ok(forced)
+fn judged_by<R: Abort>(rt: &R, alloc: Global, socket: Option<u32>, sender: Option<u32>) -> Judged {
+    let first = limit_if(rt, alloc, socket);
+    let second = limit_if(rt, alloc, sender);
+    Judged::new(arrived(rt, alloc), first, second)
 }
 
 // The verdict on the QUERY and the one in force after that are those of a row.
 struct StaysInForce;
 
 impl Question<InForce> for StaysInForce {
-    fn holds(&self, alloc: Global, row: &InForce) -> Result<bool, Fail> {
+    fn holds<R: Abort>(&self, rt: &R, alloc: Global, row: &InForce) -> bool {
         let (held, limit, verdict) = *row;
-        let judged = judged_by(alloc, held, None)?;
+        let mut slots = sockets(rt);
+        put_limit(rt, alloc, &mut slots, ICP, limit);
+        let judged = judged_by(rt, alloc, held, None);
         let first = judged.verdict().value;
-        let forced = in_force(alloc, limit, &judged);
+        let forced = slots.force_judged(&judged).value;
         drop(judged);
-        Ok((first, forced?) == (held.unwrap_or(WHOLE), verdict))
+        drop(slots);
+        (first, forced) == (held.unwrap_or(WHOLE), verdict)
     }
 }
 
 #[test]
-fn judged_datagrams(rt: HostRuntime) -> Result<(), Fail> {
-    all_hold(rt.alloc(), &JUDGED, &StaysInForce)
+fn judged_datagrams(rt: HostRuntime) {
+    all_hold(&rt, rt.alloc(), &JUDGED, &StaysInForce);
 }
 
 // A sender that is not a neighbour.
@@ -369,14 +313,6 @@ const STRANGER: End = End {
     addr: [10, 0, 0, 10],
     port: 3130,
 };
-
-// Accepts ICP queries only: `ldb [28]`, `jeq #1`.
-const QUERIES: Listing = &[
-    (48, 0, 0, 28),
-    (21, 0, 1, 1),
-    (6, 0, 0, 65_535),
-    (6, 0, 0, 0),
-];
 
 // Accepts packets of 62 octets or more: `ldb [61]`.
 const LONG: Listing = &[(48, 0, 0, 61), (6, 0, 0, 65_535)];
@@ -417,38 +353,12 @@ const TWICE: [Twice; 8] = [
 ];
 
 // Slots with these programs, and one neighbour.
-fn slots_of(alloc: Global, icp: Listing, neighbour: Listing) -> Result<Slots, Fail> {
+fn slots_of<R: Abort>(rt: &R, alloc: Global, icp: Listing, neighbour: Listing) -> Slots {
     let neighbours = [(Socket::Icp, FROM)];
-    let mut slots = Slots::new(&neighbours).ok_or("slots")?;
-    let are_put = put_both(alloc, &mut slots, icp, neighbour);
-    kept_if(slots, are_put)
-}
-
-// Installs the programs of the ICP socket and of the neighbour, where they have instructions.
-fn put_both(
-    alloc: Global,
-    slots: &mut Slots,
-    icp: Listing,
-    neighbour: Listing,
-) -> Result<(), Fail> {
-    if !icp.is_empty() {
-        put(slots, ICP, program(alloc, icp)?)?;
-    }
-    if !neighbour.is_empty() {
-        put(slots, Slot::Neighbour(0), program(alloc, neighbour)?)?;
-    }
-    Ok(())
-}
-
-// The slots, where their programs could be installed.
-fn kept_if(slots: Slots, are_put: Result<(), Fail>) -> Result<Slots, Fail> {
-    match are_put {
-        Ok(()) => Ok(slots),
-        Err(fault) => {
-            drop(slots);
-            Err(fault)
-        }
-    }
+    let mut slots = Slots::new(&neighbours).expect(rt, "slots");
+    put(rt, &mut slots, ICP, program_if(rt, alloc, icp));
+    put(rt, &mut slots, FIRST, program_if(rt, alloc, neighbour));
+    slots
 }
 
 // The verdict and the steps of both filters are those of a row. On the other socket the datagram has an unknown sender and no
@@ -456,25 +366,19 @@ fn kept_if(slots: Slots, are_put: Result<(), Fail>) -> Result<Slots, Fail> {
 struct JudgedTwice;
 
 impl Question<Twice> for JudgedTwice {
-    fn holds(&self, alloc: Global, row: &Twice) -> Result<bool, Fail> {
-        let slots = slots_of(alloc, row.0, row.1)?;
-        let is_judged = is_judged_twice(alloc, &slots, row);
+    fn holds<R: Abort>(&self, rt: &R, alloc: Global, row: &Twice) -> bool {
+        let (icp, neighbour, from, payload, value, steps) = *row;
+        let slots = slots_of(rt, alloc, icp, neighbour);
+        let icp = forced(rt, alloc, &slots, Socket::Icp, from, payload);
+        let htcp = forced(rt, alloc, &slots, Socket::Htcp, from, payload);
         drop(slots);
-        is_judged
+        icp == Verdict { value, steps } && htcp.value == WHOLE
     }
 }
 
-// The same for slots with the programs of the row.
-fn is_judged_twice(alloc: Global, slots: &Slots, row: &Twice) -> Result<bool, Fail> {
-    let (_, _, from, octets, value, steps) = *row;
-    let icp = forced(alloc, slots, Socket::Icp, from, octets)?;
-    let htcp = forced(alloc, slots, Socket::Htcp, from, octets)?;
-    Ok(icp == Verdict { value, steps } && htcp.value == WHOLE)
-}
-
 #[test]
-fn two_filters_judge(rt: HostRuntime) -> Result<(), Fail> {
-    all_hold(rt.alloc(), &TWICE, &JudgedTwice)
+fn two_filters_judge(rt: HostRuntime) {
+    all_hold(&rt, rt.alloc(), &TWICE, &JudgedTwice);
 }
 
 // The limit of the neighbour's program by which a datagram is judged, the limit installed afterwards, and the verdict in force.
@@ -488,48 +392,40 @@ const JUDGED_AGAIN: [InForce; 6] = [
     (None, Some(29), 29),
 ];
 
-// Slots with the limit 50 for the ICP socket, and this limit for the neighbour, or none.
-fn slots_with(alloc: Global, limit: Option<u32>) -> Result<Slots, Fail> {
-    let mut slots = slots_of(alloc, TWENTY_TWO, NONE)?;
-    let is_put = put_if(alloc, &mut slots, Slot::Neighbour(0), limit);
-    kept_if(slots, is_put)
-}
-
-// The verdict on a datagram if it is judged now: by itself, and as it is then found.
-fn verdicts_now(slots: &Slots, arrived: Arc<Datagram>) -> Result<[Verdict; 2], Fail> {
-    let judged = slots.judge(arrived)?;
+// The verdicts on a datagram if it is judged now: by itself, and as it is then found.
+fn verdicts_now<R: Abort>(rt: &R, slots: &Slots, arrived: Arc<Datagram>) -> [Verdict; 2] {
+    let judged = slots.judge(arrived).expect(rt, NO_MEMORY);
     let verdicts = [judged.verdict(), slots.force_judged(&judged)];
     drop(judged);
-    Ok(verdicts)
+    verdicts
 }
 
-// The verdict in force on a datagram judged before, and the verdict on the QUERY if it is judged now, by the limit 50 and this one.
-fn both_in_force(alloc: Global, judged: &Judged, limit: Option<u32>) -> Result<(u32, u32), Fail> {
-    let arrived = arrived(alloc)?;
-    let slots = slots_with(alloc, limit)?;
-    let now = verdicts_now(&slots, arrived);
-    let before = slots.force_judged(judged).value;
-    drop(slots);
-    let [now, _] = now?;
-    Ok((before, now.value))
+// The verdict in force on a datagram judged before, and the verdict on the QUERY if it is judged now.
+fn both_in_force<R: Abort>(rt: &R, alloc: Global, slots: &Slots, judged: &Judged) -> (u32, u32) {
+    let before = slots.force_judged(judged);
+    let [now, _] = verdicts_now(rt, slots, arrived(rt, alloc));
+    (before.value, now.value)
 }
 
 // Both verdicts are that of a row.
 struct IsJudgedAgain;
 
 impl Question<InForce> for IsJudgedAgain {
-    fn holds(&self, alloc: Global, row: &InForce) -> Result<bool, Fail> {
+    fn holds<R: Abort>(&self, rt: &R, alloc: Global, row: &InForce) -> bool {
         let (held, limit, verdict) = *row;
-        let judged = judged_by(alloc, Some(50), held)?;
-        let both = both_in_force(alloc, &judged, limit);
+        let mut slots = slots_of(rt, alloc, TWENTY_TWO, NONE);
+        put_limit(rt, alloc, &mut slots, FIRST, limit);
+        let judged = judged_by(rt, alloc, Some(50), held);
+        let both = both_in_force(rt, alloc, &slots, &judged);
         drop(judged);
-        Ok(both? == (verdict, verdict))
+        drop(slots);
+        both == (verdict, verdict)
     }
 }
 
 #[test]
-fn either_program_is_compared(rt: HostRuntime) -> Result<(), Fail> {
-    all_hold(rt.alloc(), &JUDGED_AGAIN, &IsJudgedAgain)
+fn either_program_is_compared(rt: HostRuntime) {
+    all_hold(&rt, rt.alloc(), &JUDGED_AGAIN, &IsJudgedAgain);
 }
 
 // The verdict is the packet's length, the 28 octets of its header among them: `ld len`, `ret a`.
@@ -540,61 +436,53 @@ const SIZES: [u16; 12] = [
     0, 1, 512, 999, 1_000, 1_472, 4_096, 16_384, 32_768, 60_000, 60_001, 65_507,
 ];
 
-// A datagram with a payload of this many octets.
-fn sevens(alloc: Global, size: u16) -> Result<Datagram, Fail> {
-    let payload = vec![in alloc; 7u8; size as usize]?;
-    datagram(alloc, Socket::Icp, FROM, payload.as_slice())
-}
-
 // Both filters let through a payload of a row's length.
-#[derive(Drop)]
-struct LetsThrough<'a> {
-    slots: &'a Slots,
-}
+struct LetsThrough;
 
-impl Question<u16> for LetsThrough<'_> {
-    fn holds(&self, alloc: Global, row: &u16) -> Result<bool, Fail> {
+impl Question<u16> for LetsThrough {
+    fn holds<R: Abort>(&self, rt: &R, alloc: Global, row: &u16) -> bool {
+        let payload = repeated(rt, alloc, 7, *row as usize);
+        let arrived = shared(rt, alloc, datagram(rt, Socket::Icp, FROM, payload));
+        let slots = slots_of(rt, alloc, LENGTH, LENGTH);
+        let verdicts = verdicts_now(rt, &slots, arrived);
+        drop(slots);
         let wanted = Verdict {
             value: 28 + *row as u32,
             steps: 4,
         };
-        let arrived = Arc::new(alloc, sevens(alloc, *row)?)?;
-        Ok(verdicts_now(self.slots, arrived)? == [wanted, wanted])
+        verdicts == [wanted, wanted]
     }
 }
 
 #[test]
-fn payloads_of_all_lengths_are_judged(rt: HostRuntime) -> Result<(), Fail> {
-    let slots = slots_of(rt.alloc(), LENGTH, LENGTH)?;
-    let told = all_hold(rt.alloc(), &SIZES, &LetsThrough { slots: &slots });
-    drop(slots);
-    told
+fn payloads_of_all_lengths_are_judged(rt: HostRuntime) {
+    all_hold(&rt, rt.alloc(), &SIZES, &LetsThrough);
 }
 
 // Whether a slot that doesn't exist accepts no program, returns none and holds none.
-fn is_nowhere(alloc: Global, slots: &mut Slots, slot: Slot) -> Result<bool, Fail> {
-    let is_put = slots.install(slot, limit(alloc, 0)?).err() == Some(NoSlot);
-    let is_cleared = slots.clear(slot).err() == Some(NoSlot);
-    Ok(is_put && is_cleared && slots.installed(slot).is_none() && !slots.has(slot))
+fn is_nowhere<R: Abort>(rt: &R, alloc: Global, slots: &mut Slots, slot: Slot) -> bool {
+    let installed = slots.install(slot, program(rt, alloc, NOTHING)).err();
+    let cleared = slots.clear(slot).err();
+    (installed, cleared) == (Some(NoSlot), Some(NoSlot))
+        && slots.installed(slot).is_none()
+        && !slots.has(slot)
 }
 
 // Whether an existing slot of a neighbour is empty and judges nothing.
-fn is_empty(alloc: Global, slots: &mut Slots) -> Result<bool, Fail> {
-    let cleared = limit_of(slots.clear(Slot::Neighbour(0))?);
-    Ok(cleared == None && verdicts(alloc, slots)? == (WHOLE, WHOLE))
+fn is_empty<R: Abort>(rt: &R, alloc: Global, slots: &mut Slots) -> bool {
+    let cleared = put(rt, slots, FIRST, None);
+    cleared.is_none() && verdicts(rt, alloc, slots) == (WHOLE, WHOLE)
 }
 
+// What was refused changed nothing in the slots that there are.
 #[test]
-fn missing_slots_are_told(rt: HostRuntime) -> Result<(), Fail> {
-    let mut slots = slots_of(rt.alloc(), NONE, NONE)?;
-    let is_nowhere = is_nowhere(rt.alloc(), &mut slots, Slot::Neighbour(1));
+fn missing_slots_are_told(rt: HostRuntime) {
+    let mut slots = slots_of(&rt, rt.alloc(), NONE, NONE);
+    let is_nowhere = is_nowhere(&rt, rt.alloc(), &mut slots, Slot::Neighbour(1));
+    let is_empty = is_empty(&rt, rt.alloc(), &mut slots);
     drop(slots);
-    assert!(rt; is_nowhere?);
-    let mut slots = slots_of(rt.alloc(), NONE, NONE)?;
-    let is_empty = is_empty(rt.alloc(), &mut slots);
-    drop(slots);
-    assert!(rt; is_empty?);
-    Ok(())
+    assert!(rt; is_nowhere);
+    assert!(rt; is_empty);
 }
 
 // The endpoint of neighbour n; all of them fall into one bucket, since their ports differ by multiples of 256.
@@ -606,97 +494,81 @@ fn crowded(n: u16) -> End {
 }
 
 // The first `count` of these neighbours.
-fn crowd(alloc: Global, count: u16) -> Result<Vec<(Socket, End)>, Fail> {
+fn crowd<R: Abort>(rt: &R, alloc: Global, count: u16) -> Vec<(Socket, End)> {
     let mut neighbours = Vec::new(alloc);
     for n in 0..count {
-        neighbours.push((Socket::Icp, crowded(n)))?;
+        add(rt, &mut neighbours, (Socket::Icp, crowded(n)));
     }
-    Ok(neighbours)
+    neighbours
 }
 
-// Slots of 64 of these neighbours; the n-th has the limit 100 + n.
-fn crowded_slots(alloc: Global) -> Result<Slots, Fail> {
-    let neighbours = crowd(alloc, 64)?;
-    let slots = Slots::new(&neighbours);
+// Installs the limits of 64 neighbours; the n-th has the limit 100 + n.
+fn put_limits<R: Abort>(rt: &R, alloc: Global, slots: &mut Slots) {
+    for n in 0..64u32 {
+        let slot = Slot::Neighbour(n as usize);
+        put_limit(rt, alloc, slots, slot, Some(100 + n));
+    }
+}
+
+// Slots of 64 of these neighbours with their limits.
+fn crowded_slots<R: Abort>(rt: &R, alloc: Global) -> Slots {
+    let neighbours = crowd(rt, alloc, 64);
+    let mut slots = Slots::new(&neighbours).expect(rt, "slots");
     drop(neighbours);
-    let mut slots = slots.ok_or("slots")?;
-    let are_put = put_limits(alloc, &mut slots);
-    kept_if(slots, are_put)
-}
-
-// Installs the limits of 64 neighbours.
-fn put_limits(alloc: Global, slots: &mut Slots) -> Result<(), Fail> {
-    for n in 0..64u16 {
-        put(
-            slots,
-            Slot::Neighbour(n as usize),
-            limit(alloc, 100 + n as u32)?,
-        )?;
-    }
-    Ok(())
-}
-
-// The verdict on the QUERY from the n-th of these neighbours.
-fn verdict_on(alloc: Global, slots: &Slots, n: u16) -> Result<u32, Fail> {
-    Ok(forced(alloc, slots, Socket::Icp, crowded(n), &QUERY)?.value)
+    put_limits(rt, alloc, &mut slots);
+    slots
 }
 
 // Whether each of these neighbours has its own verdict, and any other sender that of an empty slot.
-fn are_told_apart(alloc: Global, slots: &Slots) -> Result<bool, Fail> {
-    for n in 0..64u16 {
-        if verdict_on(alloc, slots, n)? != 100 + n as u32 {
-            return Ok(false);
+fn are_told_apart<R: Abort>(rt: &R, alloc: Global, slots: &Slots) -> bool {
+    for n in 0..65u16 {
+        let wanted = if n < 64 { 100 + n as u32 } else { WHOLE };
+        let forced = forced(rt, alloc, slots, Socket::Icp, crowded(n), &QUERY);
+        if forced.value != wanted {
+            return false;
         }
     }
-    Ok(verdict_on(alloc, slots, 64)? == WHOLE)
+    true
 }
 
 #[test]
-fn a_crowd_in_one_bucket_is_told_apart(rt: HostRuntime) -> Result<(), Fail> {
-    let slots = crowded_slots(rt.alloc())?;
-    let are_told_apart = are_told_apart(rt.alloc(), &slots);
+fn a_crowd_in_one_bucket_is_told_apart(rt: HostRuntime) {
+    let slots = crowded_slots(&rt, rt.alloc());
+    let are_told_apart = are_told_apart(&rt, rt.alloc(), &slots);
     drop(slots);
-    assert!(rt; are_told_apart?);
-    Ok(())
+    assert!(rt; are_told_apart);
 }
 
 // A copy of such slots, which are let go of.
-fn copied_slots(alloc: Global) -> Result<Slots, Fail> {
-    let slots = crowded_slots(alloc)?;
-    let copy = slots.copy();
-    drop(slots);
-    Ok(copy?)
-}
-
 #[test]
-fn a_copy_tells_a_crowd_apart(rt: HostRuntime) -> Result<(), Fail> {
-    let slots = copied_slots(rt.alloc())?;
-    let are_told_apart = are_told_apart(rt.alloc(), &slots);
+fn a_copy_tells_a_crowd_apart(rt: HostRuntime) {
+    let slots = crowded_slots(&rt, rt.alloc());
+    let copy = slots.copy().expect(&rt, NO_MEMORY);
     drop(slots);
-    assert!(rt; are_told_apart?);
-    Ok(())
+    let are_told_apart = are_told_apart(&rt, rt.alloc(), &copy);
+    drop(copy);
+    assert!(rt; are_told_apart);
 }
 
 // Whether slots can be made for these neighbours.
 fn are_slots(neighbours: &[(Socket, End)]) -> bool {
-    Slots::new(neighbours).is_some()
+    let slots = Slots::new(neighbours);
+    let are_made = slots.is_some();
+    drop(slots);
+    are_made
 }
 
 // Whether slots can be made of too many neighbours; of three and one of these ends on the other socket; of these and one of them
 // twice.
-fn are_taken(alloc: Global) -> Result<[bool; 3], Fail> {
-    let too_many = crowd(alloc, 65)?;
-    let are_many_taken = are_slots(&too_many);
-    drop(too_many);
-    let mut neighbours = crowd(alloc, 3)?;
-    neighbours.push((Socket::Htcp, crowded(1)))?;
-    let are_four_taken = are_slots(&neighbours);
-    neighbours.push((Socket::Icp, crowded(1)))?;
-    Ok([are_many_taken, are_four_taken, are_slots(&neighbours)])
-}
-
 #[test]
-fn crowds_and_doubles_are_refused(rt: HostRuntime) -> Result<(), Fail> {
-    assert!(rt; are_taken(rt.alloc())? == [false, true, false]);
-    Ok(())
+fn crowds_and_doubles_are_refused(rt: HostRuntime) {
+    let mut neighbours = crowd(&rt, rt.alloc(), 65);
+    let are_many_taken = are_slots(&neighbours);
+    neighbours.truncate(3);
+    add(&rt, &mut neighbours, (Socket::Htcp, crowded(1)));
+    let are_four_taken = are_slots(&neighbours);
+    add(&rt, &mut neighbours, (Socket::Icp, crowded(1)));
+    let are_doubles_taken = are_slots(&neighbours);
+    drop(neighbours);
+    assert!(rt; [are_many_taken, are_four_taken, are_doubles_taken] == [false, true, false]);
 }

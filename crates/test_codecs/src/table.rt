@@ -1,22 +1,29 @@
 //! Neighbour tables: which are refused, and what a table knows of its neighbours.
 
+use crate::made::{NO_MEMORY, add, octets, repeated};
 use crate::rows::{Question, all_hold};
 use neighbours::{ConfigFault, End, Key, Neighbour, Octets, Ranked, Role, Socket, Table};
-use std::alloc::{AllocError, Global};
-use std::test::Fail;
+use std::alloc::Global;
+use std::process::Abort;
 
-// The endpoint 10.0.0.(last octet), with this port.
-fn end_of(last: u8, port: u16) -> End {
+/// The endpoint 10.0.0.(last octet), with this port.
+pub(crate) fn end_of(last: u8, port: u16) -> End {
     End {
         addr: [10, 0, 0, last],
         port,
     }
 }
 
-// A neighbour at this endpoint.
-fn neighbour_at(protocol: Socket, end: End, weight: u32, key: Option<Octets>) -> Neighbour {
+/// A neighbour at this endpoint.
+pub(crate) fn neighbour_at(
+    kind: Role,
+    protocol: Socket,
+    end: End,
+    weight: u32,
+    key: Option<Octets>,
+) -> Neighbour {
     Neighbour {
-        kind: Role::Parent,
+        kind,
         protocol,
         end,
         http_port: 3128,
@@ -25,34 +32,35 @@ fn neighbour_at(protocol: Socket, end: End, weight: u32, key: Option<Octets>) ->
     }
 }
 
-// A neighbour at 10.0.0.(last octet), with a key of one octet or none.
-fn neighbour(
-    alloc: Global,
-    last: u8,
-    weight: u32,
-    key: Option<u8>,
-) -> Result<Neighbour, AllocError> {
-    let key = match key {
+/// A parent at 10.0.0.(last octet):3130, which is queried by ICP.
+pub(crate) fn parent(last: u8, weight: u32, key: Option<Octets>) -> Neighbour {
+    neighbour_at(Role::Parent, Socket::Icp, end_of(last, 3130), weight, key)
+}
+
+// The name of a key, of one octet, if there is one.
+fn named<R: Abort>(rt: &R, alloc: Global, key: Option<u8>) -> Option<Octets> {
+    match key {
         None => None,
-        Some(octet) => Some(Octets::new(vec![in alloc; octet]?)),
-    };
-    Ok(neighbour_at(Socket::Icp, end_of(last, 3130), weight, key))
+        Some(octet) => Some(Octets::new(octets(rt, alloc, &[octet]))),
+    }
 }
 
 // `count` neighbours at distinct endpoints, and one more with this endpoint, weight and key.
-fn neighbours(
+fn neighbours<R: Abort>(
+    rt: &R,
     alloc: Global,
     count: u8,
     last: u8,
     weight: u32,
     key: Option<u8>,
-) -> Result<Vec<Neighbour>, AllocError> {
+) -> Vec<Neighbour> {
     let mut list = Vec::new(alloc);
     for i in 0..count {
-        list.push(neighbour(alloc, i, 1, None)?)?;
+        add(rt, &mut list, parent(i, 1, None));
     }
-    list.push(neighbour(alloc, last, weight, key)?)?;
-    Ok(list)
+    let key = named(rt, alloc, key);
+    add(rt, &mut list, parent(last, weight, key));
+    list
 }
 
 // A key with this name and secret.
@@ -63,13 +71,14 @@ fn key(name: Vec<u8>, secret: Vec<u8>) -> Key {
     }
 }
 
-fn keys(alloc: Global, names: &[u8]) -> Result<Vec<Key>, AllocError> {
+// Keys with names of one octet, and one secret.
+fn keys<R: Abort>(rt: &R, alloc: Global, names: &[u8]) -> Vec<Key> {
     let mut list = Vec::new(alloc);
     for name in names {
-        let secret = vec![in alloc; 1, 2, 3]?;
-        list.push(key(vec![in alloc; *name]?, secret))?;
+        let secret = octets(rt, alloc, &[1, 2, 3]);
+        add(rt, &mut list, key(octets(rt, alloc, &[*name]), secret));
     }
-    Ok(list)
+    list
 }
 
 // The fault of a table, if it has one.
@@ -77,9 +86,14 @@ fn fault_of(alloc: Global, list: Vec<Neighbour>, keys: Vec<Key>) -> Option<Confi
     Table::new(alloc, list, keys).err()
 }
 
-// A table without a fault.
-fn table_of(alloc: Global, list: Vec<Neighbour>, keys: Vec<Key>) -> Result<Table, AllocError> {
-    Table::new(alloc, list, keys).ok().ok_or(AllocError)
+/// A table without a fault.
+pub(crate) fn table_of<R: Abort>(
+    rt: &R,
+    alloc: Global,
+    list: Vec<Neighbour>,
+    keys: Vec<Key>,
+) -> Table {
+    Table::new(alloc, list, keys).ok().expect(rt, "a table")
 }
 
 // How many neighbours stand before the last one; its last octet, weight and key; the names of the keys; and the table's fault.
@@ -101,25 +115,26 @@ const FAULTY: [Faulty; 9] = [
 struct FirstFault;
 
 impl Question<Faulty> for FirstFault {
-    fn holds(&self, alloc: Global, row: &Faulty) -> Result<bool, Fail> {
+    fn holds<R: Abort>(&self, rt: &R, alloc: Global, row: &Faulty) -> bool {
         let (count, last, weight, key, names, fault) = *row;
-        let list = neighbours(alloc, count, last, weight, key)?;
-        Ok(fault_of(alloc, list, keys(alloc, names)?) == fault)
+        let list = neighbours(rt, alloc, count, last, weight, key);
+        let keys = keys(rt, alloc, names);
+        fault_of(alloc, list, keys) == fault
     }
 }
 
 #[test]
-fn first_faults(rt: HostRuntime) -> Result<(), Fail> {
-    all_hold(rt.alloc(), &FAULTY, &FirstFault)
+fn first_faults(rt: HostRuntime) {
+    all_hold(&rt, rt.alloc(), &FAULTY, &FirstFault);
 }
 
 // Neighbours at 10.0.0.n, for each of these n.
-fn neighbours_at(alloc: Global, ends: &[u8]) -> Result<Vec<Neighbour>, AllocError> {
+fn neighbours_at<R: Abort>(rt: &R, alloc: Global, ends: &[u8]) -> Vec<Neighbour> {
     let mut list = Vec::new(alloc);
     for last in ends {
-        list.push(neighbour(alloc, *last, 1, None)?)?;
+        add(rt, &mut list, parent(*last, 1, None));
     }
-    Ok(list)
+    list
 }
 
 // The last octets of neighbours, which are the names of keys too, and whether one of them is there twice.
@@ -134,39 +149,24 @@ const PLACES: [Doubled; 6] = [
     (&[2, 2], true),
 ];
 
-// The fault of a table of these neighbours.
-fn fault_of_ends(alloc: Global, ends: &[u8]) -> Result<Option<ConfigFault>, AllocError> {
-    Ok(fault_of(alloc, neighbours_at(alloc, ends)?, Vec::new(alloc)))
-}
-
-// The fault of a table of keys with these names.
-fn fault_of_names(alloc: Global, names: &[u8]) -> Result<Option<ConfigFault>, AllocError> {
-    Ok(fault_of(alloc, Vec::new(alloc), keys(alloc, names)?))
-}
-
-// The fault, where there is one.
-fn fault_if(is_faulty: bool, fault: ConfigFault) -> Option<ConfigFault> {
-    if is_faulty { Some(fault) } else { None }
-}
-
 // What a row has twice is the fault of a table of these neighbours, and of one of these keys.
 struct IsDoubled;
 
 impl Question<Doubled> for IsDoubled {
-    fn holds(&self, alloc: Global, row: &Doubled) -> Result<bool, Fail> {
+    fn holds<R: Abort>(&self, rt: &R, alloc: Global, row: &Doubled) -> bool {
         let (octets, is_double) = *row;
-        let of_ends = fault_of_ends(alloc, octets)?;
-        let of_names = fault_of_names(alloc, octets)?;
-        Ok(
-            of_ends == fault_if(is_double, ConfigFault::DoubleAddress)
-                && of_names == fault_if(is_double, ConfigFault::KeyName),
-        )
+        let list = neighbours_at(rt, alloc, octets);
+        let of_ends = fault_of(alloc, list, Vec::new(alloc));
+        let keys = keys(rt, alloc, octets);
+        let of_names = fault_of(alloc, Vec::new(alloc), keys);
+        of_ends == is_double.then_some(ConfigFault::DoubleAddress)
+            && of_names == is_double.then_some(ConfigFault::KeyName)
     }
 }
 
 #[test]
-fn doubles_at_every_place(rt: HostRuntime) -> Result<(), Fail> {
-    all_hold(rt.alloc(), &PLACES, &IsDoubled)
+fn doubles_at_every_place(rt: HostRuntime) {
+    all_hold(&rt, rt.alloc(), &PLACES, &IsDoubled);
 }
 
 // The length of a key's name, and the fault of a table with that key.
@@ -179,88 +179,79 @@ const NAMES: [Named; 4] = [
     (256, Some(ConfigFault::KeyName)),
 ];
 
-// One key, whose name has this many octets.
-fn key_of(alloc: Global, octets: usize) -> Result<Vec<Key>, AllocError> {
-    let mut list = Vec::new(alloc);
-    list.push(key(vec![in alloc; b'k'; octets]?, Vec::new(alloc)))?;
-    Ok(list)
-}
-
 // A table with a key whose name has the length of a row has its fault.
 struct OfName;
 
 impl Question<Named> for OfName {
-    fn holds(&self, alloc: Global, row: &Named) -> Result<bool, Fail> {
-        Ok(fault_of(alloc, Vec::new(alloc), key_of(alloc, row.0)?) == row.1)
+    fn holds<R: Abort>(&self, rt: &R, alloc: Global, row: &Named) -> bool {
+        let name = repeated(rt, alloc, b'k', row.0);
+        let mut keys = Vec::new(alloc);
+        add(rt, &mut keys, key(name, Vec::new(alloc)));
+        fault_of(alloc, Vec::new(alloc), keys) == row.1
     }
 }
 
 #[test]
-fn lengths_of_names(rt: HostRuntime) -> Result<(), Fail> {
-    all_hold(rt.alloc(), &NAMES, &OfName)
+fn lengths_of_names(rt: HostRuntime) {
+    all_hold(&rt, rt.alloc(), &NAMES, &OfName);
 }
 
 // The debug output of a table.
-fn shown(alloc: Global, table: &Table) -> Result<String, AllocError> {
-    format!(in alloc; "{table:?}")
+fn shown<R: Abort>(rt: &R, alloc: Global, table: &Table) -> String {
+    format!(in alloc; "{table:?}").expect(rt, NO_MEMORY)
 }
 
-// Records a round-trip time and a miss in a table of two neighbours.
-fn record(table: &mut Table) -> Result<(), AllocError> {
-    if table.len() != 2 {
-        return Err(AllocError);
-    }
-    table.sample(1, 40);
+// Whether a table has this debug output.
+fn is_shown<R: Abort>(rt: &R, alloc: Global, table: &Table, text: &str) -> bool {
+    let shown = shown(rt, alloc, table);
+    let is_same = shown.as_str() == text;
+    drop(shown);
+    is_same
+}
+
+// Records a miss of the first neighbour of two.
+fn miss<R: Abort>(rt: &R, table: &mut Table) {
+    assert!(*rt; table.len() == 2, "two neighbours");
     table.missed(0);
-    Ok(())
 }
 
-// The output of a table and its copy, and both again after the first has recorded another miss.
-fn twice_shown(alloc: Global, table: &mut Table, copy: &Table) -> Result<[String; 4], AllocError> {
-    let first = shown(alloc, table)?;
-    let copied = shown(alloc, copy)?;
-    if table.len() == 2 {
-        table.missed(0);
-    }
-    Ok([first, copied, shown(alloc, table)?, shown(alloc, copy)?])
+// Whether a table has this output, and its copy too; then, after the table has recorded another miss, the copy alone.
+fn are_as_copied<R: Abort>(
+    rt: &R,
+    alloc: Global,
+    table: &mut Table,
+    copy: &Table,
+    text: &str,
+) -> bool {
+    let are_same = is_shown(rt, alloc, copy, text);
+    miss(rt, table);
+    let is_changed = !is_shown(rt, alloc, table, text);
+    are_same && is_changed && is_shown(rt, alloc, copy, text)
 }
 
-// The output of a table of two neighbours with a time and a miss, and of its copy.
-fn shown_with_copy(alloc: Global, table: &mut Table) -> Result<[String; 4], AllocError> {
-    record(table)?;
-    let copy = table.copy(alloc)?;
-    let shown = twice_shown(alloc, table, &copy);
+// Whether a table of two neighbours, with a time and a miss, shows no secret, and its copy is as it should be.
+fn is_copied<R: Abort>(rt: &R, alloc: Global, table: &mut Table) -> bool {
+    miss(rt, table);
+    let copy = table.copy(alloc).expect(rt, NO_MEMORY);
+    let text = shown(rt, alloc, table);
+    let is_secret = !text.as_str().contains("1, 2, 3");
+    let are_as_copied = are_as_copied(rt, alloc, table, &copy, text.as_str());
+    drop(text);
     drop(copy);
-    shown
-}
-
-// The same for a new table.
-fn copy_shown(alloc: Global) -> Result<[String; 4], AllocError> {
-    let list = neighbours(alloc, 1, 2, 7, Some(b'k'))?;
-    let mut table = table_of(alloc, list, keys(alloc, b"k")?)?;
-    let shown = shown_with_copy(alloc, &mut table);
-    drop(table);
-    shown
-}
-
-// Whether both outputs of each table are as they should be: the first and its copy are the same, without the secret; then the first
-// is another, and the copy is as it was.
-fn are_as_copied(shown: &[String; 4]) -> bool {
-    let [first, copied, changed, kept] = shown;
-    first.as_str() == copied.as_str()
-        && !first.as_str().contains("1, 2, 3")
-        && changed.as_str() != first.as_str()
-        && kept.as_str() == first.as_str()
+    is_secret && are_as_copied
 }
 
 // A copy has the same times and misses, and changes on its own. Neither prints the secret.
 #[test]
-fn copied(rt: HostRuntime) -> Result<(), AllocError> {
-    let shown = copy_shown(rt.alloc())?;
-    let are_as_copied = are_as_copied(&shown);
-    drop(shown);
-    assert!(rt; are_as_copied);
-    Ok(())
+fn copied(rt: HostRuntime) {
+    let list = neighbours(&rt, rt.alloc(), 1, 2, 7, Some(b'k'));
+    let keys = keys(&rt, rt.alloc(), b"k");
+    let mut table = table_of(&rt, rt.alloc(), list, keys);
+    assert!(rt; table.len() == 2, "two neighbours");
+    table.sample(1, 40);
+    let is_copied = is_copied(&rt, rt.alloc(), &mut table);
+    drop(table);
+    assert!(rt; is_copied);
 }
 
 // Round-trip times in milliseconds, one after another, and the time that the neighbour then has.
@@ -301,20 +292,21 @@ fn comes_back(table: &mut Table) -> bool {
 }
 
 #[test]
-fn times_and_misses(rt: HostRuntime) -> Result<(), AllocError> {
-    let list = neighbours(rt.alloc(), 0, 2, 2, None)?;
-    let mut table = table_of(rt.alloc(), list, keys(rt.alloc(), b"k")?)?;
+fn times_and_misses(rt: HostRuntime) {
+    let list = neighbours(&rt, rt.alloc(), 0, 2, 2, None);
+    let keys = keys(&rt, rt.alloc(), b"k");
+    let mut table = table_of(&rt, rt.alloc(), list, keys);
     let holds = are_timed(&mut table) && goes_down(&mut table) && comes_back(&mut table);
     drop(table);
     assert!(rt; holds);
-    Ok(())
 }
 
-// A neighbour that is queried by ICP at 10.0.0.2:3130, and one by HTCP at 10.0.0.3:4827.
-fn two_ends(alloc: Global) -> Result<Vec<Neighbour>, AllocError> {
-    let mut list = neighbours(alloc, 0, 2, 1, None)?;
-    list.push(neighbour_at(Socket::Htcp, end_of(3, 4827), 1, None))?;
-    Ok(list)
+// A table of a neighbour that is queried by ICP at 10.0.0.2:3130, and one by HTCP at 10.0.0.3:4827.
+fn two_ends<R: Abort>(rt: &R, alloc: Global) -> Table {
+    let mut list = neighbours(rt, alloc, 0, 2, 1, None);
+    let second = neighbour_at(Role::Parent, Socket::Htcp, end_of(3, 4827), 1, None);
+    add(rt, &mut list, second);
+    table_of(rt, alloc, list, Vec::new(alloc))
 }
 
 // A protocol, the last octet and the port of an endpoint, and the place of the neighbour there.
@@ -329,23 +321,19 @@ const SOUGHT: [Sought; 6] = [
     (Socket::Icp, 3, 3130, None),
 ];
 
-// A table finds what a row seeks.
-#[derive(Drop)]
-struct FoundIn<'a> {
-    table: &'a Table,
-}
+// Such a table finds what a row seeks.
+struct IsFound;
 
-impl Question<Sought> for FoundIn<'_> {
-    fn holds(&self, _alloc: Global, row: &Sought) -> Result<bool, Fail> {
-        Ok(self.table.find(row.0, end_of(row.1, row.2)) == row.3)
+impl Question<Sought> for IsFound {
+    fn holds<R: Abort>(&self, rt: &R, alloc: Global, row: &Sought) -> bool {
+        let table = two_ends(rt, alloc);
+        let found = table.find(row.0, end_of(row.1, row.2));
+        drop(table);
+        found == row.3
     }
 }
 
 #[test]
-fn found_by_protocol_and_end(rt: HostRuntime) -> Result<(), Fail> {
-    let list = two_ends(rt.alloc())?;
-    let table = table_of(rt.alloc(), list, Vec::new(rt.alloc()))?;
-    let told = all_hold(rt.alloc(), &SOUGHT, &FoundIn { table: &table });
-    drop(table);
-    told
+fn found_by_protocol_and_end(rt: HostRuntime) {
+    all_hold(&rt, rt.alloc(), &SOUGHT, &IsFound);
 }

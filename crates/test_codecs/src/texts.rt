@@ -2,9 +2,9 @@
 
 use crate::rows::{Question, all_hold};
 use bpf_asm::{assemble, to_text};
-use bpf_check::{Insn, check, read_listing};
+use bpf_check::{Checked, Insn, check, read_listing};
 use std::alloc::Global;
-use std::test::Fail;
+use std::process::Abort;
 
 /// Listings, each with the number and the line of its fault, 0 if it has none.
 const LISTINGS: &[(&str, u8, usize)] = &[
@@ -118,49 +118,50 @@ const ADDRESSES: (&str, &str) = (
     "28\n0 0 0 3221225991\n1 0 0 167772161\n32 0 0 12\n40 0 0 20\n48 0 0 28\n64 0 0 256\n72 0 0 65536\n80 0 0 16777216\n96 0 0 3\n97 0 0 15\n177 0 0 28\n2 0 0 0\n3 0 0 9\n4 0 0 16909060\n20 0 0 67305985\n36 0 0 255\n52 0 0 65280\n68 0 0 16711680\n84 0 0 4294967040\n100 0 0 8\n116 0 0 16\n148 0 0 1684300900\n164 0 0 2130706433\n21 0 0 167772161\n53 0 0 2886729728\n37 0 0 3758096383\n69 0 0 4026531840\n6 0 0 4294967295\n",
 );
 
+/// The text of a program as the disassembler writes it, if it is given, and its listing.
+type Printed = (Option<&'static str>, &'static str);
+
 /// Texts as the disassembler writes them, each with the listing of its program.
-const PROGRAMS: &[(&str, &str)] = &[
+const PROGRAMS: &[Printed] = &[
     (
-        "ldb [28]\njeq #1, L2, L3\nL2: ret #65535\nL3: ret #0\n",
+        Some("ldb [28]\njeq #1, L2, L3\nL2: ret #65535\nL3: ret #0\n"),
         "4\n48 0 0 28\n21 0 1 1\n6 0 0 65535\n6 0 0 0\n",
     ),
-    ("ldx #0\ndiv x\nret a\n", "3\n1 0 0 0\n60 0 0 0\n22 0 0 0\n"),
     (
-        "ld #17\nmod #5\nxor #7\nret a\n",
+        Some("ldx #0\ndiv x\nret a\n"),
+        "3\n1 0 0 0\n60 0 0 0\n22 0 0 0\n",
+    ),
+    (
+        Some("ld #17\nmod #5\nxor #7\nret a\n"),
         "4\n0 0 0 17\n148 0 0 5\n164 0 0 7\n22 0 0 0\n",
     ),
     (
-        "ldx #4294967295\nldb [x+1]\nret #1\n",
+        Some("ldx #4294967295\nldb [x+1]\nret #1\n"),
         "3\n1 0 0 4294967295\n80 0 0 1\n6 0 0 1\n",
     ),
     (
-        "ld [1]\nldh [2]\nldb [3]\nld [x+4]\nldh [x+5]\nldb [x+6]\nld #7\nld M[8]\nld len\nldx #9\nldx M[10]\nldx len\nldxb 4*([11]&0xf)\nst M[12]\nstx M[13]\nadd #14\nsub #14\nmul #14\ndiv #14\nor #14\nand #14\nlsh #14\nrsh #14\nadd x\nsub x\nmul x\ndiv x\nor x\nand x\nlsh x\nrsh x\nneg\ntax\ntxa\njeq #15, L35, L36\nL35: jge #15, L36, L37\nL36: jgt #15, L37, L38\nL37: jset #15, L38, L39\nL38: jeq x, L39, L40\nL39: jge x, L40, L41\nL40: jgt x, L41, L42\nL41: jset x, L42, L43\nL42: ja L44\nL43: ret #16\nL44: ret a\n",
+        Some(
+            "ld [1]\nldh [2]\nldb [3]\nld [x+4]\nldh [x+5]\nldb [x+6]\nld #7\nld M[8]\nld len\nldx #9\nldx M[10]\nldx len\nldxb 4*([11]&0xf)\nst M[12]\nstx M[13]\nadd #14\nsub #14\nmul #14\ndiv #14\nor #14\nand #14\nlsh #14\nrsh #14\nadd x\nsub x\nmul x\ndiv x\nor x\nand x\nlsh x\nrsh x\nneg\ntax\ntxa\njeq #15, L35, L36\nL35: jge #15, L36, L37\nL36: jgt #15, L37, L38\nL37: jset #15, L38, L39\nL38: jeq x, L39, L40\nL39: jge x, L40, L41\nL40: jgt x, L41, L42\nL41: jset x, L42, L43\nL42: ja L44\nL43: ret #16\nL44: ret a\n",
+        ),
         "45\n32 0 0 1\n40 0 0 2\n48 0 0 3\n64 0 0 4\n72 0 0 5\n80 0 0 6\n0 0 0 7\n96 0 0 8\n128 0 0 0\n1 0 0 9\n97 0 0 10\n129 0 0 0\n177 0 0 11\n2 0 0 12\n3 0 0 13\n4 0 0 14\n20 0 0 14\n36 0 0 14\n52 0 0 14\n68 0 0 14\n84 0 0 14\n100 0 0 14\n116 0 0 14\n12 0 0 0\n28 0 0 0\n44 0 0 0\n60 0 0 0\n76 0 0 0\n92 0 0 0\n108 0 0 0\n124 0 0 0\n132 0 0 0\n7 0 0 0\n135 0 0 0\n21 0 1 15\n53 0 1 15\n37 0 1 15\n69 0 1 15\n29 0 1 0\n61 0 1 0\n45 0 1 0\n77 0 1 0\n5 0 0 1\n6 0 0 16\n22 0 0 0\n",
     ),
 ];
 
 /// Listings printed by tcpdump (`tcpdump -y RAW -ddd`).
-const PRINTED: &[&str] = &[
-    "8\n48 0 0 0\n84 0 0 240\n21 0 4 64\n32 0 0 12\n84 0 0 4278190080\n21 0 1 167772160\n6 0 0 262144\n6 0 0 0\n",
-    "22\n48 0 0 0\n84 0 0 240\n21 0 18 64\n48 0 0 9\n21 0 16 17\n32 0 0 12\n84 0 0 4278190080\n21 3 0 167772160\n32 0 0 12\n84 0 0 4294901760\n21 0 10 3232235520\n40 0 0 6\n69 8 0 8191\n177 0 0 0\n72 0 0 2\n21 0 5 3130\n80 0 0 8\n21 0 3 1\n80 0 0 9\n21 0 1 2\n6 0 0 262144\n6 0 0 0\n",
-    "23\n48 0 0 0\n84 0 0 240\n21 0 6 96\n48 0 0 6\n21 0 17 17\n40 0 0 40\n21 14 0 3130\n40 0 0 42\n21 12 13 3130\n48 0 0 0\n84 0 0 240\n21 0 10 64\n48 0 0 9\n21 0 8 17\n40 0 0 6\n69 6 0 8191\n177 0 0 0\n72 0 0 0\n21 2 0 3130\n72 0 0 2\n21 0 1 3130\n6 0 0 262144\n6 0 0 0\n",
+const PRINTED: &[Printed] = &[
+    (
+        None,
+        "8\n48 0 0 0\n84 0 0 240\n21 0 4 64\n32 0 0 12\n84 0 0 4278190080\n21 0 1 167772160\n6 0 0 262144\n6 0 0 0\n",
+    ),
+    (
+        None,
+        "22\n48 0 0 0\n84 0 0 240\n21 0 18 64\n48 0 0 9\n21 0 16 17\n32 0 0 12\n84 0 0 4278190080\n21 3 0 167772160\n32 0 0 12\n84 0 0 4294901760\n21 0 10 3232235520\n40 0 0 6\n69 8 0 8191\n177 0 0 0\n72 0 0 2\n21 0 5 3130\n80 0 0 8\n21 0 3 1\n80 0 0 9\n21 0 1 2\n6 0 0 262144\n6 0 0 0\n",
+    ),
+    (
+        None,
+        "23\n48 0 0 0\n84 0 0 240\n21 0 6 96\n48 0 0 6\n21 0 17 17\n40 0 0 40\n21 14 0 3130\n40 0 0 42\n21 12 13 3130\n48 0 0 0\n84 0 0 240\n21 0 10 64\n48 0 0 9\n21 0 8 17\n40 0 0 6\n69 6 0 8191\n177 0 0 0\n72 0 0 0\n21 2 0 3130\n72 0 0 2\n21 0 1 3130\n6 0 0 262144\n6 0 0 0\n",
+    ),
 ];
-
-// The number and the line of a listing's fault, 0 if it has none.
-fn listing_fault(alloc: Global, text: &str) -> (u8, usize) {
-    match read_listing(alloc, text.as_bytes()).err() {
-        Some(fault) => (fault.number(), fault.line().unwrap_or(0)),
-        None => (0, 0),
-    }
-}
-
-// The same of an assembler text.
-fn text_fault(alloc: Global, text: &str) -> (u8, usize) {
-    match assemble(alloc, text.as_bytes()).err() {
-        Some(fault) => (fault.number(), fault.line().unwrap_or(0)),
-        None => (0, 0),
-    }
-}
 
 // A text, and the number and the line of its fault.
 type Faulty = (&'static str, u8, usize);
@@ -168,72 +169,91 @@ type Faulty = (&'static str, u8, usize);
 struct OfListing;
 
 impl Question<Faulty> for OfListing {
-    fn holds(&self, alloc: Global, row: &Faulty) -> Result<bool, Fail> {
-        Ok(listing_fault(alloc, row.0) == (row.1, row.2))
+    fn holds<R: Abort>(&self, _rt: &R, alloc: Global, row: &Faulty) -> bool {
+        let found = match read_listing(alloc, row.0.as_bytes()).err() {
+            Some(fault) => (fault.number(), fault.line().unwrap_or(0)),
+            None => (0, 0),
+        };
+        found == (row.1, row.2)
     }
 }
 
 struct OfText;
 
 impl Question<Faulty> for OfText {
-    fn holds(&self, alloc: Global, row: &Faulty) -> Result<bool, Fail> {
-        Ok(text_fault(alloc, row.0) == (row.1, row.2))
+    fn holds<R: Abort>(&self, _rt: &R, alloc: Global, row: &Faulty) -> bool {
+        let found = match assemble(alloc, row.0.as_bytes()).err() {
+            Some(fault) => (fault.number(), fault.line().unwrap_or(0)),
+            None => (0, 0),
+        };
+        found == (row.1, row.2)
     }
 }
 
 #[test]
-fn faults_come_in_order(rt: HostRuntime) -> Result<(), Fail> {
-    all_hold(rt.alloc(), LISTINGS, &OfListing)?;
-    all_hold(rt.alloc(), TEXTS, &OfText)
+fn faults_come_in_order(rt: HostRuntime) {
+    all_hold(&rt, rt.alloc(), LISTINGS, &OfListing);
+    all_hold(&rt, rt.alloc(), TEXTS, &OfText);
 }
 
-// Whether a text is assembled to the program of a listing. `None` if one of them has a fault.
-fn is_assembled(alloc: Global, text: &str, listing: &str) -> Option<bool> {
-    let program = assemble(alloc, text.as_bytes()).ok()?;
-    let listed = read_listing(alloc, listing.as_bytes()).ok()?;
-    Some(program.as_slice() == listed.as_slice())
+// Whether a text is assembled to the program of a listing, neither with a fault.
+fn is_assembled(alloc: Global, text: &str, listing: &str) -> bool {
+    let program = assemble(alloc, text.as_bytes());
+    let listed = read_listing(alloc, listing.as_bytes());
+    let is_same = match (&program, &listed) {
+        (Ok(program), Ok(listed)) => program.as_slice() == listed.as_slice(),
+        _ => false,
+    };
+    drop(listed);
+    drop(program);
+    is_same
 }
 
 #[test]
 fn addresses_are_read(rt: HostRuntime) {
-    assert!(rt; is_assembled(rt.alloc(), ADDRESSES.0, ADDRESSES.1) == Some(true));
+    assert!(rt; is_assembled(rt.alloc(), ADDRESSES.0, ADDRESSES.1));
 }
 
-// The text of a program, or `None` if the checker refuses it.
-fn text_of(alloc: Global, insns: Vec<Insn>) -> Option<String> {
-    let program = check(insns).ok()?;
-    let text = to_text(alloc, &program).ok();
-    drop(program);
-    text
+// Whether a program is written as a text that is assembled to the program of a row's listing, and that is the row's text, if it has
+// one.
+fn is_written(alloc: Global, program: &Checked, row: &Printed) -> bool {
+    let text = to_text(alloc, program);
+    let is_so = match &text {
+        Ok(text) => {
+            let text = text.as_str();
+            is_assembled(alloc, text, row.1) && text == row.0.unwrap_or(text)
+        }
+        Err(_) => false,
+    };
+    drop(text);
+    is_so
 }
 
-// Whether the program of the listing is written as this text, which is assembled to the same program.
-fn is_printed(alloc: Global, listing: &str, expected: Option<&str>) -> Option<bool> {
-    let text = text_of(alloc, read_listing(alloc, listing.as_bytes()).ok()?)?;
-    let is_same = is_assembled(alloc, text.as_str(), listing)?;
-    Some(is_same && text.as_str() == expected.unwrap_or(text.as_str()))
+// The same of instructions. The checker refuses none.
+fn are_written(alloc: Global, insns: Vec<Insn>, row: &Printed) -> bool {
+    let checked = check(insns);
+    let are_written = match &checked {
+        Ok(program) => is_written(alloc, program, row),
+        Err(_) => false,
+    };
+    drop(checked);
+    are_written
 }
 
-// The program of a row is written as its text.
-struct PrintedAs;
-
-impl Question<(&'static str, &'static str)> for PrintedAs {
-    fn holds(&self, alloc: Global, row: &(&'static str, &'static str)) -> Result<bool, Fail> {
-        Ok(is_printed(alloc, row.1, Some(row.0)) == Some(true))
-    }
-}
-
-// The program of a listing is written as a text that is read as it.
+// The program of a row's listing is written as its text, or as any that is read as it.
 struct IsPrinted;
 
-impl Question<&'static str> for IsPrinted {
-    fn holds(&self, alloc: Global, row: &&'static str) -> Result<bool, Fail> {
-        Ok(is_printed(alloc, *row, None) == Some(true))
+impl Question<Printed> for IsPrinted {
+    fn holds<R: Abort>(&self, _rt: &R, alloc: Global, row: &Printed) -> bool {
+        match read_listing(alloc, row.1.as_bytes()) {
+            Ok(insns) => are_written(alloc, insns, row),
+            Err(_) => false,
+        }
     }
 }
 
 #[test]
-fn programs_are_printed_and_read(rt: HostRuntime) -> Result<(), Fail> {
-    all_hold(rt.alloc(), PROGRAMS, &PrintedAs)?;
-    all_hold(rt.alloc(), PRINTED, &IsPrinted)
+fn programs_are_printed_and_read(rt: HostRuntime) {
+    all_hold(&rt, rt.alloc(), PROGRAMS, &IsPrinted);
+    all_hold(&rt, rt.alloc(), PRINTED, &IsPrinted);
 }
