@@ -2,7 +2,10 @@
 //! out once more how what the test holds is dropped (docs/GATE.md).
 
 use std::alloc::Global;
+use std::process::Abort;
 use std::test::Fail;
+
+pub(crate) const NO_MEMORY: &str = "no memory";
 
 /// What is asked for each row of a table.
 pub(crate) trait Question<R> {
@@ -33,5 +36,12 @@ pub(crate) fn all_hold<R, Q: Question<R>>(
     match first_wrong(alloc, rows, question)? {
         Some(place) => Err(Fail::new(format_args!("row {place} does not hold"))),
         None => Ok(()),
+    }
+}
+
+/// Ends the test with the place of the first of these that does not hold, counted from 0.
+pub(crate) fn all_true<R: Abort>(rt: &R, found: &[bool]) {
+    for (place, holds) in found.iter().enumerate() {
+        assert!(*rt; *holds, "what stands at place {place} does not hold");
     }
 }

@@ -3,7 +3,6 @@
 pub(crate) use crate::heads::fields_of as stored;
 use crate::heads::{Field, head_of};
 use crate::rows::{Question, all_hold};
-use crate::settings::times;
 use http_rules::{PassFault, conditions_for, has_validator, is_about, may_validate, updated};
 use std::alloc::Global;
 use std::test::Fail;
@@ -243,6 +242,20 @@ impl Question<Updated> for UpToDate {
 #[test]
 fn fields_brought_up_to_date(rt: HostRuntime) -> Result<(), Fail> {
     all_hold(rt.alloc(), &UPDATED, &UpToDate)
+}
+
+fn add_times(text: &mut String, part: &str, count: usize) -> Result<(), Fail> {
+    for _ in 0..count {
+        text.push_str(part)?;
+    }
+    Ok(())
+}
+
+// This many times the part.
+fn times(alloc: Global, part: &str, count: usize) -> Result<String, Fail> {
+    let mut text = String::new(alloc);
+    add_times(&mut text, part, count)?;
+    Ok(text)
 }
 
 // The fault of bringing an object up to date by a Connection that names this many fields.
