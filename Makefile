@@ -8,7 +8,7 @@
 #   make package tests both, and what the unit runs (needs dpkg, systemd-analyze, curl and jq; says what it leaves out without)
 #   make systemd starts, reloads, stops and restarts the installed package under a real systemd in a container (needs root and systemd-nspawn)
 #   make page    looks at the administration's page in a Chromium, with pictures in build/page/ (says so where there is none)
-#   make test    proves every crate from nothing, tries the must-fail edits, runs all tests, script cases and documents
+#   make test    proves every crate from nothing, tries the must-fail edits, runs all tests, script cases, configurations and documents
 #   make format  lays out the files of all crates as rt fmt does; the gate refuses a crate with a file that is laid out otherwise
 #   make fuzz    gives the proxy 100,000 mutated requests and answers to pass on (some 5 minutes); `make test` does 3,000
 #   make limits  runs 100 streams of 1 GiB, silent streams and tunnels, and streams beside nginx (10 minutes and more; needs nginx)
@@ -66,10 +66,11 @@ page:
 test:
 	@tools/gate
 
-# The script cases and the examples in the documents, with the program as it was last built; and the list of trusted definitions in
-# PROMISES.
+# The script cases, the configurations and the examples in the documents, with the program as it was last built; and the list of trusted
+# definitions in PROMISES.
 cases:
 	@tests/cases $(PROGRAM) cases
+	@tests/configurations $(PROGRAM)
 
 documents:
 	@tools/documents $(PROGRAM)

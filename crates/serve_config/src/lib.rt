@@ -3,7 +3,7 @@
 //!
 //! The contract of [`Settings::read`] gives the ranges of the numbers that other crates rely on, and what holds of the neighbours
 //! and the signing keys of an accepted configuration (`specs/Group.antt`); keys, kinds and messages are only tested.
-//! Tested by: crates/test_http_rules, cases/serve, must-fail edits.
+//! Tested by: tests/configurations (rows of cases/configurations), crates/test_http_rules, cases/serve, must-fail edits.
 #![tactic(auto)]
 
 mod fault;

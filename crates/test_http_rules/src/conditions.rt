@@ -1,25 +1,40 @@
 //! Answers from a stored object to conditions and ranges. The values are those of RFC 9110, or follow from its text by hand.
 
-use crate::heads::{fields_of, head_of};
-use crate::rows::{Question, all_hold};
+use crate::heads::{Field, fields_of, head_of};
+use crate::rows::{NO_MEMORY, OfHead, Question, all_hold, heads_hold};
+use http_header::HeaderMap;
 use http_rules::{
     StoredAnswer, answer_to, content_range, is_for_origin, is_in_not_modified, unsatisfied_range,
 };
 use std::alloc::Global;
-use std::test::Fail;
+use std::process::Abort;
 
 // The answer to a request with this method and head from an object of 10,000 octets.
-fn answer(alloc: Global, method: &str, lines: &str, object: &str) -> Result<StoredAnswer, Fail> {
-    let head = head_of(alloc, lines)?;
-    let object = fields_of(alloc, object)?;
-    Ok(answer_to(method, &head, &object, 10_000))
+fn answer<R: Abort>(
+    rt: &R,
+    alloc: Global,
+    method: &str,
+    lines: &str,
+    object: &str,
+) -> StoredAnswer {
+    let head = head_of(rt, alloc, lines);
+    let object = fields_of(rt, alloc, object);
+    let answer = answer_to(method, &head, object.as_slice(), 10_000);
+    drop(object);
+    drop(head);
+    answer
 }
 
 // The answer to a request for this range of an object of so many octets.
-fn part(alloc: Global, range: &str, length: usize) -> Result<StoredAnswer, Fail> {
-    let lines = format!(in alloc; "Range: {range}")?;
-    let head = head_of(alloc, lines.as_str())?;
-    Ok(answer_to("GET", &head, &Vec::new(alloc), length))
+fn part<R: Abort>(rt: &R, alloc: Global, range: &str, length: usize) -> StoredAnswer {
+    let lines = format!(in alloc; "Range: {range}").expect(rt, NO_MEMORY);
+    let head = head_of(rt, alloc, lines.as_str());
+    let object: Vec<Field> = Vec::new(alloc);
+    let answer = answer_to("GET", &head, object.as_slice(), length);
+    drop(object);
+    drop(head);
+    drop(lines);
+    answer
 }
 
 // The table of section 8.8.3.2: two tags, and whether they match by strong and by weak comparison. Weak is the comparison of
@@ -37,33 +52,44 @@ const TAGS: [Tags; 8] = [
     ("\"a\"", "\"A\"", false, false),
 ];
 
-fn is_same_weakly(alloc: Global, given: &str, stored: &str) -> Result<bool, Fail> {
-    let object = format!(in alloc; "ETag: {stored}")?;
-    let lines = format!(in alloc; "If-None-Match: {given}")?;
-    Ok(answer(alloc, "GET", lines.as_str(), object.as_str())? == StoredAnswer::NotModified)
+// The answer to a GET with these fields from an object with this tag. Both texts are dropped.
+fn answer_of_tagged<R: Abort>(
+    rt: &R,
+    alloc: Global,
+    lines: String,
+    object: String,
+) -> StoredAnswer {
+    let answer = answer(rt, alloc, "GET", lines.as_str(), object.as_str());
+    drop(object);
+    drop(lines);
+    answer
 }
 
-fn is_same_strongly(alloc: Global, given: &str, stored: &str) -> Result<bool, Fail> {
-    let object = format!(in alloc; "ETag: {stored}")?;
-    let lines = format!(in alloc; "Range: bytes=0-0\nIf-Range: {given}")?;
+fn is_same_weakly<R: Abort>(rt: &R, alloc: Global, given: &str, stored: &str) -> bool {
+    let object = format!(in alloc; "ETag: {stored}").expect(rt, NO_MEMORY);
+    let lines = format!(in alloc; "If-None-Match: {given}").expect(rt, NO_MEMORY);
+    answer_of_tagged(rt, alloc, lines, object) == StoredAnswer::NotModified
+}
+
+fn is_same_strongly<R: Abort>(rt: &R, alloc: Global, given: &str, stored: &str) -> bool {
+    let object = format!(in alloc; "ETag: {stored}").expect(rt, NO_MEMORY);
+    let lines = format!(in alloc; "Range: bytes=0-0\nIf-Range: {given}").expect(rt, NO_MEMORY);
     let first = StoredAnswer::Part { first: 0, last: 0 };
-    Ok(answer(alloc, "GET", lines.as_str(), object.as_str())? == first)
+    answer_of_tagged(rt, alloc, lines, object) == first
 }
 
 struct WeakAndStrong;
 
 impl Question<Tags> for WeakAndStrong {
-    fn holds(&self, alloc: Global, row: &Tags) -> Result<bool, Fail> {
-        Ok(
-            is_same_strongly(alloc, row.0, row.1)? == row.2
-                && is_same_weakly(alloc, row.0, row.1)? == row.3,
-        )
+    fn holds<R: Abort>(&self, rt: &R, alloc: Global, row: &Tags) -> bool {
+        is_same_strongly(rt, alloc, row.0, row.1) == row.2
+            && is_same_weakly(rt, alloc, row.0, row.1) == row.3
     }
 }
 
 #[test]
-fn weak_and_strong(rt: HostRuntime) -> Result<(), Fail> {
-    all_hold(rt.alloc(), &TAGS, &WeakAndStrong)
+fn weak_and_strong(rt: HostRuntime) {
+    all_hold(&rt, rt.alloc(), &TAGS, &WeakAndStrong);
 }
 
 // The fields of a request, those of the object, and whether the answer is 304, which it is for GET and for HEAD, or the whole.
@@ -119,23 +145,23 @@ const TAG_LISTS: [Condition; 28] = [
     ("If-None-Match: \"*\"", "ETag: \"a\"", false),
 ];
 
-fn is_answered(alloc: Global, method: &str, row: &Condition) -> Result<bool, Fail> {
-    let answer = answer(alloc, method, row.0, row.1)?;
-    Ok((answer == StoredAnswer::NotModified) == row.2 && (answer == StoredAnswer::Whole) != row.2)
+fn is_answered<R: Abort>(rt: &R, alloc: Global, method: &str, row: &Condition) -> bool {
+    let answer = answer(rt, alloc, method, row.0, row.1);
+    (answer == StoredAnswer::NotModified) == row.2 && (answer == StoredAnswer::Whole) != row.2
 }
 
 struct NotModified;
 
 impl Question<Condition> for NotModified {
-    fn holds(&self, alloc: Global, row: &Condition) -> Result<bool, Fail> {
-        Ok(is_answered(alloc, "GET", row)? && is_answered(alloc, "HEAD", row)?)
+    fn holds<R: Abort>(&self, rt: &R, alloc: Global, row: &Condition) -> bool {
+        is_answered(rt, alloc, "GET", row) && is_answered(rt, alloc, "HEAD", row)
     }
 }
 
 // Sections 8.8.3 and 13.1.2: values of If-None-Match, the object's fields, and whether the answer is 304.
 #[test]
-fn lists_of_tags(rt: HostRuntime) -> Result<(), Fail> {
-    all_hold(rt.alloc(), &TAG_LISTS, &NotModified)
+fn lists_of_tags(rt: HostRuntime) {
+    all_hold(&rt, rt.alloc(), &TAG_LISTS, &NotModified);
 }
 
 const MODIFIED: &str =
@@ -222,8 +248,8 @@ const DATES: [Condition; 16] = [
 
 // Section 13.1.3, and RFC 9111, section 4.3.2: the fields of a request, and whether the answer is 304.
 #[test]
-fn dates(rt: HostRuntime) -> Result<(), Fail> {
-    all_hold(rt.alloc(), &DATES, &NotModified)
+fn dates(rt: HostRuntime) {
+    all_hold(&rt, rt.alloc(), &DATES, &NotModified);
 }
 
 // Section 14.1.2, for a representation of 10,000 octets, and sections 14.1.1 and 14.2 for what is no single range.
@@ -363,14 +389,14 @@ const RANGES: [Range; 36] = [
 struct RangeOfMuch;
 
 impl Question<Range> for RangeOfMuch {
-    fn holds(&self, alloc: Global, row: &Range) -> Result<bool, Fail> {
-        Ok(part(alloc, row.0, 10_000)? == row.1)
+    fn holds<R: Abort>(&self, rt: &R, alloc: Global, row: &Range) -> bool {
+        part(rt, alloc, row.0, 10_000) == row.1
     }
 }
 
 #[test]
-fn ranges(rt: HostRuntime) -> Result<(), Fail> {
-    all_hold(rt.alloc(), &RANGES, &RangeOfMuch)
+fn ranges(rt: HostRuntime) {
+    all_hold(&rt, rt.alloc(), &RANGES, &RangeOfMuch);
 }
 
 // Section 14.1.2 again, for short representations.
@@ -389,14 +415,14 @@ const SHORT_RANGES: [ShortRange; 7] = [
 struct RangeOfLittle;
 
 impl Question<ShortRange> for RangeOfLittle {
-    fn holds(&self, alloc: Global, row: &ShortRange) -> Result<bool, Fail> {
-        Ok(part(alloc, row.0, row.1)? == row.2)
+    fn holds<R: Abort>(&self, rt: &R, alloc: Global, row: &ShortRange) -> bool {
+        part(rt, alloc, row.0, row.1) == row.2
     }
 }
 
 #[test]
-fn ranges_of_little(rt: HostRuntime) -> Result<(), Fail> {
-    all_hold(rt.alloc(), &SHORT_RANGES, &RangeOfLittle)
+fn ranges_of_little(rt: HostRuntime) {
+    all_hold(&rt, rt.alloc(), &SHORT_RANGES, &RangeOfLittle);
 }
 
 // Sections 13.1.5, 13.2.2 and 14.2: what goes before a range, and what it depends on.
@@ -462,22 +488,24 @@ const RANGE_CONDITIONS: [RangeCondition; 18] = [
     ),
 ];
 
-fn answer_in_range(alloc: Global, lines: &str, object: &str) -> Result<StoredAnswer, Fail> {
-    let lines = format!(in alloc; "Range: bytes=1-2\n{lines}")?;
-    answer(alloc, "GET", lines.as_str(), object)
+fn answer_in_range<R: Abort>(rt: &R, alloc: Global, lines: &str, object: &str) -> StoredAnswer {
+    let lines = format!(in alloc; "Range: bytes=1-2\n{lines}").expect(rt, NO_MEMORY);
+    let answer = answer(rt, alloc, "GET", lines.as_str(), object);
+    drop(lines);
+    answer
 }
 
 struct AnswerInRange;
 
 impl Question<RangeCondition> for AnswerInRange {
-    fn holds(&self, alloc: Global, row: &RangeCondition) -> Result<bool, Fail> {
-        Ok(answer_in_range(alloc, row.0, row.1)? == row.2)
+    fn holds<R: Abort>(&self, rt: &R, alloc: Global, row: &RangeCondition) -> bool {
+        answer_in_range(rt, alloc, row.0, row.1) == row.2
     }
 }
 
 #[test]
-fn ranges_with_conditions(rt: HostRuntime) -> Result<(), Fail> {
-    all_hold(rt.alloc(), &RANGE_CONDITIONS, &AnswerInRange)
+fn ranges_with_conditions(rt: HostRuntime) {
+    all_hold(&rt, rt.alloc(), &RANGE_CONDITIONS, &AnswerInRange);
 }
 
 // Section 14.2: a range is of GET alone, and in one field.
@@ -507,14 +535,14 @@ const OTHER_RANGES: [OtherRange; 6] = [
 struct AnswerOfMethod;
 
 impl Question<OtherRange> for AnswerOfMethod {
-    fn holds(&self, alloc: Global, row: &OtherRange) -> Result<bool, Fail> {
-        Ok(answer(alloc, row.0, row.1, "")? == row.2)
+    fn holds<R: Abort>(&self, rt: &R, alloc: Global, row: &OtherRange) -> bool {
+        answer(rt, alloc, row.0, row.1, "") == row.2
     }
 }
 
 #[test]
-fn ranges_of_other_requests(rt: HostRuntime) -> Result<(), Fail> {
-    all_hold(rt.alloc(), &OTHER_RANGES, &AnswerOfMethod)
+fn ranges_of_other_requests(rt: HostRuntime) {
+    all_hold(&rt, rt.alloc(), &OTHER_RANGES, &AnswerOfMethod);
 }
 
 // Sections 13.1.1 and 13.1.4.
@@ -530,15 +558,15 @@ const FOR_ORIGINS: [Decided; 5] = [
 
 struct ForOrigin;
 
-impl Question<Decided> for ForOrigin {
-    fn holds(&self, alloc: Global, row: &Decided) -> Result<bool, Fail> {
-        Ok(is_for_origin(&head_of(alloc, row.0)?) == row.1)
+impl OfHead<bool> for ForOrigin {
+    fn is_answer(&self, head: &HeaderMap, answer: &bool) -> bool {
+        is_for_origin(head) == *answer
     }
 }
 
 #[test]
-fn conditions_for_origins(rt: HostRuntime) -> Result<(), Fail> {
-    all_hold(rt.alloc(), &FOR_ORIGINS, &ForOrigin)
+fn conditions_for_origins(rt: HostRuntime) {
+    heads_hold(&rt, rt.alloc(), &FOR_ORIGINS, &ForOrigin);
 }
 
 // Section 15.4.5.
@@ -560,14 +588,14 @@ const IN_NOT_MODIFIED: [Decided; 12] = [
 struct InNotModified;
 
 impl Question<Decided> for InNotModified {
-    fn holds(&self, _alloc: Global, row: &Decided) -> Result<bool, Fail> {
-        Ok(is_in_not_modified(row.0.as_bytes()) == row.1)
+    fn holds<R: Abort>(&self, _rt: &R, _alloc: Global, row: &Decided) -> bool {
+        is_in_not_modified(row.0.as_bytes()) == row.1
     }
 }
 
 #[test]
-fn fields_of_not_modified(rt: HostRuntime) -> Result<(), Fail> {
-    all_hold(rt.alloc(), &IN_NOT_MODIFIED, &InNotModified)
+fn fields_of_not_modified(rt: HostRuntime) {
+    all_hold(&rt, rt.alloc(), &IN_NOT_MODIFIED, &InNotModified);
 }
 
 // Section 14.4.
@@ -582,20 +610,23 @@ const SPANS: [Span; 2] = [
 struct ContentRange;
 
 impl Question<Span> for ContentRange {
-    fn holds(&self, alloc: Global, row: &Span) -> Result<bool, Fail> {
-        let value = content_range(alloc, row.0, row.1, 1_234)?;
-        Ok(value.as_slice() == row.2.as_bytes())
+    fn holds<R: Abort>(&self, rt: &R, alloc: Global, row: &Span) -> bool {
+        let value = content_range(alloc, row.0, row.1, 1_234).expect(rt, NO_MEMORY);
+        let is_value = value.as_slice() == row.2.as_bytes();
+        drop(value);
+        is_value
     }
 }
 
-fn is_unsatisfied(alloc: Global, wanted: &str) -> Result<bool, Fail> {
-    let value = unsatisfied_range(alloc, 1_234)?;
-    Ok(value.as_slice() == wanted.as_bytes())
+fn is_unsatisfied<R: Abort>(rt: &R, alloc: Global, wanted: &str) -> bool {
+    let value = unsatisfied_range(alloc, 1_234).expect(rt, NO_MEMORY);
+    let is_value = value.as_slice() == wanted.as_bytes();
+    drop(value);
+    is_value
 }
 
 #[test]
-fn content_ranges(rt: HostRuntime) -> Result<(), Fail> {
-    all_hold(rt.alloc(), &SPANS, &ContentRange)?;
-    assert!(rt; is_unsatisfied(rt.alloc(), "bytes */1234")?);
-    Ok(())
+fn content_ranges(rt: HostRuntime) {
+    all_hold(&rt, rt.alloc(), &SPANS, &ContentRange);
+    assert!(rt; is_unsatisfied(&rt, rt.alloc(), "bytes */1234"));
 }

@@ -1,18 +1,31 @@
 //! Which origins are fetched from, which requests have come back, and which are authorized.
 
 use crate::heads::head_of;
-use crate::rows::{Question, all_hold};
+use crate::rows::{NO_MEMORY, OfHead, Question, all_hold, heads_hold};
 use filter_slots::End;
+use http_header::HeaderMap;
 use http_rules::{
     OriginRules, SixEnd, SixNetwork, has_come_back, is_authorized, loop_mark, usual_denials,
 };
 use node_core::Network;
 use std::alloc::Global;
 use std::net::SocketAddr;
-use std::test::Fail;
+use std::process::Abort;
+
+fn ports_of<R: Abort>(rt: &R, alloc: Global, ports: Option<&[u16]>) -> Option<Vec<u16>> {
+    match ports {
+        Some(ports) => Some(ports.to_vec(alloc).expect(rt, NO_MEMORY)),
+        None => None,
+    }
+}
 
 // The rules of a cache with its sockets at 10.0.0.1:3128 and 127.0.0.1:3129.
-fn rules_of(alloc: Global, denied: &[Network], ports: Option<&[u16]>) -> Result<OriginRules, Fail> {
+fn rules_of<R: Abort>(
+    rt: &R,
+    alloc: Global,
+    denied: &[Network],
+    ports: Option<&[u16]>,
+) -> OriginRules {
     let client = End {
         addr: [10, 0, 0, 1],
         port: 3128,
@@ -21,16 +34,13 @@ fn rules_of(alloc: Global, denied: &[Network], ports: Option<&[u16]>) -> Result<
         addr: [127, 0, 0, 1],
         port: 3129,
     };
-    Ok(OriginRules {
-        own: vec![in alloc; client, administration]?,
-        denied: denied.to_vec(alloc)?,
-        ports: match ports {
-            Some(ports) => Some(ports.to_vec(alloc)?),
-            None => None,
-        },
-        denied_six: Some(vec![in alloc; DOCUMENTS]?),
+    OriginRules {
+        own: vec![in alloc; client, administration].expect(rt, NO_MEMORY),
+        denied: denied.to_vec(alloc).expect(rt, NO_MEMORY),
+        ports: ports_of(rt, alloc, ports),
+        denied_six: Some(vec![in alloc; DOCUMENTS].expect(rt, NO_MEMORY)),
         own_six: None,
-    })
+    }
 }
 
 // 2001:db8::/32.
@@ -49,12 +59,12 @@ struct Admits<'a> {
 }
 
 impl Question<Socket> for Admits<'_> {
-    fn holds(&self, _alloc: Global, row: &Socket) -> Result<bool, Fail> {
+    fn holds<R: Abort>(&self, _rt: &R, _alloc: Global, row: &Socket) -> bool {
         let server = End {
             addr: row.0,
             port: row.1,
         };
-        Ok(self.rules.admits(server) == row.2)
+        self.rules.admits(server) == row.2
     }
 }
 
@@ -69,11 +79,10 @@ const OWN: [Socket; 7] = [
 ];
 
 #[test]
-fn own_sockets(rt: HostRuntime) -> Result<(), Fail> {
-    let rules = rules_of(rt.alloc(), &[], None)?;
-    let told = all_hold(rt.alloc(), &OWN, &Admits { rules: &rules });
+fn own_sockets(rt: HostRuntime) {
+    let rules = rules_of(&rt, rt.alloc(), &[], None);
+    all_hold(&rt, rt.alloc(), &OWN, &Admits { rules: &rules });
     drop(rules);
-    told
 }
 
 const DENIED: [Socket; 8] = [
@@ -99,11 +108,10 @@ const DENIED_NETWORKS: [Network; 2] = [
 ];
 
 #[test]
-fn denied_networks_and_ports(rt: HostRuntime) -> Result<(), Fail> {
-    let rules = rules_of(rt.alloc(), &DENIED_NETWORKS, Some(&[80, 8080]))?;
-    let told = all_hold(rt.alloc(), &DENIED, &Admits { rules: &rules });
+fn denied_networks_and_ports(rt: HostRuntime) {
+    let rules = rules_of(&rt, rt.alloc(), &DENIED_NETWORKS, Some(&[80, 8080]));
+    all_hold(&rt, rt.alloc(), &DENIED, &Admits { rules: &rules });
     drop(rules);
-    told
 }
 
 // An address and a port, and whether it is fetched from.
@@ -144,20 +152,19 @@ struct AdmitsAt<'a> {
 }
 
 impl Question<Six> for AdmitsAt<'_> {
-    fn holds(&self, _alloc: Global, row: &Six) -> Result<bool, Fail> {
+    fn holds<R: Abort>(&self, _rt: &R, _alloc: Global, row: &Six) -> bool {
         match row.0.parse::<SocketAddr>() {
-            Ok(server) => Ok(self.rules.admits_at(server) == row.1),
-            Err(_) => Ok(false),
+            Ok(server) => self.rules.admits_at(server) == row.1,
+            Err(_) => false,
         }
     }
 }
 
 #[test]
-fn servers_of_six(rt: HostRuntime) -> Result<(), Fail> {
-    let rules = rules_of(rt.alloc(), &DENIED_NETWORKS, Some(&[80, 8080]))?;
-    let told = all_hold(rt.alloc(), &SIX, &AdmitsAt { rules: &rules });
+fn servers_of_six(rt: HostRuntime) {
+    let rules = rules_of(&rt, rt.alloc(), &DENIED_NETWORKS, Some(&[80, 8080]));
+    all_hold(&rt, rt.alloc(), &SIX, &AdmitsAt { rules: &rules });
     drop(rules);
-    told
 }
 
 // The same for a cache with one more socket, at ::1, which :: reaches too. No other address does, and ::1 has no other port of it.
@@ -173,21 +180,22 @@ const OWN_SIX: [Six; 8] = [
 ];
 
 #[test]
-fn own_socket_of_six(rt: HostRuntime) -> Result<(), Fail> {
-    let mut rules = rules_of(rt.alloc(), &[], None)?;
+fn own_socket_of_six(rt: HostRuntime) {
+    let mut rules = rules_of(&rt, rt.alloc(), &[], None);
     rules.own_six = Some(SixEnd {
         address: 1,
         port: 3128,
     });
-    let told = all_hold(rt.alloc(), &OWN_SIX, &AdmitsAt { rules: &rules });
+    all_hold(&rt, rt.alloc(), &OWN_SIX, &AdmitsAt { rules: &rules });
     drop(rules);
-    told
 }
 
 // The usual rules of a cache at this address.
-fn usual_rules(alloc: Global, own: [u8; 4]) -> Result<OriginRules, Fail> {
-    let denied = usual_denials(alloc, own)?;
-    rules_of(alloc, denied.as_slice(), None)
+fn usual_rules<R: Abort>(rt: &R, alloc: Global, own: [u8; 4]) -> OriginRules {
+    let denied = usual_denials(alloc, own).expect(rt, NO_MEMORY);
+    let rules = rules_of(rt, alloc, denied.as_slice(), None);
+    drop(denied);
+    rules
 }
 
 // An address, and whether it is fetched from by a cache elsewhere and by one in the loopback network.
@@ -212,32 +220,26 @@ struct Usually<'a> {
 }
 
 impl Question<Usual> for Usually<'_> {
-    fn holds(&self, _alloc: Global, row: &Usual) -> Result<bool, Fail> {
+    fn holds<R: Abort>(&self, _rt: &R, _alloc: Global, row: &Usual) -> bool {
         let server = End {
             addr: row.0,
             port: 80,
         };
-        Ok(self.elsewhere.admits(server) == row.1 && self.loopback.admits(server) == row.2)
+        self.elsewhere.admits(server) == row.1 && self.loopback.admits(server) == row.2
     }
 }
 
-fn usual_rules_hold(alloc: Global, elsewhere: &OriginRules) -> Result<(), Fail> {
-    let loopback = usual_rules(alloc, [127, 0, 0, 2])?;
+#[test]
+fn usually_denied(rt: HostRuntime) {
+    let elsewhere = usual_rules(&rt, rt.alloc(), [10, 0, 0, 1]);
+    let loopback = usual_rules(&rt, rt.alloc(), [127, 0, 0, 2]);
     let question = Usually {
-        elsewhere,
+        elsewhere: &elsewhere,
         loopback: &loopback,
     };
-    let told = all_hold(alloc, &USUAL, &question);
+    all_hold(&rt, rt.alloc(), &USUAL, &question);
     drop(loopback);
-    told
-}
-
-#[test]
-fn usually_denied(rt: HostRuntime) -> Result<(), Fail> {
-    let elsewhere = usual_rules(rt.alloc(), [10, 0, 0, 1])?;
-    let told = usual_rules_hold(rt.alloc(), &elsewhere);
     drop(elsewhere);
-    told
 }
 
 // A name, a number, and the mark of the cache that has both.
@@ -262,15 +264,17 @@ const MARKS: [Mark; 5] = [
 struct MarkOf;
 
 impl Question<Mark> for MarkOf {
-    fn holds(&self, alloc: Global, row: &Mark) -> Result<bool, Fail> {
-        let mark = loop_mark(alloc, row.0.as_bytes(), row.1)?;
-        Ok(mark.as_slice() == row.2.as_bytes())
+    fn holds<R: Abort>(&self, rt: &R, alloc: Global, row: &Mark) -> bool {
+        let mark = loop_mark(alloc, row.0.as_bytes(), row.1).expect(rt, NO_MEMORY);
+        let is_mark = mark.as_slice() == row.2.as_bytes();
+        drop(mark);
+        is_mark
     }
 }
 
 #[test]
-fn marks(rt: HostRuntime) -> Result<(), Fail> {
-    all_hold(rt.alloc(), &MARKS, &MarkOf)
+fn marks(rt: HostRuntime) {
+    all_hold(&rt, rt.alloc(), &MARKS, &MarkOf);
 }
 
 // The fields of the example of RFC 8586, section 2.
@@ -303,15 +307,17 @@ const BACK: [Back; 17] = [
 struct ComesBack;
 
 impl Question<Back> for ComesBack {
-    fn holds(&self, alloc: Global, row: &Back) -> Result<bool, Fail> {
-        let head = head_of(alloc, row.0)?;
-        Ok(has_come_back(&head, row.1.as_bytes()) == row.2)
+    fn holds<R: Abort>(&self, rt: &R, alloc: Global, row: &Back) -> bool {
+        let head = head_of(rt, alloc, row.0);
+        let has_come_back = has_come_back(&head, row.1.as_bytes());
+        drop(head);
+        has_come_back == row.2
     }
 }
 
 #[test]
-fn requests_that_come_back(rt: HostRuntime) -> Result<(), Fail> {
-    all_hold(rt.alloc(), &BACK, &ComesBack)
+fn requests_that_come_back(rt: HostRuntime) {
+    all_hold(&rt, rt.alloc(), &BACK, &ComesBack);
 }
 
 // The fields of a request, and whether it bears the token.
@@ -341,13 +347,13 @@ const BEARERS: [Bearer; 15] = [
 
 struct IsAuthorized;
 
-impl Question<Bearer> for IsAuthorized {
-    fn holds(&self, alloc: Global, row: &Bearer) -> Result<bool, Fail> {
-        Ok(is_authorized(&head_of(alloc, row.0)?, b"mF_9.B5f-4.1JqM") == row.1)
+impl OfHead<bool> for IsAuthorized {
+    fn is_answer(&self, head: &HeaderMap, answer: &bool) -> bool {
+        is_authorized(head, b"mF_9.B5f-4.1JqM") == *answer
     }
 }
 
 #[test]
-fn bearers(rt: HostRuntime) -> Result<(), Fail> {
-    all_hold(rt.alloc(), &BEARERS, &IsAuthorized)
+fn bearers(rt: HostRuntime) {
+    heads_hold(&rt, rt.alloc(), &BEARERS, &IsAuthorized);
 }

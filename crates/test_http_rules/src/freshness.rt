@@ -2,12 +2,12 @@
 //! calculated by hand from the sections of RFC 9111 that the tests name.
 
 use crate::heads::head_of;
-use crate::rows::{Question, all_hold};
+use crate::rows::{NO_MEMORY, OfHead, Question, all_hold, heads_hold};
 use http_header::HeaderMap;
 use http_rules::{Kept, RefreshRule, Stored, UrlPlace, accepts, choose, may_keep};
 use node_core::Mode;
 use std::alloc::Global;
-use std::test::Fail;
+use std::process::Abort;
 
 /// Sun, 06 Nov 1994 08:49:37 GMT.
 const NOVEMBER: u64 = 784_111_777;
@@ -38,17 +38,21 @@ fn life_of(kept: Option<Kept>) -> Option<u32> {
 
 /// How long a response to a shared request for `http://a/` is kept that has these fields after a Date of `NOVEMBER`, which is also
 /// the time of the request and of the response.
-fn life(alloc: Global, lines: &str) -> Result<Option<u32>, Fail> {
-    let dated = format!(in alloc; "Date: Sun, 06 Nov 1994 08:49:37 GMT\n{lines}")?;
-    let head = head_of(alloc, dated.as_str())?;
-    Ok(life_of(kept_for("http://a/", &head, (NOVEMBER, NOVEMBER), &[])))
+fn life<R: Abort>(rt: &R, alloc: Global, lines: &str) -> Option<u32> {
+    let dated = format!(in alloc; "Date: Sun, 06 Nov 1994 08:49:37 GMT\n{lines}");
+    let dated = dated.expect(rt, NO_MEMORY);
+    let head = head_of(rt, alloc, dated.as_str());
+    let kept = kept_for("http://a/", &head, (NOVEMBER, NOVEMBER), &[]);
+    drop(head);
+    drop(dated);
+    life_of(kept)
 }
 
 struct LifeOf;
 
 impl Question<Lives> for LifeOf {
-    fn holds(&self, alloc: Global, row: &Lives) -> Result<bool, Fail> {
-        Ok(life(alloc, row.0)? == row.1)
+    fn holds<R: Abort>(&self, rt: &R, alloc: Global, row: &Lives) -> bool {
+        life(rt, alloc, row.0) == row.1
     }
 }
 
@@ -92,8 +96,8 @@ const STATED: [Lives; 19] = [
 ];
 
 #[test]
-fn stated_lifetimes(rt: HostRuntime) -> Result<(), Fail> {
-    all_hold(rt.alloc(), &STATED, &LifeOf)
+fn stated_lifetimes(rt: HostRuntime) {
+    all_hold(&rt, rt.alloc(), &STATED, &LifeOf);
 }
 
 // RFC 9111, section 5.3: an invalid date, especially `0`, is a time in the past; section 4.2.1: so are fields that differ. What is
@@ -116,8 +120,8 @@ const BROKEN: [Lives; 5] = [
 ];
 
 #[test]
-fn broken_expires(rt: HostRuntime) -> Result<(), Fail> {
-    all_hold(rt.alloc(), &BROKEN, &LifeOf)
+fn broken_expires(rt: HostRuntime) {
+    all_hold(&rt, rt.alloc(), &BROKEN, &LifeOf);
 }
 
 // RFC 9111, section 4.2.2: a tenth of the time since Last-Modified, at most a day. 29 July is 100 days before 6 November, 27 October
@@ -141,8 +145,8 @@ const HEURISTIC: [Lives; 12] = [
 ];
 
 #[test]
-fn heuristic_lifetimes(rt: HostRuntime) -> Result<(), Fail> {
-    all_hold(rt.alloc(), &HEURISTIC, &LifeOf)
+fn heuristic_lifetimes(rt: HostRuntime) {
+    all_hold(&rt, rt.alloc(), &HEURISTIC, &LifeOf);
 }
 
 // RFC 9111, section 4.2.3: the greater of the time since Date and of Age with the time from the request to the response.
@@ -185,27 +189,31 @@ const AGES: [Ages; 21] = [
 ];
 
 // What is kept of a response that has these fields beside a life of 60 seconds.
-fn kept_of(alloc: Global, row: &Ages) -> Result<Option<Kept>, Fail> {
-    let lines = format!(in alloc; "Cache-Control: max-age=60\n{}\n{}", row.0, row.1)?;
-    let head = head_of(alloc, lines.as_str())?;
-    Ok(kept_for("http://a/", &head, (row.2, row.3), &[]))
+fn kept_of<R: Abort>(rt: &R, alloc: Global, row: &Ages) -> Option<Kept> {
+    let lines = format!(in alloc; "Cache-Control: max-age=60\n{}\n{}", row.0, row.1);
+    let lines = lines.expect(rt, NO_MEMORY);
+    let head = head_of(rt, alloc, lines.as_str());
+    let kept = kept_for("http://a/", &head, (row.2, row.3), &[]);
+    drop(head);
+    drop(lines);
+    kept
 }
 
 struct AgeOf;
 
 impl Question<Ages> for AgeOf {
-    fn holds(&self, alloc: Global, row: &Ages) -> Result<bool, Fail> {
-        let told = match kept_of(alloc, row)? {
+    fn holds<R: Abort>(&self, rt: &R, alloc: Global, row: &Ages) -> bool {
+        let told = match kept_of(rt, alloc, row) {
             Some(kept) => Some((kept.age, kept.life)),
             None => None,
         };
-        Ok(told == row.4)
+        told == row.4
     }
 }
 
 #[test]
-fn ages(rt: HostRuntime) -> Result<(), Fail> {
-    all_hold(rt.alloc(), &AGES, &AgeOf)
+fn ages(rt: HostRuntime) {
+    all_hold(&rt, rt.alloc(), &AGES, &AgeOf);
 }
 
 // RFC 9111, section 4.2.1: Expires less Date, or less the time of receipt where there is no Date (RFC 9110, section 6.6.1).
@@ -223,17 +231,16 @@ const EXPIRING: [(&str, Kept); 2] = [
 // What is kept of a response with these fields that comes 40 seconds after `NOVEMBER`.
 struct KeptLater;
 
-impl Question<(&'static str, Kept)> for KeptLater {
-    fn holds(&self, alloc: Global, row: &(&'static str, Kept)) -> Result<bool, Fail> {
-        let head = head_of(alloc, row.0)?;
+impl OfHead<Kept> for KeptLater {
+    fn is_answer(&self, head: &HeaderMap, answer: &Kept) -> bool {
         let times = (NOVEMBER + 40, NOVEMBER + 40);
-        Ok(kept_for("http://a/", &head, times, &[]) == Some(row.1))
+        kept_for("http://a/", head, times, &[]) == Some(*answer)
     }
 }
 
 #[test]
-fn expires_without_a_date(rt: HostRuntime) -> Result<(), Fail> {
-    all_hold(rt.alloc(), &EXPIRING, &KeptLater)
+fn expires_without_a_date(rt: HostRuntime) {
+    heads_hold(&rt, rt.alloc(), &EXPIRING, &KeptLater);
 }
 
 const PROHIBITIONS: [Lives; 20] = [
@@ -293,8 +300,8 @@ struct NotKept<'a> {
 }
 
 impl Question<u16> for NotKept<'_> {
-    fn holds(&self, _alloc: Global, row: &u16) -> Result<bool, Fail> {
-        Ok(may_keep(Mode::Shared, b"http://a/", *row, self.head, 0, 0, &[]) == None)
+    fn holds<R: Abort>(&self, _rt: &R, _alloc: Global, row: &u16) -> bool {
+        may_keep(Mode::Shared, b"http://a/", *row, self.head, 0, 0, &[]) == None
     }
 }
 
@@ -303,14 +310,13 @@ fn is_kept_in(mode: Mode, head: &HeaderMap) -> bool {
 }
 
 #[test]
-fn prohibitions(rt: HostRuntime) -> Result<(), Fail> {
-    all_hold(rt.alloc(), &PROHIBITIONS, &LifeOf)?;
-    let head = head_of(rt.alloc(), "Cache-Control: public, max-age=60")?;
-    let told = all_hold(rt.alloc(), &STATUSES, &NotKept { head: &head });
+fn prohibitions(rt: HostRuntime) {
+    all_hold(&rt, rt.alloc(), &PROHIBITIONS, &LifeOf);
+    let head = head_of(&rt, rt.alloc(), "Cache-Control: public, max-age=60");
+    all_hold(&rt, rt.alloc(), &STATUSES, &NotKept { head: &head });
     let is_kept = is_kept_in(Mode::Cached, &head) || is_kept_in(Mode::Private, &head);
     drop(head);
     assert!(rt; !is_kept);
-    told
 }
 
 const LONG_AGO: &str = "Last-Modified: Thu, 01 Jan 1970 00:00:00 GMT";
@@ -351,9 +357,9 @@ const RULES: [(&str, &str, u32, bool); 5] = [
     ("prefix", "http://d/", 0, true),
 ];
 
-fn rule_of(alloc: Global, row: &(&str, &str, u32, bool)) -> Result<RefreshRule, Fail> {
-    let text = row.1.as_bytes().to_vec(alloc)?;
-    Ok(RefreshRule {
+fn rule_of<R: Abort>(rt: &R, alloc: Global, row: &(&str, &str, u32, bool)) -> RefreshRule {
+    let text = row.1.as_bytes().to_vec(alloc).expect(rt, NO_MEMORY);
+    RefreshRule {
         place: if row.0 == "suffix" {
             UrlPlace::Suffix(text)
         } else {
@@ -361,20 +367,16 @@ fn rule_of(alloc: Global, row: &(&str, &str, u32, bool)) -> Result<RefreshRule, 
         },
         seconds: row.2,
         overrides: row.3,
-    })
-}
-
-fn add_rules(alloc: Global, rules: &mut Vec<RefreshRule>) -> Result<(), Fail> {
-    for row in &RULES {
-        rules.push(rule_of(alloc, row)?)?;
     }
-    Ok(())
 }
 
-fn all_rules(alloc: Global) -> Result<Vec<RefreshRule>, Fail> {
+fn all_rules<R: Abort>(rt: &R, alloc: Global) -> Vec<RefreshRule> {
     let mut rules = Vec::new(alloc);
-    add_rules(alloc, &mut rules)?;
-    Ok(rules)
+    for row in &RULES {
+        let rule = rule_of(rt, alloc, row);
+        rules.push(rule).ok().expect(rt, NO_MEMORY);
+    }
+    rules
 }
 
 // How long a response is kept by these rules.
@@ -384,22 +386,22 @@ struct KeptBy<'a> {
 }
 
 impl Question<Refreshed> for KeptBy<'_> {
-    fn holds(&self, alloc: Global, row: &Refreshed) -> Result<bool, Fail> {
-        let head = head_of(alloc, row.1)?;
+    fn holds<R: Abort>(&self, rt: &R, alloc: Global, row: &Refreshed) -> bool {
+        let head = head_of(rt, alloc, row.1);
         let kept = kept_for(row.0, &head, (NOVEMBER, NOVEMBER), self.rules);
-        Ok(life_of(kept) == row.2)
+        drop(head);
+        life_of(kept) == row.2
     }
 }
 
 #[test]
-fn refresh_rules(rt: HostRuntime) -> Result<(), Fail> {
-    let rules = all_rules(rt.alloc())?;
+fn refresh_rules(rt: HostRuntime) {
+    let rules = all_rules(&rt, rt.alloc());
     let question = KeptBy {
         rules: rules.as_slice(),
     };
-    let told = all_hold(rt.alloc(), &REFRESHED, &question);
+    all_hold(&rt, rt.alloc(), &REFRESHED, &question);
     drop(rules);
-    told
 }
 
 // RFC 9111, section 5.4: Pragma: no-cache of a request counts where there is no Cache-Control.
@@ -426,14 +428,17 @@ const PRAGMAS: [Chosen; 10] = [
 struct ChosenOf;
 
 impl Question<Chosen> for ChosenOf {
-    fn holds(&self, alloc: Global, row: &Chosen) -> Result<bool, Fail> {
-        Ok(choose(row.0, &head_of(alloc, row.1)?, None) == row.2)
+    fn holds<R: Abort>(&self, rt: &R, alloc: Global, row: &Chosen) -> bool {
+        let head = head_of(rt, alloc, row.1);
+        let chosen = choose(row.0, &head, None);
+        drop(head);
+        chosen == row.2
     }
 }
 
 #[test]
-fn pragma_of_requests(rt: HostRuntime) -> Result<(), Fail> {
-    all_hold(rt.alloc(), &PRAGMAS, &ChosenOf)
+fn pragma_of_requests(rt: HostRuntime) {
+    all_hold(&rt, rt.alloc(), &PRAGMAS, &ChosenOf);
 }
 
 // A method and the fields of a request, and how it is answered where an object is stored, and where none is.
@@ -534,24 +539,27 @@ const MODES: [Modes; 19] = [
 struct ModesOf;
 
 impl Question<Modes> for ModesOf {
-    fn holds(&self, alloc: Global, row: &Modes) -> Result<bool, Fail> {
-        let head = head_of(alloc, row.1)?;
+    fn holds<R: Abort>(&self, rt: &R, alloc: Global, row: &Modes) -> bool {
+        let head = head_of(rt, alloc, row.1);
         let stored = Some(Stored { age: 10, life: 20 });
-        Ok(choose(row.0, &head, stored) == row.2 && choose(row.0, &head, None) == row.3)
+        let holds = choose(row.0, &head, stored) == row.2 && choose(row.0, &head, None) == row.3;
+        drop(head);
+        holds
     }
 }
 
-fn is_private_where_stale(alloc: Global, lines: &str) -> Result<bool, Fail> {
-    let head = head_of(alloc, lines)?;
+fn is_private_where_stale<R: Abort>(rt: &R, alloc: Global, lines: &str) -> bool {
+    let head = head_of(rt, alloc, lines);
     let stale = Some(Stored { age: 30, life: 0 });
-    Ok(choose("GET", &head, stale) == Ok(Mode::Private))
+    let chosen = choose("GET", &head, stale);
+    drop(head);
+    chosen == Ok(Mode::Private)
 }
 
 #[test]
-fn modes_of_requests(rt: HostRuntime) -> Result<(), Fail> {
-    all_hold(rt.alloc(), &MODES, &ModesOf)?;
-    assert!(rt; is_private_where_stale(rt.alloc(), "Host: a")?);
-    Ok(())
+fn modes_of_requests(rt: HostRuntime) {
+    all_hold(&rt, rt.alloc(), &MODES, &ModesOf);
+    assert!(rt; is_private_where_stale(&rt, rt.alloc(), "Host: a"));
 }
 
 // RFC 9111, sections 5.2.1.1 (max-age), 5.2.1.2 (max-stale) and 5.2.1.3 (min-fresh), of a response of 10 seconds that stays fresh for
@@ -583,15 +591,15 @@ struct Accepts {
     life: u32,
 }
 
-impl Question<Limit> for Accepts {
-    fn holds(&self, alloc: Global, row: &Limit) -> Result<bool, Fail> {
-        Ok(accepts(&head_of(alloc, row.0)?, 10, self.life) == row.1)
+impl OfHead<bool> for Accepts {
+    fn is_answer(&self, head: &HeaderMap, answer: &bool) -> bool {
+        accepts(head, 10, self.life) == *answer
     }
 }
 
 #[test]
-fn limits_of_requests(rt: HostRuntime) -> Result<(), Fail> {
+fn limits_of_requests(rt: HostRuntime) {
     let any_age = [("Cache-Control: max-stale", false)];
-    all_hold(rt.alloc(), &LIMITS, &Accepts { life: 20 })?;
-    all_hold(rt.alloc(), &any_age, &Accepts { life: 0 })
+    heads_hold(&rt, rt.alloc(), &LIMITS, &Accepts { life: 20 });
+    heads_hold(&rt, rt.alloc(), &any_age, &Accepts { life: 0 });
 }

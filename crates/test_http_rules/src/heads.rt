@@ -1,54 +1,45 @@
-//! Header maps and the fields of stored objects from text.
+//! Header maps and the fields of stored objects from text. What is no field, or has no room, ends the test.
 
+use crate::rows::NO_MEMORY;
 use http_header::{HeaderMap, HeaderName, HeaderValue};
 use std::alloc::Global;
-use std::test::Fail;
+use std::process::Abort;
 
-fn add(alloc: Global, head: &mut HeaderMap, name: &str, value: HeaderValue) -> Result<(), Fail> {
-    let name = HeaderName::from_bytes(alloc, name.as_bytes())?;
-    head.append(name, value)?;
-    Ok(())
-}
-
-fn add_line(alloc: Global, head: &mut HeaderMap, line: &str) -> Result<(), Fail> {
-    let (name, value) = line.split_once(": ").ok_or("no field")?;
-    let value = HeaderValue::from_str(alloc, value)?;
-    add(alloc, head, name, value)
-}
-
-fn add_lines(alloc: Global, head: &mut HeaderMap, lines: &str) -> Result<(), Fail> {
-    for line in lines.lines() {
-        add_line(alloc, head, line)?;
-    }
-    Ok(())
+fn add_line<R: Abort>(rt: &R, alloc: Global, head: &mut HeaderMap, line: &str) {
+    let (name, value) = line.split_once(": ").expect(rt, "no field");
+    let name = HeaderName::from_bytes(alloc, name.as_bytes()).expect(rt, "no name");
+    let value = HeaderValue::from_str(alloc, value).expect(rt, "no value");
+    head.append(name, value).expect(rt, "no room");
 }
 
 /// A header map from lines of the form `name: value`.
-pub(crate) fn head_of(alloc: Global, lines: &str) -> Result<HeaderMap, Fail> {
+pub(crate) fn head_of<R: Abort>(rt: &R, alloc: Global, lines: &str) -> HeaderMap {
     let mut head = HeaderMap::new(alloc);
-    add_lines(alloc, &mut head, lines)?;
-    Ok(head)
+    for line in lines.lines() {
+        add_line(rt, alloc, &mut head, line);
+    }
+    head
 }
 
 /// The name and the value of a field.
 pub(crate) type Field = (Vec<u8>, Vec<u8>);
 
-fn field_of(alloc: Global, line: &str) -> Result<Field, Fail> {
-    let (name, value) = line.split_once(": ").ok_or("no field")?;
-    let name = name.as_bytes().to_ascii_lowercase(alloc)?;
-    Ok((name, value.as_bytes().to_vec(alloc)?))
-}
-
-fn add_fields(alloc: Global, fields: &mut Vec<Field>, lines: &str) -> Result<(), Fail> {
-    for line in lines.lines() {
-        fields.push(field_of(alloc, line)?)?;
-    }
-    Ok(())
+fn field_of<R: Abort>(rt: &R, alloc: Global, line: &str) -> Field {
+    let (name, value) = line.split_once(": ").expect(rt, "no field");
+    let name = name
+        .as_bytes()
+        .to_ascii_lowercase(alloc)
+        .expect(rt, NO_MEMORY);
+    let value = value.as_bytes().to_vec(alloc).expect(rt, NO_MEMORY);
+    (name, value)
 }
 
 /// The fields of a stored object, from lines of the form `name: value`.
-pub(crate) fn fields_of(alloc: Global, lines: &str) -> Result<Vec<Field>, Fail> {
+pub(crate) fn fields_of<R: Abort>(rt: &R, alloc: Global, lines: &str) -> Vec<Field> {
     let mut fields = Vec::new(alloc);
-    add_fields(alloc, &mut fields, lines)?;
-    Ok(fields)
+    for line in lines.lines() {
+        let field = field_of(rt, alloc, line);
+        fields.push(field).ok().expect(rt, NO_MEMORY);
+    }
+    fields
 }

@@ -1,4 +1,5 @@
-//! Tests of the HTTP caching rules (`http_rules`) and of the configuration of `serve` (`serve_config`), as tables of cases.
+//! Tests of the HTTP caching rules (`http_rules`), as tables of cases, and of the values of a configuration of `serve` (`serve_config`),
+//! of which `tests/configurations` has all that is told of them.
 //! No contract is proved here beyond the safety of the tests.
 //! Tested by: nothing; its `#[test]` functions are the tests.
 #![tactic(auto)]
@@ -10,15 +11,11 @@ mod doors;
 #[cfg(test)]
 mod freshness;
 #[cfg(test)]
-mod freshness_keys;
-#[cfg(test)]
 mod heads;
 #[cfg(test)]
 mod parts;
 #[cfg(test)]
 mod passing;
-#[cfg(test)]
-mod passing_keys;
 #[cfg(test)]
 mod plain;
 #[cfg(test)]

@@ -1,11 +1,11 @@
 //! Requests for parts of what is not stored. The cases follow from the text of RFC 9110, sections 14.2 and 14.4, and RFC 9111, section
 //! 5.2.1, by hand.
 
-use crate::heads::head_of;
-use crate::rows::{Question, all_hold};
+use crate::rows::{OfHead, Question, all_hold, heads_hold};
+use http_header::HeaderMap;
 use http_rules::{PartRequests, complete_length, is_for_a_part};
 use std::alloc::Global;
-use std::test::Fail;
+use std::process::Abort;
 
 // The fields of a GET, and whether nothing but a single range keeps it from sharing a fetch.
 type Request = (&'static str, bool);
@@ -34,15 +34,15 @@ const REQUESTS: [Request; 19] = [
 
 struct ForPart;
 
-impl Question<Request> for ForPart {
-    fn holds(&self, alloc: Global, row: &Request) -> Result<bool, Fail> {
-        Ok(is_for_a_part(&head_of(alloc, row.0)?) == row.1)
+impl OfHead<bool> for ForPart {
+    fn is_answer(&self, head: &HeaderMap, answer: &bool) -> bool {
+        is_for_a_part(head) == *answer
     }
 }
 
 #[test]
-fn requests_for_parts(rt: HostRuntime) -> Result<(), Fail> {
-    all_hold(rt.alloc(), &REQUESTS, &ForPart)
+fn requests_for_parts(rt: HostRuntime) {
+    heads_hold(&rt, rt.alloc(), &REQUESTS, &ForPart);
 }
 
 // The fields of a response with a part, and the length of the whole.
@@ -69,15 +69,15 @@ const LENGTHS: [Length; 13] = [
 
 struct WholeLength;
 
-impl Question<Length> for WholeLength {
-    fn holds(&self, alloc: Global, row: &Length) -> Result<bool, Fail> {
-        Ok(complete_length(&head_of(alloc, row.0)?) == row.1)
+impl OfHead<Option<u32>> for WholeLength {
+    fn is_answer(&self, head: &HeaderMap, answer: &Option<u32>) -> bool {
+        complete_length(head) == *answer
     }
 }
 
 #[test]
-fn lengths_of_wholes(rt: HostRuntime) -> Result<(), Fail> {
-    all_hold(rt.alloc(), &LENGTHS, &WholeLength)
+fn lengths_of_wholes(rt: HostRuntime) {
+    heads_hold(&rt, rt.alloc(), &LENGTHS, &WholeLength);
 }
 
 // When the requests before came, in milliseconds, the length of the whole, and whether one more at 100,000 has the whole fetched.
@@ -110,12 +110,12 @@ fn requests_at(times: &[u64], length: Option<u32>) -> PartRequests {
 struct IsThird;
 
 impl Question<Third> for IsThird {
-    fn holds(&self, _alloc: Global, row: &Third) -> Result<bool, Fail> {
-        Ok(requests_at(row.0, row.1).is_third(100_000, 1000) == row.2)
+    fn holds<R: Abort>(&self, _rt: &R, _alloc: Global, row: &Third) -> bool {
+        requests_at(row.0, row.1).is_third(100_000, 1000) == row.2
     }
 }
 
 #[test]
-fn third_parts(rt: HostRuntime) -> Result<(), Fail> {
-    all_hold(rt.alloc(), &THIRDS, &IsThird)
+fn third_parts(rt: HostRuntime) {
+    all_hold(&rt, rt.alloc(), &THIRDS, &IsThird);
 }

@@ -1,10 +1,10 @@
 //! What is passed on beside the node: where a tunnel leads, which fields go along, and what becomes stale.
 use crate::heads::{Field, head_of};
-use crate::rows::{Question, all_hold};
+use crate::rows::{NO_MEMORY, Question, all_hold};
 use http_rules::{Onward, authority_of, changed_keys, is_unsafe, key_of, onward};
 use object_store::CacheKey;
 use std::alloc::Global;
-use std::test::Fail;
+use std::process::Abort;
 
 // Targets of CONNECT, and the host and port that they name: examples of RFC 9110, section 9.3.6, RFC 9112, section 3.2.3, and
 // RFC 3986, section 1.1.2, and what their grammars leave out.
@@ -41,18 +41,18 @@ const TARGETS: [Target; 25] = [
 struct AuthorityOf;
 
 impl Question<Target> for AuthorityOf {
-    fn holds(&self, _alloc: Global, row: &Target) -> Result<bool, Fail> {
+    fn holds<R: Abort>(&self, _rt: &R, _alloc: Global, row: &Target) -> bool {
         let told = match authority_of(row.0) {
             Some(end) => Some((end.host, end.port)),
             None => None,
         };
-        Ok(told == row.1)
+        told == row.1
     }
 }
 
 #[test]
-fn targets_of_tunnels(rt: HostRuntime) -> Result<(), Fail> {
-    all_hold(rt.alloc(), &TARGETS, &AuthorityOf)
+fn targets_of_tunnels(rt: HostRuntime) {
+    all_hold(&rt, rt.alloc(), &TARGETS, &AuthorityOf);
 }
 
 const SAFE: [&str; 4] = ["GET", "HEAD", "OPTIONS", "TRACE"];
@@ -68,15 +68,15 @@ struct IsUnsafe {
 }
 
 impl Question<&'static str> for IsUnsafe {
-    fn holds(&self, _alloc: Global, row: &&'static str) -> Result<bool, Fail> {
-        Ok(is_unsafe(*row) == self.wanted)
+    fn holds<R: Abort>(&self, _rt: &R, _alloc: Global, row: &&'static str) -> bool {
+        is_unsafe(*row) == self.wanted
     }
 }
 
 #[test]
-fn safe_methods(rt: HostRuntime) -> Result<(), Fail> {
-    all_hold(rt.alloc(), &SAFE, &IsUnsafe { wanted: false })?;
-    all_hold(rt.alloc(), &UNSAFE, &IsUnsafe { wanted: true })
+fn safe_methods(rt: HostRuntime) {
+    all_hold(&rt, rt.alloc(), &SAFE, &IsUnsafe { wanted: false });
+    all_hold(&rt, rt.alloc(), &UNSAFE, &IsUnsafe { wanted: true });
 }
 
 // A method and the fields of a request, and what is forwarded of them; `None` where this proxy is the last recipient.
@@ -114,47 +114,55 @@ const REQUESTS: [Request; 13] = [
     ("POST", "Max-Forwards: 7", Some("max-forwards: 7\n")),
 ];
 
-fn add_line(text: &mut String, field: &Field) -> Result<(), Fail> {
-    text.push_str(str::from_utf8(field.0.as_slice())?)?;
-    text.push_str(": ")?;
-    text.push_str(str::from_utf8(field.1.as_slice())?)?;
-    Ok(text.push_str("\n")?)
+// Adds what the octets spell, and a text behind it.
+fn add_text<R: Abort>(rt: &R, text: &mut String, octets: &[u8], behind: &str) {
+    let spelled = str::from_utf8(octets).expect(rt, "no text");
+    text.push_str(spelled).expect(rt, NO_MEMORY);
+    text.push_str(behind).expect(rt, NO_MEMORY);
 }
 
-fn add_lines(text: &mut String, fields: &[Field]) -> Result<(), Fail> {
-    for field in fields {
-        add_line(text, field)?;
-    }
-    Ok(())
-}
-
-fn lines_of(alloc: Global, fields: &[Field]) -> Result<String, Fail> {
+fn lines_of<R: Abort>(rt: &R, alloc: Global, fields: &[Field]) -> String {
     let mut text = String::new(alloc);
-    add_lines(&mut text, fields)?;
-    Ok(text)
+    for (name, value) in fields {
+        add_text(rt, &mut text, name.as_slice(), ": ");
+        add_text(rt, &mut text, value.as_slice(), "\n");
+    }
+    text
 }
 
-// The fields that a request is forwarded with, a line each.
-fn forwarded(alloc: Global, method: &str, lines: &str) -> Result<Option<String>, Fail> {
-    let head = head_of(alloc, lines)?;
-    Ok(match onward(alloc, method, &head)? {
-        Onward::Pass(fields) => Some(lines_of(alloc, fields.as_slice())?),
-        _ => None,
-    })
+// Whether these are the fields, a line each.
+fn are_lines<R: Abort>(rt: &R, alloc: Global, fields: &[Field], wanted: &str) -> bool {
+    let lines = lines_of(rt, alloc, fields);
+    let are_lines = lines.as_str() == wanted;
+    drop(lines);
+    are_lines
+}
+
+// Whether a request goes on with these fields, a line each; with `None`, whether it does not go on.
+fn goes_on<R: Abort>(rt: &R, alloc: Global, told: &Onward, wanted: Option<&str>) -> bool {
+    match (told, wanted) {
+        (Onward::Pass(fields), Some(wanted)) => are_lines(rt, alloc, fields.as_slice(), wanted),
+        (Onward::Pass(_), None) => false,
+        (_, wanted) => wanted.is_none(),
+    }
 }
 
 struct PassedOn;
 
 impl Question<Request> for PassedOn {
-    fn holds(&self, alloc: Global, row: &Request) -> Result<bool, Fail> {
-        let told = forwarded(alloc, row.0, row.1)?;
-        Ok(told.as_ref().map(|text| text.as_str()) == row.2)
+    fn holds<R: Abort>(&self, rt: &R, alloc: Global, row: &Request) -> bool {
+        let head = head_of(rt, alloc, row.1);
+        let told = onward(alloc, row.0, &head).expect(rt, "no request");
+        let goes_on = goes_on(rt, alloc, &told, row.2);
+        drop(told);
+        drop(head);
+        goes_on
     }
 }
 
 #[test]
-fn requests_that_are_passed_on(rt: HostRuntime) -> Result<(), Fail> {
-    all_hold(rt.alloc(), &REQUESTS, &PassedOn)
+fn requests_that_are_passed_on(rt: HostRuntime) {
+    all_hold(&rt, rt.alloc(), &REQUESTS, &PassedOn);
 }
 
 // What was asked for, by which method, the answer's status and fields, and the keys that become stale. The references are those of
@@ -305,37 +313,39 @@ const CHANGES: [Change; 27] = [
     ),
 ];
 
-fn add_keys(text: &mut String, keys: &[CacheKey]) -> Result<(), Fail> {
-    for key in keys {
-        text.push_str(str::from_utf8(key.as_slice())?)?;
-        text.push_str(" ")?;
-    }
-    Ok(())
-}
-
-fn text_of(alloc: Global, keys: &[CacheKey]) -> Result<String, Fail> {
+// The keys, with a blank behind each.
+fn text_of<R: Abort>(rt: &R, alloc: Global, keys: &[CacheKey]) -> String {
     let mut text = String::new(alloc);
-    add_keys(&mut text, keys)?;
-    Ok(text)
+    for key in keys {
+        add_text(rt, &mut text, key.as_slice(), " ");
+    }
+    text
 }
 
-// The keys that become stale, with a blank behind each.
-fn stale(alloc: Global, row: &Change) -> Result<String, Fail> {
-    let key = key_of(alloc, row.0)?;
-    let head = head_of(alloc, row.3)?;
-    let keys = changed_keys(alloc, &key, row.1, row.2, &head)?;
-    text_of(alloc, keys.as_slice())
+// The keys that become stale.
+fn stale<R: Abort>(rt: &R, alloc: Global, row: &Change) -> Vec<CacheKey> {
+    let key = key_of(alloc, row.0).expect(rt, "no key");
+    let head = head_of(rt, alloc, row.3);
+    let keys = changed_keys(alloc, &key, row.1, row.2, &head).expect(rt, NO_MEMORY);
+    drop(head);
+    drop(key);
+    keys
 }
 
 struct StaleKeys;
 
 impl Question<Change> for StaleKeys {
-    fn holds(&self, alloc: Global, row: &Change) -> Result<bool, Fail> {
-        Ok(stale(alloc, row)?.as_str() == row.4)
+    fn holds<R: Abort>(&self, rt: &R, alloc: Global, row: &Change) -> bool {
+        let keys = stale(rt, alloc, row);
+        let text = text_of(rt, alloc, keys.as_slice());
+        let holds = text.as_str() == row.4;
+        drop(text);
+        drop(keys);
+        holds
     }
 }
 
 #[test]
-fn changes(rt: HostRuntime) -> Result<(), Fail> {
-    all_hold(rt.alloc(), &CHANGES, &StaleKeys)
+fn changes(rt: HostRuntime) {
+    all_hold(&rt, rt.alloc(), &CHANGES, &StaleKeys);
 }

@@ -1,13 +1,13 @@
 //! Requests without any field that decides how they are answered. The names are those of RFC 9110, 9111 and 8586 that `classify`,
 //! `choose`, `answer_to` and `has_come_back` read.
 
-use crate::heads::head_of;
-use crate::rows::{Question, all_hold};
+use crate::heads::{Field, head_of};
+use crate::rows::{NO_MEMORY, Question, all_hold};
 use http_header::HeaderMap;
 use http_rules::{StoredAnswer, answer_to, choose, classify, has_come_back, is_plain_request};
 use node_core::Mode;
 use std::alloc::Global;
-use std::test::Fail;
+use std::process::Abort;
 
 const PLAIN: [&str; 7] = [
     "",
@@ -40,10 +40,21 @@ const OTHERS: [&str; 16] = [
     "pragma: x",
 ];
 
-// Whether a request is plain that has these fields, with others before and after them.
-fn is_plain_among(alloc: Global, lines: &str) -> Result<bool, Fail> {
-    let lines = format!(in alloc; "Host: a\nAccept: */*\n{lines}\nUser-Agent: b")?;
-    Ok(is_plain_request(&head_of(alloc, lines.as_str())?))
+// Whether a request is plain that has these fields.
+fn is_plain<R: Abort>(rt: &R, alloc: Global, lines: &str) -> bool {
+    let head = head_of(rt, alloc, lines);
+    let is_plain = is_plain_request(&head);
+    drop(head);
+    is_plain
+}
+
+// The same with others before and after them.
+fn is_plain_among<R: Abort>(rt: &R, alloc: Global, lines: &str) -> bool {
+    let lines = format!(in alloc; "Host: a\nAccept: */*\n{lines}\nUser-Agent: b");
+    let lines = lines.expect(rt, NO_MEMORY);
+    let is_plain = is_plain(rt, alloc, lines.as_str());
+    drop(lines);
+    is_plain
 }
 
 // Whether a request with these fields is plain as wanted.
@@ -53,24 +64,24 @@ struct IsPlain {
 }
 
 impl Question<&'static str> for IsPlain {
-    fn holds(&self, alloc: Global, row: &&'static str) -> Result<bool, Fail> {
-        Ok(is_plain_request(&head_of(alloc, *row)?) == self.wanted)
+    fn holds<R: Abort>(&self, rt: &R, alloc: Global, row: &&'static str) -> bool {
+        is_plain(rt, alloc, *row) == self.wanted
     }
 }
 
 struct NotPlainAmong;
 
 impl Question<&'static str> for NotPlainAmong {
-    fn holds(&self, alloc: Global, row: &&'static str) -> Result<bool, Fail> {
-        Ok(!is_plain_among(alloc, *row)?)
+    fn holds<R: Abort>(&self, rt: &R, alloc: Global, row: &&'static str) -> bool {
+        !is_plain_among(rt, alloc, *row)
     }
 }
 
 #[test]
-fn plain_requests(rt: HostRuntime) -> Result<(), Fail> {
-    all_hold(rt.alloc(), &PLAIN, &IsPlain { wanted: true })?;
-    all_hold(rt.alloc(), &OTHERS, &IsPlain { wanted: false })?;
-    all_hold(rt.alloc(), &OTHERS, &NotPlainAmong)
+fn plain_requests(rt: HostRuntime) {
+    all_hold(&rt, rt.alloc(), &PLAIN, &IsPlain { wanted: true });
+    all_hold(&rt, rt.alloc(), &OTHERS, &IsPlain { wanted: false });
+    all_hold(&rt, rt.alloc(), &OTHERS, &NotPlainAmong);
 }
 
 // What is said of plain requests.
@@ -81,17 +92,22 @@ fn is_shared(head: &HeaderMap) -> bool {
 }
 
 fn is_whole(alloc: Global, head: &HeaderMap) -> bool {
-    answer_to("GET", head, &Vec::new(alloc), 10) == StoredAnswer::Whole
+    let object: Vec<Field> = Vec::new(alloc);
+    let answer = answer_to("GET", head, object.as_slice(), 10);
+    drop(object);
+    answer == StoredAnswer::Whole
 }
 
 impl Question<&'static str> for SharedAndWhole {
-    fn holds(&self, alloc: Global, row: &&'static str) -> Result<bool, Fail> {
-        let head = head_of(alloc, *row)?;
-        Ok(is_shared(&head) && is_whole(alloc, &head) && !has_come_back(&head, b"a"))
+    fn holds<R: Abort>(&self, rt: &R, alloc: Global, row: &&'static str) -> bool {
+        let head = head_of(rt, alloc, *row);
+        let holds = is_shared(&head) && is_whole(alloc, &head) && !has_come_back(&head, b"a");
+        drop(head);
+        holds
     }
 }
 
 #[test]
-fn answers_to_plain_requests(rt: HostRuntime) -> Result<(), Fail> {
-    all_hold(rt.alloc(), &PLAIN, &SharedAndWhole)
+fn answers_to_plain_requests(rt: HostRuntime) {
+    all_hold(&rt, rt.alloc(), &PLAIN, &SharedAndWhole);
 }

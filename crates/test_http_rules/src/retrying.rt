@@ -3,7 +3,7 @@ use crate::heads::head_of;
 use crate::rows::{Question, all_hold};
 use http_rules::{lasts, may_retry};
 use std::alloc::Global;
-use std::test::Fail;
+use std::process::Abort;
 
 // Answers to GET: whether they are of HTTP/1.1, their status and their fields, and whether their connection carries another request by
 // RFC 9112, section 9.3, with the lengths of section 6.3.
@@ -52,15 +52,17 @@ const ANSWERS: [Answer; 17] = [
 struct Lasts;
 
 impl Question<Answer> for Lasts {
-    fn holds(&self, alloc: Global, row: &Answer) -> Result<bool, Fail> {
-        let head = head_of(alloc, row.2)?;
-        Ok(lasts(alloc, row.0, row.1, &head)? == row.3)
+    fn holds<R: Abort>(&self, rt: &R, alloc: Global, row: &Answer) -> bool {
+        let head = head_of(rt, alloc, row.2);
+        let lasts = lasts(alloc, row.0, row.1, &head).expect(rt, "no answer");
+        drop(head);
+        lasts == row.3
     }
 }
 
 #[test]
-fn connections_that_last(rt: HostRuntime) -> Result<(), Fail> {
-    all_hold(rt.alloc(), &ANSWERS, &Lasts)
+fn connections_that_last(rt: HostRuntime) {
+    all_hold(&rt, rt.alloc(), &ANSWERS, &Lasts);
 }
 
 const SENT_AGAIN: [&str; 4] = ["GET", "HEAD", "OPTIONS", "TRACE"];
@@ -71,25 +73,23 @@ const SENT_ONCE: [&str; 6] = ["POST", "PUT", "DELETE", "PATCH", "CONNECT", "get"
 struct SentAgain;
 
 impl Question<&'static str> for SentAgain {
-    fn holds(&self, _alloc: Global, row: &&'static str) -> Result<bool, Fail> {
-        Ok(
-            may_retry(*row, true, false)
-                && !may_retry(*row, true, true)
-                && !may_retry(*row, false, false),
-        )
+    fn holds<R: Abort>(&self, _rt: &R, _alloc: Global, row: &&'static str) -> bool {
+        may_retry(*row, true, false)
+            && !may_retry(*row, true, true)
+            && !may_retry(*row, false, false)
     }
 }
 
 struct SentOnce;
 
 impl Question<&'static str> for SentOnce {
-    fn holds(&self, _alloc: Global, row: &&'static str) -> Result<bool, Fail> {
-        Ok(!may_retry(*row, true, false))
+    fn holds<R: Abort>(&self, _rt: &R, _alloc: Global, row: &&'static str) -> bool {
+        !may_retry(*row, true, false)
     }
 }
 
 #[test]
-fn requests_that_are_sent_once_more(rt: HostRuntime) -> Result<(), Fail> {
-    all_hold(rt.alloc(), &SENT_AGAIN, &SentAgain)?;
-    all_hold(rt.alloc(), &SENT_ONCE, &SentOnce)
+fn requests_that_are_sent_once_more(rt: HostRuntime) {
+    all_hold(&rt, rt.alloc(), &SENT_AGAIN, &SentAgain);
+    all_hold(&rt, rt.alloc(), &SENT_ONCE, &SentOnce);
 }

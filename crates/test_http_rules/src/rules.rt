@@ -1,11 +1,12 @@
 //! Classification of requests, storing of responses, cache keys, and forwarded fields.
 
 use crate::heads::{Field, head_of};
-use crate::rows::{Question, all_hold};
+use crate::rows::{NO_MEMORY, OfHead, Question, all_hold, heads_hold};
+use http_header::HeaderMap;
 use http_rules::{PassFault, TargetFault, classify, end_to_end, key_of, may_store};
 use node_core::Mode;
 use std::alloc::Global;
-use std::test::Fail;
+use std::process::Abort;
 
 // A method and the fields of a request, and how it is answered.
 type Classified = (&'static str, &'static str, Result<Mode, u16>);
@@ -64,14 +65,17 @@ const MODES: [Classified; 20] = [
 struct ModeOf;
 
 impl Question<Classified> for ModeOf {
-    fn holds(&self, alloc: Global, row: &Classified) -> Result<bool, Fail> {
-        Ok(classify(row.0, &head_of(alloc, row.1)?) == row.2)
+    fn holds<R: Abort>(&self, rt: &R, alloc: Global, row: &Classified) -> bool {
+        let head = head_of(rt, alloc, row.1);
+        let mode = classify(row.0, &head);
+        drop(head);
+        mode == row.2
     }
 }
 
 #[test]
-fn modes(rt: HostRuntime) -> Result<(), Fail> {
-    all_hold(rt.alloc(), &MODES, &ModeOf)
+fn modes(rt: HostRuntime) {
+    all_hold(&rt, rt.alloc(), &MODES, &ModeOf);
 }
 
 // The fields of a response, and how long it is kept.
@@ -109,20 +113,17 @@ const LIVES: [Life; 23] = [
 // How long a response is kept, and that it is not kept for a private request or with another status.
 struct LifeOf;
 
-impl Question<Life> for LifeOf {
-    fn holds(&self, alloc: Global, row: &Life) -> Result<bool, Fail> {
-        let head = head_of(alloc, row.0)?;
-        Ok(
-            may_store(Mode::Shared, 200, &head) == row.1
-                && may_store(Mode::Private, 200, &head) == None
-                && may_store(Mode::Shared, 404, &head) == None,
-        )
+impl OfHead<Option<u32>> for LifeOf {
+    fn is_answer(&self, head: &HeaderMap, answer: &Option<u32>) -> bool {
+        may_store(Mode::Shared, 200, head) == *answer
+            && may_store(Mode::Private, 200, head) == None
+            && may_store(Mode::Shared, 404, head) == None
     }
 }
 
 #[test]
-fn lives(rt: HostRuntime) -> Result<(), Fail> {
-    all_hold(rt.alloc(), &LIVES, &LifeOf)
+fn lives(rt: HostRuntime) {
+    heads_hold(&rt, rt.alloc(), &LIVES, &LifeOf);
 }
 
 // A target, and its key.
@@ -143,24 +144,29 @@ const TARGETS: [Target; 9] = [
 struct KeyOf;
 
 impl Question<Target> for KeyOf {
-    fn holds(&self, alloc: Global, row: &Target) -> Result<bool, Fail> {
-        Ok(match (key_of(alloc, row.0), &row.1) {
+    fn holds<R: Abort>(&self, rt: &R, alloc: Global, row: &Target) -> bool {
+        let made = key_of(alloc, row.0);
+        let holds = match (&made, &row.1) {
             (Ok(key), Ok(text)) => key.as_slice() == text.as_bytes(),
-            (Err(fault), Err(wanted)) => fault == *wanted,
+            (Err(fault), Err(wanted)) => *fault == *wanted,
             _ => false,
-        })
+        };
+        drop(made);
+        holds
     }
 }
 
 #[test]
-fn keys(rt: HostRuntime) -> Result<(), Fail> {
-    all_hold(rt.alloc(), &TARGETS, &KeyOf)
+fn keys(rt: HostRuntime) {
+    all_hold(&rt, rt.alloc(), &TARGETS, &KeyOf);
 }
 
 // What is forwarded of these fields.
-fn forwarded(alloc: Global, lines: &str) -> Result<Vec<Field>, Fail> {
-    let head = head_of(alloc, lines)?;
-    Ok(end_to_end(alloc, &head)?)
+fn forwarded<R: Abort>(rt: &R, alloc: Global, lines: &str) -> Vec<Field> {
+    let head = head_of(rt, alloc, lines);
+    let kept = end_to_end(alloc, &head).expect(rt, "nothing is forwarded");
+    drop(head);
+    kept
 }
 
 fn has_name(field: &Field, name: &str) -> bool {
@@ -172,14 +178,13 @@ fn is_host_and_two(kept: &[Field]) -> bool {
 }
 
 #[test]
-fn forwarded_fields(rt: HostRuntime) -> Result<(), Fail> {
+fn forwarded_fields(rt: HostRuntime) {
     let lines =
         "Host: a\nConnection: X-One, te\nX-One: 1\nX-Two: 2\nUpgrade: h2c\nTransfer-Encoding: chunked";
-    let kept = forwarded(rt.alloc(), lines)?;
+    let kept = forwarded(&rt, rt.alloc(), lines);
     let holds = is_host_and_two(kept.as_slice());
     drop(kept);
     assert!(rt; holds);
-    Ok(())
 }
 
 fn is_for_origins(kept: &[Field]) -> bool {
@@ -187,39 +192,45 @@ fn is_for_origins(kept: &[Field]) -> bool {
 }
 
 #[test]
-fn fields_for_one_proxy(rt: HostRuntime) -> Result<(), Fail> {
+fn fields_for_one_proxy(rt: HostRuntime) {
     let lines =
         "Proxy-Authorization: Basic YTpi\nPROXY-AUTHENTICATE: Basic realm=a\nProxy-Authentication-Info: x\nAuthorization: Basic YTpi\nWWW-Authenticate: Basic realm=b";
-    let kept = forwarded(rt.alloc(), lines)?;
+    let kept = forwarded(&rt, rt.alloc(), lines);
     let holds = is_for_origins(kept.as_slice());
     drop(kept);
     assert!(rt; holds);
-    Ok(())
 }
 
-// The head with these lines and one more Connection field, of `count` options.
-fn add_options(alloc: Global, text: &mut String, count: usize) -> Result<(), Fail> {
+fn add_option<R: Abort>(rt: &R, alloc: Global, text: &mut String, i: usize) {
+    let option = format!(in alloc; "x-{i}, ").expect(rt, NO_MEMORY);
+    text.push_str(option.as_str()).expect(rt, NO_MEMORY);
+    drop(option);
+}
+
+// The lines, and one more Connection field, of `count` options and `close`.
+fn with_options<R: Abort>(rt: &R, alloc: Global, lines: &str, count: usize) -> String {
+    let mut text = format!(in alloc; "{lines}\nConnection: ").expect(rt, NO_MEMORY);
     for i in 0..count {
-        text.push_str(format!(in alloc; "x-{i}, ")?.as_str())?;
+        add_option(rt, alloc, &mut text, i);
     }
-    Ok(text.push_str("close")?)
-}
-
-fn with_options(alloc: Global, lines: &str, count: usize) -> Result<String, Fail> {
-    let mut text = format!(in alloc; "{lines}\nConnection: ")?;
-    add_options(alloc, &mut text, count)?;
-    Ok(text)
+    text.push_str("close").expect(rt, NO_MEMORY);
+    text
 }
 
 // How many fields are forwarded; `None` if Connection names too many.
-fn forwarded_count(alloc: Global, lines: &str, count: usize) -> Result<Option<usize>, Fail> {
-    let text = with_options(alloc, lines, count)?;
-    let head = head_of(alloc, text.as_str())?;
-    Ok(match end_to_end(alloc, &head) {
+fn forwarded_count<R: Abort>(rt: &R, alloc: Global, lines: &str, count: usize) -> Option<usize> {
+    let text = with_options(rt, alloc, lines, count);
+    let head = head_of(rt, alloc, text.as_str());
+    let forwarded = end_to_end(alloc, &head);
+    let count = match &forwarded {
         Ok(kept) => Some(kept.len()),
         Err(PassFault::TooManyNames) => None,
         Err(PassFault::NoMemory) => Some(0),
-    })
+    };
+    drop(forwarded);
+    drop(head);
+    drop(text);
+    count
 }
 
 // Fields, how many options Connection has beside `close`, and how many fields are forwarded.
@@ -237,14 +248,14 @@ const OPTIONS: [Options; 6] = [
 struct ForwardedCount;
 
 impl Question<Options> for ForwardedCount {
-    fn holds(&self, alloc: Global, row: &Options) -> Result<bool, Fail> {
-        Ok(forwarded_count(alloc, row.0, row.1)? == row.2)
+    fn holds<R: Abort>(&self, rt: &R, alloc: Global, row: &Options) -> bool {
+        forwarded_count(rt, alloc, row.0, row.1) == row.2
     }
 }
 
 #[test]
-fn at_most_64_options(rt: HostRuntime) -> Result<(), Fail> {
-    all_hold(rt.alloc(), &OPTIONS, &ForwardedCount)
+fn at_most_64_options(rt: HostRuntime) {
+    all_hold(&rt, rt.alloc(), &OPTIONS, &ForwardedCount);
 }
 
 // Fields, and how many of them are forwarded.
@@ -263,12 +274,15 @@ const NAMED: [Named; 7] = [
 struct ForwardedOf;
 
 impl Question<Named> for ForwardedOf {
-    fn holds(&self, alloc: Global, row: &Named) -> Result<bool, Fail> {
-        Ok(forwarded(alloc, row.0)?.len() == row.1)
+    fn holds<R: Abort>(&self, rt: &R, alloc: Global, row: &Named) -> bool {
+        let kept = forwarded(rt, alloc, row.0);
+        let count = kept.len();
+        drop(kept);
+        count == row.1
     }
 }
 
 #[test]
-fn named_fields(rt: HostRuntime) -> Result<(), Fail> {
-    all_hold(rt.alloc(), &NAMED, &ForwardedOf)
+fn named_fields(rt: HostRuntime) {
+    all_hold(&rt, rt.alloc(), &NAMED, &ForwardedOf);
 }

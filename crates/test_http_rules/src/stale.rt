@@ -1,14 +1,15 @@
 //! When a stale object may be served. The cases follow from the text of RFC 5861, sections 3 and 4, and of RFC 9111, sections 4.2.1,
 //! 4.2.4, 5.2 and 5.2.2, by hand.
 
-use crate::heads::{Field, head_of};
-use crate::rows::{Question, all_hold};
+use crate::heads::Field;
+use crate::rows::{NO_MEMORY, OfHead, Question, all_hold, heads_hold};
 use crate::validation::stored;
+use http_header::HeaderMap;
 use http_rules::{
     StaleUse, has_stale_use, is_error, may_serve_stale, stale_use, supersedes, takes_stale,
 };
 use std::alloc::Global;
-use std::test::Fail;
+use std::process::Abort;
 
 // The Cache-Control of an object that is fresh for 600 s when it comes, for how many seconds it is here, and whether it may be served
 // in place of an error and while it is validated.
@@ -164,20 +165,24 @@ fn is_used(object: &[Field], row: &Uses) -> bool {
 struct UsesOf;
 
 impl Question<Uses> for UsesOf {
-    fn holds(&self, alloc: Global, row: &Uses) -> Result<bool, Fail> {
+    fn holds<R: Abort>(&self, rt: &R, alloc: Global, row: &Uses) -> bool {
         let line = format!(in alloc;
             "Date: Sat, 29 Oct 1994 19:43:31 GMT\nCache-Control: {}",
             row.0
-        )?;
-        let object = stored(alloc, line.as_str())?;
+        )
+        .expect(rt, NO_MEMORY);
+        let object = stored(rt, alloc, line.as_str());
         let has_use = has_stale_use(object.as_slice(), 0);
-        Ok(is_used(object.as_slice(), row) && (has_use || !(row.2 || row.3)))
+        let is_used = is_used(object.as_slice(), row);
+        drop(object);
+        drop(line);
+        is_used && (has_use || !(row.2 || row.3))
     }
 }
 
 #[test]
-fn uses(rt: HostRuntime) -> Result<(), Fail> {
-    all_hold(rt.alloc(), &USES, &UsesOf)
+fn uses(rt: HostRuntime) {
+    all_hold(&rt, rt.alloc(), &USES, &UsesOf);
 }
 
 // The fields of an object that is fresh for 10 s, the operator's seconds, for how many seconds it is here, and whether it may be served
@@ -217,25 +222,31 @@ const OPERATORS: [Operators; 14] = [
 struct OperatorsUse;
 
 impl Question<Operators> for OperatorsUse {
-    fn holds(&self, alloc: Global, row: &Operators) -> Result<bool, Fail> {
+    fn holds<R: Abort>(&self, rt: &R, alloc: Global, row: &Operators) -> bool {
         let (lines, operators, stay, wanted) = *row;
-        let object = stored(alloc, lines)?;
-        let object = object.as_slice();
-        let in_error = may_serve_stale(object, StaleUse::InPlaceOfError, stay, 10, operators);
+        let object = stored(rt, alloc, lines);
+        let in_error = may_serve_stale(
+            object.as_slice(),
+            StaleUse::InPlaceOfError,
+            stay,
+            10,
+            operators,
+        );
         let while_validated = may_serve_stale(
-            object,
+            object.as_slice(),
             StaleUse::WhileValidated,
             stay,
             10,
             operators,
         );
-        Ok(in_error == wanted && !while_validated)
+        drop(object);
+        in_error == wanted && !while_validated
     }
 }
 
 #[test]
-fn operators_seconds(rt: HostRuntime) -> Result<(), Fail> {
-    all_hold(rt.alloc(), &OPERATORS, &OperatorsUse)
+fn operators_seconds(rt: HostRuntime) {
+    all_hold(&rt, rt.alloc(), &OPERATORS, &OperatorsUse);
 }
 
 // The Cache-Control of an object, and whether there is a use for it without the operator's seconds, and with them.
@@ -256,17 +267,20 @@ const WITH_USES: [WithUses; 9] = [
 struct HasUse;
 
 impl Question<WithUses> for HasUse {
-    fn holds(&self, alloc: Global, row: &WithUses) -> Result<bool, Fail> {
-        let line = format!(in alloc; "Cache-Control: {}", row.0)?;
-        let object = stored(alloc, line.as_str())?;
-        let object = object.as_slice();
-        Ok(has_stale_use(object, 0) == row.1 && has_stale_use(object, 1) == row.2)
+    fn holds<R: Abort>(&self, rt: &R, alloc: Global, row: &WithUses) -> bool {
+        let line = format!(in alloc; "Cache-Control: {}", row.0).expect(rt, NO_MEMORY);
+        let object = stored(rt, alloc, line.as_str());
+        let without = has_stale_use(object.as_slice(), 0);
+        let with = has_stale_use(object.as_slice(), 1);
+        drop(object);
+        drop(line);
+        without == row.1 && with == row.2
     }
 }
 
 #[test]
-fn objects_with_a_use(rt: HostRuntime) -> Result<(), Fail> {
-    all_hold(rt.alloc(), &WITH_USES, &HasUse)
+fn objects_with_a_use(rt: HostRuntime) {
+    all_hold(&rt, rt.alloc(), &WITH_USES, &HasUse);
 }
 
 const ERRORS: [u16; 4] = [500, 502, 503, 504];
@@ -280,15 +294,15 @@ struct IsError {
 }
 
 impl Question<u16> for IsError {
-    fn holds(&self, _alloc: Global, row: &u16) -> Result<bool, Fail> {
-        Ok(is_error(*row) == self.wanted)
+    fn holds<R: Abort>(&self, _rt: &R, _alloc: Global, row: &u16) -> bool {
+        is_error(*row) == self.wanted
     }
 }
 
 #[test]
-fn errors(rt: HostRuntime) -> Result<(), Fail> {
-    all_hold(rt.alloc(), &ERRORS, &IsError { wanted: true })?;
-    all_hold(rt.alloc(), &NO_ERRORS, &IsError { wanted: false })
+fn errors(rt: HostRuntime) {
+    all_hold(&rt, rt.alloc(), &ERRORS, &IsError { wanted: true });
+    all_hold(&rt, rt.alloc(), &NO_ERRORS, &IsError { wanted: false });
 }
 
 const SUPERSEDING: [u16; 10] = [200, 203, 204, 206, 301, 302, 307, 308, 404, 410];
@@ -302,15 +316,20 @@ struct Supersedes {
 }
 
 impl Question<u16> for Supersedes {
-    fn holds(&self, _alloc: Global, row: &u16) -> Result<bool, Fail> {
-        Ok(supersedes(*row) == self.wanted)
+    fn holds<R: Abort>(&self, _rt: &R, _alloc: Global, row: &u16) -> bool {
+        supersedes(*row) == self.wanted
     }
 }
 
 #[test]
-fn what_supersedes(rt: HostRuntime) -> Result<(), Fail> {
-    all_hold(rt.alloc(), &SUPERSEDING, &Supersedes { wanted: true })?;
-    all_hold(rt.alloc(), &NOT_SUPERSEDING, &Supersedes { wanted: false })
+fn what_supersedes(rt: HostRuntime) {
+    all_hold(&rt, rt.alloc(), &SUPERSEDING, &Supersedes { wanted: true });
+    all_hold(
+        &rt,
+        rt.alloc(),
+        &NOT_SUPERSEDING,
+        &Supersedes { wanted: false },
+    );
 }
 
 // The fields of a request, and whether it takes what is stale.
@@ -329,15 +348,15 @@ const REQUESTS: [Taking; 8] = [
 
 struct TakesStale;
 
-impl Question<Taking> for TakesStale {
-    fn holds(&self, alloc: Global, row: &Taking) -> Result<bool, Fail> {
-        Ok(takes_stale(&head_of(alloc, row.0)?) == row.1)
+impl OfHead<bool> for TakesStale {
+    fn is_answer(&self, head: &HeaderMap, answer: &bool) -> bool {
+        takes_stale(head) == *answer
     }
 }
 
 #[test]
-fn requests_that_take_it(rt: HostRuntime) -> Result<(), Fail> {
-    all_hold(rt.alloc(), &REQUESTS, &TakesStale)
+fn requests_that_take_it(rt: HostRuntime) {
+    heads_hold(&rt, rt.alloc(), &REQUESTS, &TakesStale);
 }
 
 // The fields of a request, and what it accepts.
@@ -374,15 +393,15 @@ const ACCEPTED: [Acceptance; 11] = [
 
 struct Accepts;
 
-impl Question<Acceptance> for Accepts {
-    fn holds(&self, alloc: Global, row: &Acceptance) -> Result<bool, Fail> {
-        Ok(stale_use(&head_of(alloc, row.0)?) == row.1)
+impl OfHead<Option<StaleUse>> for Accepts {
+    fn is_answer(&self, head: &HeaderMap, answer: &Option<StaleUse>) -> bool {
+        stale_use(head) == *answer
     }
 }
 
 #[test]
-fn what_requests_accept(rt: HostRuntime) -> Result<(), Fail> {
-    all_hold(rt.alloc(), &ACCEPTED, &Accepts)
+fn what_requests_accept(rt: HostRuntime) {
+    heads_hold(&rt, rt.alloc(), &ACCEPTED, &Accepts);
 }
 
 // The Cache-Control of an object, what its client accepts, and whether it may have it.
@@ -403,16 +422,19 @@ const GIVEN: [Giving; 8] = [
 struct IsGiven;
 
 impl Question<Giving> for IsGiven {
-    fn holds(&self, alloc: Global, row: &Giving) -> Result<bool, Fail> {
+    fn holds<R: Abort>(&self, rt: &R, alloc: Global, row: &Giving) -> bool {
         let (control, most, wanted) = *row;
-        let line = format!(in alloc; "Cache-Control: {control}")?;
-        let object = stored(alloc, line.as_str())?;
+        let line = format!(in alloc; "Cache-Control: {control}").expect(rt, NO_MEMORY);
+        let object = stored(rt, alloc, line.as_str());
         let occasion = StaleUse::Accepted(most);
-        Ok(may_serve_stale(object.as_slice(), occasion, 610, 600, 0) == wanted)
+        let is_served = may_serve_stale(object.as_slice(), occasion, 610, 600, 0);
+        drop(object);
+        drop(line);
+        is_served == wanted
     }
 }
 
 #[test]
-fn what_may_be_given_to_who_accepts_it(rt: HostRuntime) -> Result<(), Fail> {
-    all_hold(rt.alloc(), &GIVEN, &IsGiven)
+fn what_may_be_given_to_who_accepts_it(rt: HostRuntime) {
+    all_hold(&rt, rt.alloc(), &GIVEN, &IsGiven);
 }

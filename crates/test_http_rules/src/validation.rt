@@ -2,32 +2,28 @@
 
 pub(crate) use crate::heads::fields_of as stored;
 use crate::heads::{Field, head_of};
-use crate::rows::{Question, all_hold};
-use crate::settings::times;
+use crate::rows::{NO_MEMORY, OfHead, Question, all_hold, heads_hold};
+use http_header::HeaderMap;
 use http_rules::{PassFault, conditions_for, has_validator, is_about, may_validate, updated};
 use std::alloc::Global;
-use std::test::Fail;
+use std::process::Abort;
 
-fn add_line(alloc: Global, lines: &mut String, field: &Field) -> Result<(), Fail> {
-    let name = str::from_utf8(field.0.as_slice())?;
-    let value = str::from_utf8(field.1.as_slice())?;
+fn add_line<R: Abort>(rt: &R, alloc: Global, lines: &mut String, field: &Field) {
+    let name = str::from_utf8(field.0.as_slice()).expect(rt, "no text");
+    let value = str::from_utf8(field.1.as_slice()).expect(rt, "no text");
     let between = if lines.is_empty() { "" } else { "\n" };
-    let line = format!(in alloc; "{between}{name}: {value}")?;
-    Ok(lines.push_str(line.as_str())?)
-}
-
-fn add_lines(alloc: Global, lines: &mut String, fields: &[Field]) -> Result<(), Fail> {
-    for field in fields {
-        add_line(alloc, lines, field)?;
-    }
-    Ok(())
+    let line = format!(in alloc; "{between}{name}: {value}").expect(rt, NO_MEMORY);
+    lines.push_str(line.as_str()).expect(rt, NO_MEMORY);
+    drop(line);
 }
 
 // Fields as lines of the form `name: value`.
-fn lines_of(alloc: Global, fields: &[Field]) -> Result<String, Fail> {
+fn lines_of<R: Abort>(rt: &R, alloc: Global, fields: &[Field]) -> String {
     let mut lines = String::new(alloc);
-    add_lines(alloc, &mut lines, fields)?;
-    Ok(lines)
+    for field in fields {
+        add_line(rt, alloc, &mut lines, field);
+    }
+    lines
 }
 
 // The fields of an object, and those of a request that validates it.
@@ -66,26 +62,30 @@ const CONDITIONS: [Conditions; 12] = [
     ),
 ];
 
-fn has_conditions(alloc: Global, object: &[Field], wanted: &str) -> Result<bool, Fail> {
-    let fields = conditions_for(alloc, object)?;
-    Ok(lines_of(alloc, fields.as_slice())?.as_str() == wanted)
+fn has_conditions<R: Abort>(rt: &R, alloc: Global, object: &[Field], wanted: &str) -> bool {
+    let fields = conditions_for(alloc, object).expect(rt, NO_MEMORY);
+    let lines = lines_of(rt, alloc, fields.as_slice());
+    let has_conditions = lines.as_str() == wanted;
+    drop(lines);
+    drop(fields);
+    has_conditions
 }
 
 struct ConditionsOf;
 
 impl Question<Conditions> for ConditionsOf {
-    fn holds(&self, alloc: Global, row: &Conditions) -> Result<bool, Fail> {
-        let object = stored(alloc, row.0)?;
-        Ok(
-            has_conditions(alloc, object.as_slice(), row.1)?
-                && has_validator(object.as_slice()) != row.1.is_empty(),
-        )
+    fn holds<R: Abort>(&self, rt: &R, alloc: Global, row: &Conditions) -> bool {
+        let object = stored(rt, alloc, row.0);
+        let has_conditions = has_conditions(rt, alloc, object.as_slice(), row.1);
+        let has_validator = has_validator(object.as_slice());
+        drop(object);
+        has_conditions && has_validator != row.1.is_empty()
     }
 }
 
 #[test]
-fn conditions_of_an_object(rt: HostRuntime) -> Result<(), Fail> {
-    all_hold(rt.alloc(), &CONDITIONS, &ConditionsOf)
+fn conditions_of_an_object(rt: HostRuntime) {
+    all_hold(&rt, rt.alloc(), &CONDITIONS, &ConditionsOf);
 }
 
 const TAGGED: &str = "ETag: \"a\"\nLast-Modified: Sat, 29 Oct 1994 19:43:31 GMT";
@@ -157,16 +157,19 @@ const ABOUT: [About; 24] = [
 struct IsAbout;
 
 impl Question<About> for IsAbout {
-    fn holds(&self, alloc: Global, row: &About) -> Result<bool, Fail> {
-        let head = head_of(alloc, row.0)?;
-        let fields = stored(alloc, row.1)?;
-        Ok(is_about(&head, fields.as_slice()) == row.2)
+    fn holds<R: Abort>(&self, rt: &R, alloc: Global, row: &About) -> bool {
+        let head = head_of(rt, alloc, row.0);
+        let fields = stored(rt, alloc, row.1);
+        let is_about = is_about(&head, fields.as_slice());
+        drop(fields);
+        drop(head);
+        is_about == row.2
     }
 }
 
 #[test]
-fn what_a_304_is_about(rt: HostRuntime) -> Result<(), Fail> {
-    all_hold(rt.alloc(), &ABOUT, &IsAbout)
+fn what_a_304_is_about(rt: HostRuntime) {
+    all_hold(&rt, rt.alloc(), &ABOUT, &IsAbout);
 }
 
 // The fields of an object, those of a 304, and what the object has then.
@@ -215,51 +218,86 @@ const UPDATED: [Updated; 14] = [
     ("X: 1", "Set-Cookie: a=b", "x: 1\nset-cookie: a=b"),
 ];
 
+fn has_line(lines: &str, line: &str) -> bool {
+    for other in lines.lines() {
+        if other == line {
+            return true;
+        }
+    }
+    false
+}
+
 // The lines of the text in another order.
 fn has_lines(lines: &str, wanted: &str) -> bool {
+    for line in wanted.lines() {
+        if !has_line(lines, line) {
+            return false;
+        }
+    }
     lines.lines().count() == wanted.lines().count()
-        && wanted
-            .lines()
-            .all(|line| lines.lines().any(|other| other == line))
 }
 
 // What an object with these fields has after a 304 with those.
-fn after(alloc: Global, object: &str, lines: &str) -> Result<String, Fail> {
-    let head = head_of(alloc, lines)?;
-    let fields = stored(alloc, object)?;
-    let after = updated(alloc, &head, fields.as_slice())?;
-    lines_of(alloc, after.as_slice())
+fn after<R: Abort>(rt: &R, alloc: Global, object: &str, lines: &str) -> Vec<Field> {
+    let head = head_of(rt, alloc, lines);
+    let fields = stored(rt, alloc, object);
+    let after = updated(alloc, &head, fields.as_slice()).expect(rt, "no 304");
+    drop(fields);
+    drop(head);
+    after
 }
 
 struct UpToDate;
 
 impl Question<Updated> for UpToDate {
-    fn holds(&self, alloc: Global, row: &Updated) -> Result<bool, Fail> {
-        Ok(has_lines(after(alloc, row.0, row.1)?.as_str(), row.2))
+    fn holds<R: Abort>(&self, rt: &R, alloc: Global, row: &Updated) -> bool {
+        let after = after(rt, alloc, row.0, row.1);
+        let lines = lines_of(rt, alloc, after.as_slice());
+        let has_lines = has_lines(lines.as_str(), row.2);
+        drop(lines);
+        drop(after);
+        has_lines
     }
 }
 
 // Fields of different names may be in any order.
 #[test]
-fn fields_brought_up_to_date(rt: HostRuntime) -> Result<(), Fail> {
-    all_hold(rt.alloc(), &UPDATED, &UpToDate)
+fn fields_brought_up_to_date(rt: HostRuntime) {
+    all_hold(&rt, rt.alloc(), &UPDATED, &UpToDate);
 }
 
-// The fault of bringing an object up to date by a Connection that names this many fields.
-fn fault_of_names(alloc: Global, count: usize) -> Result<Option<PassFault>, Fail> {
-    let more = times(alloc, ", a", count.saturating_sub(1))?;
-    let lines = format!(in alloc; "Connection: a{more}")?;
-    let head = head_of(alloc, lines.as_str())?;
-    Ok(updated(alloc, &head, &Vec::new(alloc)).err())
+// A Connection that names this many fields.
+fn connection_of<R: Abort>(rt: &R, alloc: Global, count: usize) -> String {
+    let mut line = String::from_str(alloc, "Connection: a").expect(rt, NO_MEMORY);
+    for _ in 1..count {
+        line.push_str(", a").expect(rt, NO_MEMORY);
+    }
+    line
+}
+
+// The fault of bringing an object up to date by such a field.
+fn fault_of_names<R: Abort>(rt: &R, alloc: Global, count: usize) -> Option<PassFault> {
+    let line = connection_of(rt, alloc, count);
+    let head = head_of(rt, alloc, line.as_str());
+    let object: Vec<Field> = Vec::new(alloc);
+    let updated = updated(alloc, &head, object.as_slice());
+    let fault = match &updated {
+        Ok(_) => None,
+        Err(fault) => Some(*fault),
+    };
+    drop(updated);
+    drop(object);
+    drop(head);
+    drop(line);
+    fault
 }
 
 // The 65th name is too many.
 #[test]
-fn names_in_connection(rt: HostRuntime) -> Result<(), Fail> {
-    assert!(rt; fault_of_names(rt.alloc(), 64)?.is_none());
-    let refused = fault_of_names(rt.alloc(), 65)?;
+fn names_in_connection(rt: HostRuntime) {
+    assert!(rt; fault_of_names(&rt, rt.alloc(), 64).is_none());
+    let refused = fault_of_names(&rt, rt.alloc(), 65);
     assert!(rt; matches!(refused, Some(PassFault::TooManyNames)));
-    Ok(())
 }
 
 // Requests, and whether the fetch for one may validate.
@@ -286,13 +324,13 @@ const VALIDATING: [Validating; 16] = [
 
 struct MayValidate;
 
-impl Question<Validating> for MayValidate {
-    fn holds(&self, alloc: Global, row: &Validating) -> Result<bool, Fail> {
-        Ok(may_validate(&head_of(alloc, row.0)?) == row.1)
+impl OfHead<bool> for MayValidate {
+    fn is_answer(&self, head: &HeaderMap, answer: &bool) -> bool {
+        may_validate(head) == *answer
     }
 }
 
 #[test]
-fn requests_that_validate(rt: HostRuntime) -> Result<(), Fail> {
-    all_hold(rt.alloc(), &VALIDATING, &MayValidate)
+fn requests_that_validate(rt: HostRuntime) {
+    heads_hold(&rt, rt.alloc(), &VALIDATING, &MayValidate);
 }
