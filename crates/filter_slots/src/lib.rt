@@ -3,7 +3,7 @@
 //! A received datagram is judged by the program of its socket, and what that lets through by the program of the
 //! neighbour that sent it. Contracts see the slots as lists of instructions (`specs/Filters.antt`), a datagram as a record,
 //! and the verdict as a function of both (`specs/Verdict.antt`). A verdict also truncates the payload (`cut`).
-//! Tested by: crates/test_codecs, crates/test_judging, crates/test_storm, must-fail edits.
+//! Tested by: crates/test_codecs, crates/test_loop, crates/test_storm, must-fail edits.
 #![tactic(auto)]
 
 pub mod comparing;

@@ -3,7 +3,7 @@
 //! Contracts see the traffic of a wire: what was received and sent, in order, if the wire reports it, and the number of its
 //! failures. `pump` submits exactly what such a wire received, tries each send once and passes every other action on. `MioWire`,
 //! over the system's sockets, reports only its number of failures.
-//! Tested by: crates/test_loop, crates/test_judging, more-edits.
+//! Tested by: crates/test_loop, more-edits.
 #![tactic(auto)]
 
 mod bell;

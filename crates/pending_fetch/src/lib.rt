@@ -3,7 +3,7 @@
 //! Contracts see one list of fetches in the order of opening, with the last number given (specs/Fetches.antt); the indexes
 //! beside the list are private, and an invariant ties them to it. At most 256 fetches are pending and 1,024 clients wait
 //! (src/bounds.rt).
-//! Tested by: src/pending/tests.rt, crates/test_judging, test_workers, test_loop, test_storm, test_refusals, must-fail edits.
+//! Tested by: src/pending/tests.rt, crates/test_loop, test_storm, test_refusals, must-fail edits.
 #![tactic(auto)]
 
 mod bounds;

@@ -1,169 +1,201 @@
-//! Two seats of one desk pump, one after the other.
-ghost use Rattle.std.specs.Prelude.{◌≡◌, IfSome};
+//! Desks of new nodes, and the seats of their threads.
+ghost use Rattle.std.specs.Prelude.{◌≡◌, ◌<◌, ◌≤◌, IfSome};
 ghost use Rattle.node_book.specs.Book.{count_of};
 
-use crate::fixtures::{
-    Step, WAITS, asks, fetches_from_origin, has_replied, node_of, pumped, wire_of,
-};
-use mio_queries::{PumpFault, Pumped, WireFault};
-use node_book::{Booked, Desk, Report, Seat, Seated};
-use node_core::Action;
+use crate::sites::{Site, counted_by, lone_of, node_of};
+use crate::workers::answered;
+use filter_slots::{Judged, Moment};
+use node_book::{Booked, Clerk, Desk, Receipt, Report, Seat, Seated, TakeFault};
+use node_core::{Counters, Out};
 use std::alloc::Global;
 use std::marker::Brand;
 use std::sync::Wait;
 use std::sync::ledger::{Blank, Ledger};
 
-/// What one seat's wire receives, and the expected result: what `pump` returns, the queries that are answered, and whether the
-/// pending fetch is passed on.
-struct Row {
-    steps: &'static [Step],
-    turns: u32,
-    gives: Result<Pumped, PumpFault>,
-    replied: &'static [usize],
-    fetches: bool,
-}
-
-/// A client waits at the first seat; its round ends at 3000.
-const FIRST: Row = Row {
-    steps: &[Step::Query(0), Step::Idle(2_999), Step::Query(1)],
-    turns: 3,
-    gives: Ok(Pumped {
-        received: 2,
-        idle: 1,
-        sent: 2,
-        failed: 0,
-    }),
-    replied: &[0, 1],
-    fetches: false,
-};
-
-/// The second seat's idle turn ends the round.
-const SECOND: Row = Row {
-    steps: &[
-        Step::Query(2),
-        Step::Idle(3_000),
-        Step::Fault(WireFault::Io),
-    ],
-    turns: 9,
-    gives: Err(PumpFault::Receive),
-    replied: &[2],
-    fetches: true,
-};
-
 /// The book of a new node.
-fn book_of(alloc: Global) -> Option<Booked>
+pub(crate) fn book_of(alloc: Global, site: &Site, volume: usize) -> Option<Booked>
     ensures { IfSome result (λ b. count_of b ≡ 0) }
 {
-    Booked::new(alloc, node_of(alloc, WAITS)?, 100).ok()
+    Booked::new(alloc, node_of(alloc, site)?, volume).ok()
 }
 
-/// A desk with two seats.
-fn desk_of<L: Ledger>(alloc: Global, blank: Blank) -> Option<(Desk<L>, Vec<Seat<L>>)>
+/// A book takes a judged datagram. On success `out` has its actions alone.
+pub(crate) fn booked(
+    alloc: Global,
+    book: &mut Booked,
+    judged: &Judged,
+    now: Moment,
+    out: &mut Out,
+) -> Result<Receipt, TakeFault> {
+    out.clear();
+    book.take_judged(alloc, judged, now, out)
+}
+
+/// The desk of a new node, and its seats.
+pub(crate) fn desk_of<L: Ledger>(
+    alloc: Global,
+    blank: Blank,
+    site: &Site,
+    volume: usize,
+    seats: u64,
+) -> Option<(Desk<L>, Vec<Seat<L>>)>
     requires name { blank.name ≡ L.name }
     requires parts { blank.parts ≡ L.parts }
-    requires two { blank.parts ≡ 2 }
+    requires one_each { blank.parts ≡ seats }
 {
-    let booked = book_of(alloc)?;
-    Desk::<L>::open(alloc, blank, booked, 2).ok()
+    let booked = book_of(alloc, site, volume)?;
+    Desk::<L>::open(alloc, blank, booked, seats).ok()
 }
 
-/// Whether the pending fetch was passed on, and nothing else.
-fn has_passed_fetch(passed: &[Action]) -> bool {
-    match passed {
-        [action] => fetches_from_origin(action, 1),
-        _ => false,
-    }
+/// The report of a settled desk, or `None` if it doesn't settle.
+pub(crate) fn settled<L: Ledger>(desk: Desk<L>, seats: Vec<Seat<L>>) -> Option<Report> {
+    desk.settle(seats).ok()
 }
 
-/// Pumps for a clerk. Returns whether the row holds, or `None` if an allocation fails.
-fn holds<L: Ledger, R: Wait>(
-    alloc: Global,
-    clerk: &mut Seated<'_, L, R>,
-    row: &Row,
-) -> Option<bool> {
-    let mut wire = wire_of(alloc, row.steps, &[])?;
-    let gives = pumped(alloc, &mut wire, clerk, row.turns);
-    let replied = has_replied(&wire, row.replied);
-    drop(wire);
-    Some(gives == row.gives && replied && has_passed_fetch(clerk.passed()) == row.fetches)
+/// What is asked of a clerk, whether it is a node's only one or sits at a desk.
+pub(crate) trait Story {
+    /// Whether it went as the story says, or `None` if something that it needs can't be made.
+    fn tell<C: Clerk>(&self, alloc: Global, clerk: &mut C) -> Option<bool>;
 }
 
-/// A client asks at the first seat, then both seats pump in turn. Returns whether each row holds, or `None` if the client's
-/// request is refused or an allocation fails.
-fn both_hold<L: Ledger, R: Wait>(
-    alloc: Global,
-    first: &mut Seated<'_, L, R>,
-    second: &mut Seated<'_, L, R>,
-) -> Option<(bool, bool)> {
-    if !asks(alloc, first, 1, b"http://a/") {
-        return None;
-    }
-    let one = holds(alloc, first, &FIRST)?;
-    Some((one, holds(alloc, second, &SECOND)?))
+/// Tells a story to the clerk of a new node. Also returns the ICP counters.
+pub(crate) fn alone<S: Story>(alloc: Global, site: &Site, story: &S) -> Option<(bool, Counters)> {
+    let mut clerk = lone_of(alloc, site)?;
+    let told = story.tell(alloc, &mut clerk);
+    let icp = counted_by(&clerk);
+    drop(clerk);
+    Some((told?, icp))
 }
 
-/// Takes both seats out of the list, first seat first.
-fn pair_of<L: Ledger>(seats: &mut Vec<Seat<L>>) -> Option<(Seat<L>, Seat<L>)> {
-    let second = seats.pop()?;
-    Some((seats.pop()?, second))
-}
-
-/// Both seats pump. Returns the result and the seats.
-fn seats_pump<L: Ledger, R: Wait>(
-    rt: &R,
-    alloc: Global,
-    desk: &Desk<L>,
-    first: Seat<L>,
-    second: Seat<L>,
-) -> (Option<(bool, bool)>, Seat<L>, Seat<L>) {
-    let mut first = Seated::new(alloc, rt, desk, first);
-    let mut second = Seated::new(alloc, rt, desk, second);
-    let hold = both_hold(alloc, &mut first, &mut second);
-    (hold, first.into_seat(), second.into_seat())
-}
-
-/// Both seats pump and are put back into the list.
-fn all_pump<L: Ledger, R: Wait>(
+/// Tells a story to a clerk at the last of the seats.
+fn told_at<L: Ledger, R: Wait, S: Story>(
     rt: &R,
     alloc: Global,
     desk: &Desk<L>,
     seats: &mut Vec<Seat<L>>,
-) -> Option<(bool, bool)> {
-    let (first, second) = pair_of(seats)?;
-    let (hold, first, second) = seats_pump(rt, alloc, desk, first, second);
-    let second_back = seats.push(second).ok();
-    let first_back = seats.push(first).ok();
-    second_back?;
-    first_back?;
-    hold
+    story: &S,
+) -> Option<bool> {
+    let mut clerk = Seated::new(alloc, rt, desk, seats.pop()?);
+    let told = story.tell(alloc, &mut clerk);
+    seats.push(clerk.into_seat()).ok()?;
+    told
 }
 
-/// The report of a settled desk, or `None` if it doesn't settle.
-fn report_of<L: Ledger>(desk: Desk<L>, seats: Vec<Seat<L>>) -> Option<Report> {
-    desk.settle(seats).ok()
-}
-
-/// Both seats of a new desk pump in turn, then the desk is settled. Returns whether each row holds, and the report.
-fn settled<L: Ledger, R: Wait>(rt: &R, alloc: Global, blank: Blank) -> Option<(bool, bool, Report)>
+/// The same at a new desk with one seat, which is settled. Also returns the ICP counters and the report.
+fn told<L: Ledger, R: Wait, S: Story>(
+    rt: &R,
+    alloc: Global,
+    blank: Blank,
+    site: &Site,
+    volume: usize,
+    story: &S,
+) -> Option<(bool, Counters, Report)>
     requires name { blank.name ≡ L.name }
     requires parts { blank.parts ≡ L.parts }
-    requires two { blank.parts ≡ 2 }
+    requires one { blank.parts ≡ 1 }
 {
-    let (desk, mut seats) = desk_of::<L>(alloc, blank)?;
-    let hold = all_pump(rt, alloc, &desk, &mut seats);
-    let report = report_of(desk, seats)?;
-    let (one, other) = hold?;
-    Some((one, other, report))
+    let (desk, mut seats) = desk_of::<L>(alloc, blank, site, volume, 1)?;
+    let told = told_at(rt, alloc, &desk, &mut seats, story);
+    let icp = desk.stats(rt).icp;
+    let report = settled(desk, seats)?;
+    Some((told?, icp, report))
 }
 
-/// The book has six events: the client's request, and one for each receive that succeeded.
-#[test]
-fn two_seats_pump(rt: HostRuntime) {
-    let wanted = Report {
-        count: 6,
-        base: 0,
-        matched: 6,
+/// Tells a story to a clerk at the one seat of a new node's desk, and settles that. Also returns the ICP counters and the report.
+pub(crate) fn at_desk<R: Wait, S: Story>(
+    rt: &R,
+    alloc: Global,
+    site: &Site,
+    volume: usize,
+    story: &S,
+) -> Option<(bool, Counters, Report)> {
+    told::<Brand, R, S>(rt, alloc, Blank::new(1), site, volume, story)
+}
+
+/// A seat whose thread has ended, what the thread counted, and how many clients the actions passed on there have answered.
+#[derive(Drop)]
+pub(crate) struct Ending<L: Ledger> {
+    seat: Seat<L>,
+    counted: u64,
+    answered: u64,
+}
+
+/// The sums over all threads.
+#[derive(Drop)]
+pub(crate) struct Sums {
+    pub(crate) counted: u64,
+    pub(crate) answered: u64,
+}
+
+/// The ending of a thread that has counted this, or `None` if it has failed.
+pub(crate) fn ended<L: Ledger, R: Wait>(
+    clerk: Seated<'_, L, R>,
+    counted: Option<u64>,
+) -> Option<Ending<L>> {
+    let answered = answered(clerk.passed()).all();
+    let seat = clerk.into_seat();
+    let Some(counted) = counted else {
+        drop(seat);
+        return None;
     };
-    let settled = settled::<Brand, _>(&rt, rt.alloc(), Blank::new(2));
-    assert!(rt; settled == Some((true, true, wanted)));
+    Some(Ending {
+        seat,
+        counted,
+        answered,
+    })
+}
+
+/// Adds a thread's ending to the sums, and its seat to the seats. Returns `None` if the thread has failed.
+fn add<L: Ledger>(
+    sums: &mut Sums,
+    seats: &mut Vec<Seat<L>>,
+    ending: Option<Ending<L>>,
+) -> Option<()> {
+    let Ending {
+        seat,
+        counted,
+        answered,
+    } = ending?;
+    sums.counted = sums.counted.saturating_add(counted);
+    sums.answered = sums.answered.saturating_add(answered);
+    seats.push(seat).ok()
+}
+
+/// Adds the endings of all threads.
+fn add_all<L: Ledger>(seats: &mut Vec<Seat<L>>, endings: Vec<Option<Ending<L>>>) -> Option<Sums> {
+    let mut sums = Sums {
+        counted: 0,
+        answered: 0,
+    };
+    for ending in endings {
+        add(&mut sums, seats, ending)?;
+    }
+    Some(sums)
+}
+
+/// The sums over all threads and their seats, or `None` if a thread has failed.
+fn summed<L: Ledger>(
+    alloc: Global,
+    endings: Option<Vec<Option<Ending<L>>>>,
+) -> Option<(Sums, Vec<Seat<L>>)> {
+    let endings = endings?;
+    let mut seats = Vec::new(alloc);
+    let Some(sums) = add_all(&mut seats, endings) else {
+        drop(seats);
+        return None;
+    };
+    Some((sums, seats))
+}
+
+/// The sums over all threads, and the report of the desk that is settled with their seats.
+pub(crate) fn settled_with<L: Ledger>(
+    alloc: Global,
+    desk: Desk<L>,
+    endings: Option<Vec<Option<Ending<L>>>>,
+) -> Option<(Sums, Report)> {
+    let Some((sums, seats)) = summed(alloc, endings) else {
+        drop(desk);
+        return None;
+    };
+    Some((sums, settled(desk, seats)?))
 }

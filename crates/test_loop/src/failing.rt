@@ -1,7 +1,9 @@
 //! Five queries, of which each receive and each send fails in turn.
-use crate::fixtures::{FIVE, Step, has_replied, pumped_alone, wire_of};
+use crate::rows::{Question, all_hold};
+use crate::wires::{FIVE, Script, Step, pumped_alone};
 use mio_queries::{PumpFault, Pumped, WireFault};
 use std::alloc::Global;
+use std::test::Fail;
 
 /// The index of the receive or send that fails, and the queries that are answered.
 struct Row {
@@ -42,30 +44,44 @@ fn steps_but(place: usize, fault: WireFault) -> [Step; 5] {
     steps
 }
 
-/// Pumps while one of five receives fails. Returns the error, and whether all earlier queries were judged and answered.
-fn loses(alloc: Global, row: &Row, fault: WireFault) -> Option<(Option<PumpFault>, bool)> {
-    let mut wire = wire_of(alloc, &steps_but(row.place, fault), &[])?;
-    let told = pumped_alone(alloc, &mut wire, 5);
-    let replied = has_replied(&wire, row.replied);
-    drop(wire);
-    let (gives, judged) = told?;
-    Some((gives.err(), replied && judged == row.replied.len() as u64))
+/// Pumping while one of five receives fails ends with this error, and all earlier queries were judged and answered.
+#[derive(Drop)]
+struct Loses {
+    fault: WireFault,
+    gives: PumpFault,
 }
 
-#[test]
-fn a_receive_fails(rt: HostRuntime) {
-    for row in &LOST {
-        let lost = loses(rt.alloc(), row, WireFault::Io);
-        assert!(rt; lost == Some((Some(PumpFault::Receive), true)));
+impl Question<Row> for Loses {
+    fn holds(&self, alloc: Global, row: &Row) -> Option<bool> {
+        let steps = steps_but(row.place, self.fault);
+        let script = Script {
+            steps: &steps,
+            failing: &[],
+            turns: 5,
+            replied: row.replied,
+        };
+        let (told, judged) = pumped_alone(alloc, &script)?;
+        let are_judged = judged == row.replied.len() as u64;
+        Some(told.gives == Err(self.gives) && told.replied && are_judged)
     }
 }
 
 #[test]
-fn a_receive_has_no_memory(rt: HostRuntime) {
-    for row in &LOST {
-        let lost = loses(rt.alloc(), row, WireFault::NoMemory);
-        assert!(rt; lost == Some((Some(PumpFault::NoMemory), true)));
-    }
+fn a_receive_fails(rt: HostRuntime) -> Result<(), Fail> {
+    let loses = Loses {
+        fault: WireFault::Io,
+        gives: PumpFault::Receive,
+    };
+    all_hold(rt.alloc(), &LOST, &loses)
+}
+
+#[test]
+fn a_receive_has_no_memory(rt: HostRuntime) -> Result<(), Fail> {
+    let loses = Loses {
+        fault: WireFault::NoMemory,
+        gives: PumpFault::NoMemory,
+    };
+    all_hold(rt.alloc(), &LOST, &loses)
 }
 
 /// A send fails; all others succeed, and the failed one isn't retried.
@@ -101,25 +117,32 @@ fn failing_at(place: usize) -> [bool; 5] {
     failing
 }
 
-/// Pumps while one of five sends fails. Returns what `pump` gives, and whether all others were sent and that one wasn't retried.
-fn leaves_out(alloc: Global, row: &Row) -> Option<(Option<Pumped>, bool)> {
-    let mut wire = wire_of(alloc, &FIVE, &failing_at(row.place))?;
-    let told = pumped_alone(alloc, &mut wire, 5);
-    let stands = has_replied(&wire, row.replied) && wire.faults() == 1;
-    drop(wire);
-    let (gives, _) = told?;
-    Some((gives.ok(), stands))
+/// What pumping returns while one of five sends fails.
+const LEFT_OUT: Pumped = Pumped {
+    received: 5,
+    idle: 0,
+    sent: 4,
+    failed: 1,
+};
+
+/// All others were sent then, and that one wasn't retried.
+struct LeavesOut;
+
+impl Question<Row> for LeavesOut {
+    fn holds(&self, alloc: Global, row: &Row) -> Option<bool> {
+        let failing = failing_at(row.place);
+        let script = Script {
+            steps: &FIVE,
+            failing: &failing,
+            turns: 5,
+            replied: row.replied,
+        };
+        let (told, _) = pumped_alone(alloc, &script)?;
+        Some(told.gives == Ok(LEFT_OUT) && told.replied && told.faults == 1)
+    }
 }
 
 #[test]
-fn a_send_fails(rt: HostRuntime) {
-    let wanted = Pumped {
-        received: 5,
-        idle: 0,
-        sent: 4,
-        failed: 1,
-    };
-    for row in &UNSENT {
-        assert!(rt; leaves_out(rt.alloc(), row) == Some((Some(wanted), true)));
-    }
+fn a_send_fails(rt: HostRuntime) -> Result<(), Fail> {
+    all_hold(rt.alloc(), &UNSENT, &LeavesOut)
 }

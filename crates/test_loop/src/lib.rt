@@ -1,22 +1,59 @@
-//! Tests of the query loop of `mio_queries` over in-memory wires, for a single node and for the seats of a desk.
+//! Tests of what submits events to a node: the loop over the query sockets, datagrams that were judged before, and fetch workers.
 //!
-//! Receives and sends fail in turn, and clerks refuse events; each test compares what was received, sent and passed on. The
-//! functions have only the contracts that opening a desk needs.
+//! The loop of `mio_queries` runs over in-memory wires whose receives and sends fail in turn, for a node alone and for the seats of a
+//! desk. Filters are swapped between judging a datagram and taking it, also by another thread; one test compares times, within its
+//! own run, since nothing else tells that a datagram isn't judged twice. Workers with in-memory fetchers overlap at one desk. A
+//! clerk refuses events, keys and actions. The functions have only the contracts that opening a desk needs.
+//!
+//! Shared by the tests: `rows` (tables), `messages`, `sites` (nodes), `events`, `wires`, `desks`, `refusing` (a clerk that
+//! refuses) and `workers`.
 //!
 //! Tested by: nothing, it consists of tests.
 #![tactic(auto)]
 
 #[cfg(test)]
+mod crowds;
+#[cfg(test)]
 mod desks;
+#[cfg(test)]
+mod events;
 #[cfg(test)]
 mod failing;
 #[cfg(test)]
-mod fixtures;
-#[cfg(test)]
 mod limited;
+#[cfg(test)]
+mod messages;
+#[cfg(test)]
+mod once;
+#[cfg(test)]
+mod orders;
+#[cfg(test)]
+mod overlapping;
 #[cfg(test)]
 mod passing;
 #[cfg(test)]
+mod pumping;
+#[cfg(test)]
+mod refusing;
+#[cfg(test)]
+mod rows;
+#[cfg(test)]
 mod scripted;
 #[cfg(test)]
+mod sharing;
+#[cfg(test)]
+mod silence;
+#[cfg(test)]
+mod sites;
+#[cfg(test)]
 mod sizes;
+#[cfg(test)]
+mod two_seats;
+#[cfg(test)]
+mod wires;
+#[cfg(test)]
+mod worker_refusals;
+#[cfg(test)]
+mod worker_threads;
+#[cfg(test)]
+mod workers;

@@ -1,91 +1,13 @@
 //! A clerk that refuses: what was done before the refusal stays done.
-ghost use Rattle.std.specs.Prelude.{◌≡◌, ◌≤◌, ◌+◌, ◌∷◌, [], IfOk, IfSome, OnOk, OnErr, IsErrOf};
-ghost use Rattle.std.specs.Option.{option_map};
-ghost use Rattle.std.specs.Arc.{arc_value};
-ghost use Rattle.pending_fetch.specs.Fetches.{fetch_of};
-ghost use Rattle.node_core.specs.Happening.{arrives, happening};
-ghost use Rattle.node_book.specs.Told.{Told, Submits, passing};
-
-use crate::fixtures::{ALONE, FIVE, Step, WAITS, asked, has_replied, lone, pumped, wire_of};
-use filter_slots::{Datagram, Judged, Moment};
-use mio_queries::{NoMemory, PumpFault};
-use node_book::{Clerk, Lone, SubmitFault};
-use node_core::{Action, Event, Out};
-use object_store::CacheKey;
+use crate::events::asked_by_two;
+use crate::refusing::{Left, NOTHING, Refusing};
+use crate::rows::{Question, all_hold};
+use crate::sites::{ALONE, WAITS, lone_of};
+use crate::wires::{FIVE, Script, Step, pumped};
+use mio_queries::PumpFault;
+use node_book::{Lone, SubmitFault};
 use std::alloc::Global;
-use std::sync::Arc;
-
-/// Wraps a clerk and lets only so many more events be submitted and actions be passed on.
-#[derive(Drop)]
-struct Limited<C> {
-    clerk: C,
-    events: u32,
-    passes: u32,
-    // The error for the first event too many.
-    fault: SubmitFault,
-}
-
-/// Decrements a counter. Returns `false` if it is 0 already.
-fn takes_one(left: &mut u32) -> bool {
-    match left.checked_sub(1) {
-        Some(fewer) => {
-            *left = fewer;
-            true
-        }
-        None => false,
-    }
-}
-
-impl<C: Clerk> Clerk for Limited<C> {
-    ghost use Rattle.std.specs.Prelude.{None};
-
-    // Nothing of a node, as this clerk may refuse whatever the number of the next event is.
-    ghost told = { λ l. record (C.told l.clerk) { node = None } };
-
-    ghost taken = { λ l. C.taken l.clerk };
-
-    ghost programs = { λ l. C.programs l.clerk };
-
-    fn submit(
-        &mut self,
-        alloc: Global,
-        event: Arc<Event>,
-        out: &mut Out,
-    ) -> Result<u64, SubmitFault> {
-        if !takes_one(&mut self.events) {
-            return Err(self.fault);
-        }
-        self.clerk.submit(alloc, event, out)
-    }
-
-    fn submit_judged(
-        &mut self,
-        alloc: Global,
-        judged: &Judged,
-        now: Moment,
-        out: &mut Out,
-    ) -> Result<u64, SubmitFault> {
-        if !takes_one(&mut self.events) {
-            return Err(self.fault);
-        }
-        self.clerk.submit_judged(alloc, judged, now, out)
-    }
-
-    fn judge(&mut self, datagram: Arc<Datagram>) -> Result<Judged, NoMemory> {
-        self.clerk.judge(datagram)
-    }
-
-    fn pass(&mut self, alloc: Global, action: &Action) -> Result<(), NoMemory> {
-        if !takes_one(&mut self.passes) {
-            return Err(NoMemory);
-        }
-        self.clerk.pass(alloc, action)
-    }
-
-    fn key_of(&mut self, alloc: Global, fetch: u32) -> Result<Option<CacheKey>, NoMemory> {
-        self.clerk.key_of(alloc, fetch)
-    }
-}
+use std::test::Fail;
 
 /// The number of events that a clerk takes before it refuses with `fault`, and the expected result of pumping five queries: the
 /// error, and the queries that are answered.
@@ -130,62 +52,85 @@ const ROWS: [Row; 5] = [
 ];
 
 /// Pumps five queries. Returns whether the row holds: its error, its replies, and one more query received than answered.
-fn holds(alloc: Global, clerk: &mut Limited<Lone>, row: &Row) -> Option<bool> {
-    let mut wire = wire_of(alloc, &FIVE, &[])?;
-    let gives = pumped(alloc, &mut wire, clerk, 5);
-    let one_more = wire.taken().checked_sub(1) == Some(row.replied.len());
-    let replied = has_replied(&wire, row.replied);
-    drop(wire);
-    Some(gives.err() == Some(row.gives) && one_more && replied)
-}
-
-/// Whether a row holds for a new node's clerk, or `None` if an allocation fails.
-fn row_holds(alloc: Global, row: &Row) -> Option<bool> {
-    let mut clerk = Limited {
-        clerk: lone(alloc, ALONE)?,
-        events: row.events,
-        passes: 0,
-        fault: row.fault,
+fn holds(alloc: Global, clerk: &mut Refusing<Lone>, row: &Row) -> Option<bool> {
+    let script = Script {
+        steps: &FIVE,
+        failing: &[],
+        turns: 5,
+        replied: row.replied,
     };
-    let holds = holds(alloc, &mut clerk, row);
-    drop(clerk);
-    holds
+    let told = pumped(alloc, clerk, &script)?;
+    let one_more = told.taken.checked_sub(1) == Some(row.replied.len());
+    Some(told.gives == Err(row.gives) && one_more && told.replied)
 }
 
-#[test]
-fn a_clerk_takes_no_more(rt: HostRuntime) {
-    for row in &ROWS {
-        assert!(rt; row_holds(rt.alloc(), row) == Some(true));
+/// A row, for a new node's clerk.
+struct TakesNoMore;
+
+impl Question<Row> for TakesNoMore {
+    fn holds(&self, alloc: Global, row: &Row) -> Option<bool> {
+        let left = Left {
+            events: row.events,
+            room: 0,
+            fault: row.fault,
+            ..NOTHING
+        };
+        let mut clerk = Refusing::new(alloc, lone_of(alloc, &ALONE)?, left);
+        let holds = holds(alloc, &mut clerk, row);
+        drop(clerk);
+        holds
     }
 }
 
-/// Pumps an idle turn at 3000 and a query. Returns the error, if there is one.
-fn fault_after_idle(alloc: Global, clerk: &mut Limited<Lone>) -> Option<Option<PumpFault>> {
-    let mut wire = wire_of(alloc, &[Step::Idle(3_000), Step::Query(0)], &[])?;
-    let gives = pumped(alloc, &mut wire, clerk, 2);
-    drop(wire);
-    Some(gives.err())
+#[test]
+fn a_clerk_takes_no_more(rt: HostRuntime) -> Result<(), Fail> {
+    all_hold(rt.alloc(), &ROWS, &TakesNoMore)
 }
 
-/// Pumps an idle turn in which two fetches are due, while the clerk takes only `passes` actions. Returns the error, if there is
-/// one, and how many actions were passed on.
-fn passes(alloc: Global, passes: u32) -> Option<(Option<PumpFault>, usize)> {
-    let mut clerk = Limited {
-        clerk: asked(alloc, WAITS)?,
+/// An idle turn at 3000, in which two fetches are due, and a query.
+const IDLE_THEN_QUERY: Script<'static> = Script {
+    steps: &[Step::Idle(3_000), Step::Query(0)],
+    failing: &[],
+    turns: 2,
+    replied: &[],
+};
+
+/// Pumps these while the clerk takes only `room` actions. Returns the error, if there is one, and how many actions were passed on.
+fn passes(alloc: Global, room: u32) -> Option<(Option<PumpFault>, usize)> {
+    let left = Left {
         events: 2,
-        passes,
+        room,
         fault: SubmitFault::Ended,
+        ..NOTHING
     };
-    let gives = fault_after_idle(alloc, &mut clerk);
+    let lone = asked_by_two(alloc, &WAITS, b"http://a/", b"http://b/")?;
+    let mut clerk = Refusing::new(alloc, lone, left);
+    let told = pumped(alloc, &mut clerk, &IDLE_THEN_QUERY);
     let passed = clerk.clerk.passed().len();
     drop(clerk);
-    Some((gives?, passed))
+    Some((told?.gives.err(), passed))
+}
+
+/// How many actions a clerk takes, the error, if there is one, and how many actions are passed on.
+type Room = (u32, Option<PumpFault>, usize);
+
+const ROOMS: [Room; 3] = [
+    (0, Some(PumpFault::NoMemory), 0),
+    (1, Some(PumpFault::NoMemory), 1),
+    (2, None, 2),
+];
+
+/// A row, for a new node's clerk.
+struct HasRoom;
+
+impl Question<Room> for HasRoom {
+    fn holds(&self, alloc: Global, row: &Room) -> Option<bool> {
+        let (room, fault, passed) = *row;
+        Some(passes(alloc, room)? == (fault, passed))
+    }
 }
 
 #[test]
-fn a_clerk_has_no_room(rt: HostRuntime) {
-    let alloc = rt.alloc();
-    assert!(rt; passes(alloc, 0) == Some((Some(PumpFault::NoMemory), 0)));
-    assert!(rt; passes(alloc, 1) == Some((Some(PumpFault::NoMemory), 1)));
-    assert!(rt; passes(alloc, 2) == Some((None, 2)));
+fn a_clerk_has_no_room(rt: HostRuntime) -> Result<(), Fail> {
+    all_hold(rt.alloc(), &ROOMS, &HasRoom)
 }

@@ -1,118 +1,128 @@
 //! Pumping over in-memory wires with scripted receives and failures.
-use crate::fixtures::{Step, has_replied, pumped_alone, wire_of};
+use crate::rows::{Question, all_hold};
+use crate::wires::{Script, Step, pumped_alone};
 use mio_queries::{PumpFault, Pumped, WireFault};
 use std::alloc::Global;
+use std::test::Fail;
 
-/// A wire's script, and the expected result: what `pump` returns, the queries that are answered, and the number of datagrams
-/// judged.
-struct Row {
-    steps: &'static [Step],
-    failing: &'static [bool],
-    turns: u32,
-    gives: Result<Pumped, PumpFault>,
-    replied: &'static [usize],
-    judged: u64,
+/// A wire's script, and what is expected: what `pump` returns, and the number of datagrams judged.
+pub(crate) struct Row {
+    pub(crate) script: Script<'static>,
+    pub(crate) gives: Result<Pumped, PumpFault>,
+    pub(crate) judged: u64,
 }
 
 const ROWS: [Row; 7] = [
     Row {
-        steps: &[Step::Query(0), Step::Idle(6), Step::Idle(7)],
-        failing: &[],
-        turns: 3,
+        script: Script {
+            steps: &[Step::Query(0), Step::Idle(6), Step::Idle(7)],
+            failing: &[],
+            turns: 3,
+            replied: &[0],
+        },
         gives: Ok(Pumped {
             received: 1,
             idle: 2,
             sent: 1,
             failed: 0,
         }),
-        replied: &[0],
         judged: 1,
     },
     // The first send fails.
     Row {
-        steps: &[Step::Query(0), Step::Idle(6), Step::Idle(7)],
-        failing: &[true],
-        turns: 3,
+        script: Script {
+            steps: &[Step::Query(0), Step::Idle(6), Step::Idle(7)],
+            failing: &[true],
+            turns: 3,
+            replied: &[],
+        },
         gives: Ok(Pumped {
             received: 1,
             idle: 2,
             sent: 0,
             failed: 1,
         }),
-        replied: &[],
         judged: 1,
     },
     // The reply of the last turn is sent too.
     Row {
-        steps: &[Step::Query(0)],
-        failing: &[],
-        turns: 1,
+        script: Script {
+            steps: &[Step::Query(0)],
+            failing: &[],
+            turns: 1,
+            replied: &[0],
+        },
         gives: Ok(Pumped {
             received: 1,
             idle: 0,
             sent: 1,
             failed: 0,
         }),
-        replied: &[0],
         judged: 1,
     },
     Row {
-        steps: &[Step::Query(0)],
-        failing: &[],
-        turns: 0,
+        script: Script {
+            steps: &[Step::Query(0)],
+            failing: &[],
+            turns: 0,
+            replied: &[],
+        },
         gives: Ok(Pumped {
             received: 0,
             idle: 0,
             sent: 0,
             failed: 0,
         }),
-        replied: &[],
         judged: 0,
     },
     Row {
-        steps: &[Step::Query(0), Step::Fault(WireFault::Io), Step::Query(1)],
-        failing: &[],
-        turns: 3,
+        script: Script {
+            steps: &[Step::Query(0), Step::Fault(WireFault::Io), Step::Query(1)],
+            failing: &[],
+            turns: 3,
+            replied: &[0],
+        },
         gives: Err(PumpFault::Receive),
-        replied: &[0],
         judged: 1,
     },
     Row {
-        steps: &[
-            Step::Query(0),
-            Step::Fault(WireFault::NoMemory),
-            Step::Query(1),
-        ],
-        failing: &[],
-        turns: 3,
+        script: Script {
+            steps: &[
+                Step::Query(0),
+                Step::Fault(WireFault::NoMemory),
+                Step::Query(1),
+            ],
+            failing: &[],
+            turns: 3,
+            replied: &[0],
+        },
         gives: Err(PumpFault::NoMemory),
-        replied: &[0],
         judged: 1,
     },
     // The script has ended.
     Row {
-        steps: &[Step::Query(0)],
-        failing: &[],
-        turns: 2,
+        script: Script {
+            steps: &[Step::Query(0)],
+            failing: &[],
+            turns: 2,
+            replied: &[0],
+        },
         gives: Err(PumpFault::Receive),
-        replied: &[0],
         judged: 1,
     },
 ];
 
-/// Whether a row holds, or `None` if an allocation fails.
-fn holds(alloc: Global, row: &Row) -> Option<bool> {
-    let mut wire = wire_of(alloc, row.steps, row.failing)?;
-    let told = pumped_alone(alloc, &mut wire, row.turns);
-    let replied = has_replied(&wire, row.replied);
-    drop(wire);
-    let (gives, judged) = told?;
-    Some(gives == row.gives && replied && judged == row.judged)
+/// A row, for a new node by itself.
+pub(crate) struct AsScripted;
+
+impl Question<Row> for AsScripted {
+    fn holds(&self, alloc: Global, row: &Row) -> Option<bool> {
+        let (told, judged) = pumped_alone(alloc, &row.script)?;
+        Some(told.gives == row.gives && told.replied && judged == row.judged)
+    }
 }
 
 #[test]
-fn rows_hold(rt: HostRuntime) {
-    for row in &ROWS {
-        assert!(rt; holds(rt.alloc(), row) == Some(true));
-    }
+fn rows_hold(rt: HostRuntime) -> Result<(), Fail> {
+    all_hold(rt.alloc(), &ROWS, &AsScripted)
 }

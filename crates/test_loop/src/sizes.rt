@@ -1,49 +1,42 @@
 //! Datagrams of all lengths.
 
-use crate::fixtures::{OWN, PEER, pumped_alone};
-use filter_slots::{Datagram, Moment, Socket};
-use mio_queries::{MemoryWire, Pumped, Received, WireFault};
-use std::alloc::Global;
-use std::sync::Arc;
+use crate::rows::all_hold;
+use crate::scripted::{AsScripted, Row};
+use crate::wires::{Script, Step};
+use mio_queries::Pumped;
+use std::test::Fail;
 
-/// Lengths of payloads, from the shortest to the longest.
-const SIZES: [usize; 12] = [
-    0, 1, 512, 999, 1_000, 1_472, 4_096, 16_384, 32_768, 60_000, 60_001, 65_507,
-];
-
-/// A datagram of this many octets, which are no message.
-fn arrival(alloc: Global, size: usize) -> Option<Received> {
-    let now = Moment::new(5)?;
-    let payload = vec![in alloc; 0u8; size].ok()?;
-    let datagram = Datagram::new(Socket::Icp, PEER, OWN, payload).ok()?;
-    Some(Received::Datagram(Arc::new(alloc, datagram).ok()?, now))
-}
-
-/// A datagram of each length.
-fn arrivals(alloc: Global) -> Option<Vec<Result<Received, WireFault>>> {
-    let mut arrivals = Vec::new(alloc);
-    for size in &SIZES {
-        arrivals.push(Ok(arrival(alloc, *size)?)).ok()?;
-    }
-    Some(arrivals)
-}
-
-/// What a loop of a turn for each datagram gives, and how many the node judged.
-fn taken(alloc: Global) -> Option<(Pumped, u64)> {
-    let mut wire = MemoryWire::new(alloc, arrivals(alloc)?, Vec::new(alloc));
-    let told = pumped_alone(alloc, &mut wire, 12);
-    drop(wire);
-    let (gives, judged) = told?;
-    Some((gives.ok()?, judged))
-}
-
-#[test]
-fn payloads_of_all_lengths_are_taken(rt: HostRuntime) {
-    let all = Pumped {
+/// Payloads from the shortest to the longest, with a turn for each.
+const ROWS: [Row; 1] = [Row {
+    script: Script {
+        steps: &[
+            Step::Zeros(0),
+            Step::Zeros(1),
+            Step::Zeros(512),
+            Step::Zeros(999),
+            Step::Zeros(1_000),
+            Step::Zeros(1_472),
+            Step::Zeros(4_096),
+            Step::Zeros(16_384),
+            Step::Zeros(32_768),
+            Step::Zeros(60_000),
+            Step::Zeros(60_001),
+            Step::Zeros(65_507),
+        ],
+        failing: &[],
+        turns: 12,
+        replied: &[],
+    },
+    gives: Ok(Pumped {
         received: 12,
         idle: 0,
         sent: 0,
         failed: 0,
-    };
-    assert!(rt; taken(rt.alloc()) == Some((all, 12)));
+    }),
+    judged: 12,
+}];
+
+#[test]
+fn payloads_of_all_lengths_are_taken(rt: HostRuntime) -> Result<(), Fail> {
+    all_hold(rt.alloc(), &ROWS, &AsScripted)
 }
