@@ -1,9 +1,9 @@
 //! Tests of how many octets of contents a book and a seat keep, and of comparing receipts while a desk is open. A query has 34.
-ghost use Rattle.std.specs.Prelude.{◌≡◌, IfSome};
-ghost use Rattle.node_book.specs.Book.{count_of};
+ghost use Rattle.std.specs.Prelude.{◌≡◌};
 
-use crate::desks::{book_of, desk_of, submit};
+use crate::desks::{desk_of, desk_with_room, submit_all};
 use crate::events::{node_of, query};
+use crate::loads::Load;
 use node_book::{BookFault, Booked, Desk, Report, Seat};
 use node_core::Out;
 use std::alloc::Global;
@@ -75,21 +75,6 @@ fn a_book_without_octets_is_refused(rt: HostRuntime) {
     assert!(rt; refused(rt.alloc()) == Some(BookFault::Limits));
 }
 
-/// Submits so many queries through a seat.
-fn submit_queries<L: Ledger, R: Wait>(
-    rt: &R,
-    alloc: Global,
-    desk: &Desk<L>,
-    seat: &mut Seat<L>,
-    count: u64,
-) -> Option<()> {
-    let mut out = Out::new(alloc).ok()?;
-    for i in 0..count {
-        submit(rt, alloc, desk, seat, query(alloc, i + 1)?, &mut out)?;
-    }
-    Some(())
-}
-
 /// The number of receipts that the first seat keeps of three queries.
 fn kept_of_three<L: Ledger, R: Wait>(
     rt: &R,
@@ -98,7 +83,7 @@ fn kept_of_three<L: Ledger, R: Wait>(
     seats: &mut Vec<Seat<L>>,
 ) -> Option<usize> {
     let seat = seats.first_mut()?;
-    submit_queries(rt, alloc, desk, seat, 3)?;
+    submit_all(rt, alloc, desk, seat, Load::Queries, 3)?;
     Some(seat.len())
 }
 
@@ -108,7 +93,7 @@ fn kept<L: Ledger, R: Wait>(rt: &R, alloc: Global, blank: Blank, room: u32) -> O
     requires parts { blank.parts ≡ L.parts }
     requires one { blank.parts ≡ 1 }
 {
-    let (desk, mut seats) = Desk::<L>::open_with(alloc, blank, book_of(alloc, 100)?, 1, room).ok()?;
+    let (desk, mut seats) = desk_with_room::<L>(alloc, blank, 100, room)?;
     let kept = kept_of_three(rt, alloc, &desk, &mut seats);
     drop(seats);
     drop(desk);
@@ -133,7 +118,7 @@ fn left_by_audits<L: Ledger, R: Wait>(
     seats: &mut Vec<Seat<L>>,
 ) -> Option<[usize; 2]> {
     let seat = seats.first_mut()?;
-    submit_queries(rt, alloc, desk, seat, 20)?;
+    submit_all(rt, alloc, desk, seat, Load::Queries, 20)?;
     let first = desk.audit(rt, seat);
     let left = seat.len();
     let second = desk.audit(rt, seat);

@@ -2,7 +2,7 @@
 ghost use Rattle.std.specs.Prelude.{◌≡◌, ◌<◌, ◌≤◌, IfSome};
 ghost use Rattle.node_book.specs.Book.{count_of};
 
-use crate::events::node_of;
+use crate::events::{all_of, node_of};
 use crate::loads::{Load, event_of};
 use node_book::{Booked, Desk, OpenFault, Report, Seat, SettleFault};
 use node_core::{Event, Out};
@@ -94,7 +94,7 @@ pub(crate) fn submit<L: Ledger, R: Wait>(
 }
 
 /// Submits events through a seat.
-fn submit_all<L: Ledger, R: Wait>(
+pub(crate) fn submit_all<L: Ledger, R: Wait>(
     rt: &R,
     alloc: Global,
     desk: &Desk<L>,
@@ -142,6 +142,21 @@ pub(crate) fn desk_of<L: Ledger>(
     Desk::<L>::open(alloc, blank, booked, seats).ok()
 }
 
+/// The desk of a new node, and its only seat, whose receipts keep at most `room` octets of contents.
+pub(crate) fn desk_with_room<L: Ledger>(
+    alloc: Global,
+    blank: Blank,
+    volume: usize,
+    room: u32,
+) -> Option<(Desk<L>, Vec<Seat<L>>)>
+    requires name { blank.name ≡ L.name }
+    requires parts { blank.parts ≡ L.parts }
+    requires one { blank.parts ≡ 1 }
+{
+    let booked = book_of(alloc, volume)?;
+    Desk::<L>::open_with(alloc, blank, booked, 1, room).ok()
+}
+
 /// Submits events from one thread per seat and returns the seats.
 pub(crate) fn worked<L: Ledger + Send + Sync, R: Threads + Wait + Sync>(
     rt: &R,
@@ -153,15 +168,6 @@ pub(crate) fn worked<L: Ledger + Send + Sync, R: Threads + Wait + Sync>(
     let (load, each) = (row.load, row.each);
     let done = thread::map_vec(rt, seats, &|seat| call(rt, alloc, desk, seat, load, each)).ok()?;
     all_of(alloc, done)
-}
-
-/// The seats, if none is missing.
-fn all_of<L: Ledger>(alloc: Global, done: Vec<Option<Seat<L>>>) -> Option<Vec<Seat<L>>> {
-    let mut back = Vec::new(alloc);
-    for seat in done {
-        back.push(seat?).ok()?;
-    }
-    Some(back)
 }
 
 /// The report of a desk that is settled with its seats, if there are any.

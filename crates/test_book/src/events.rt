@@ -1,7 +1,8 @@
-//! Fixtures: a node, and events for it.
+//! Fixtures: nodes, events for them, and what they are made of.
 
 use bpf_check::{Checked, Insn, check};
 use filter_slots::{Datagram, End, Moment, Slot, Socket};
+use neighbours::{Neighbour, Role};
 use node_core::{Config, Event, Mode, Network, Node, Outcome};
 use object_store::{CacheKey, Object, SharedObject};
 use std::alloc::Global;
@@ -12,55 +13,140 @@ const OWN: End = End {
     port: 3130,
 };
 
-const OWN_HTCP: End = End {
-    addr: [10, 0, 0, 1],
-    port: 4827,
+/// The neighbour that asks and replies.
+pub(crate) const PEER: End = End {
+    addr: [10, 0, 0, 9],
+    port: 3130,
 };
 
 /// An ICP query for `http://a/`.
 pub(crate) const QUERY: &[u8] =
     b"\x01\x02\x00\x22\x00\x00\x00\x01\x00\x00\x00\x00\x00\x00\x00\x00\x00\x00\x00\x00\x00\x00\x00\x00http://a/\x00";
 
-/// The configuration of a node at 10.0.0.1 that answers queries from 10.0.0.0/8.
-fn settings(alloc: Global) -> Option<Config> {
-    let mut allowed = Vec::new(alloc);
+/// The MISS reply of a node at 10.0.0.1 to the query.
+pub(crate) const MISS: &[u8] =
+    b"\x03\x02\x00\x1e\x00\x00\x00\x01\x00\x00\x00\x00\x00\x00\x00\x00\x0a\x00\x00\x01http://a/\x00";
+
+/// What the nodes of these tests differ in: the port for HTCP, the prefix of the network 10.0.0.0 whose queries are answered, the
+/// limits of the store, and the number of neighbours, all of which are at the node's own address.
+#[derive(Clone, Copy)]
+pub(crate) struct Settings {
+    pub(crate) htcp_port: u16,
+    pub(crate) prefix: u8,
+    pub(crate) entries: u32,
+    pub(crate) octets: u32,
+    pub(crate) neighbours: u8,
+}
+
+/// The settings of most nodes.
+pub(crate) const USUAL: Settings = Settings {
+    htcp_port: 4827,
+    prefix: 8,
+    entries: 100,
+    octets: 10_000,
+    neighbours: 0,
+};
+
+/// The network 10.0.0.0 with this prefix.
+fn allowed(alloc: Global, prefix: u8) -> Option<Vec<Network>> {
     let ten = Network {
         addr: [10, 0, 0, 0],
-        prefix: 8,
+        prefix,
     };
-    allowed.push(ten).ok()?;
+    Vec::from_array(alloc, [ten]).ok()
+}
+
+/// This many neighbours, all at the node's own address.
+fn neighbours_of(alloc: Global, count: u8) -> Option<Vec<Neighbour>> {
+    let mut list = Vec::new(alloc);
+    for _ in 0..count {
+        let neighbour = Neighbour {
+            kind: Role::Parent,
+            protocol: Socket::Icp,
+            end: OWN,
+            http_port: 3128,
+            weight: 1,
+            key: None,
+        };
+        list.push(neighbour).ok()?;
+    }
+    Some(list)
+}
+
+/// The configuration of a node at 10.0.0.1.
+pub(crate) fn config_of(alloc: Global, settings: &Settings) -> Option<Config> {
+    let allowed = allowed(alloc, settings.prefix)?;
+    let neighbours = neighbours_of(alloc, settings.neighbours)?;
+    let addr = OWN.addr;
+    let htcp = End {
+        addr,
+        port: settings.htcp_port,
+    };
     Some(Config {
         icp: OWN,
-        htcp: OWN_HTCP,
+        htcp,
         allowed,
         miss_nofetch: false,
         origin: true,
-        entries: 100,
-        octets: 10_000,
-        neighbours: Vec::new(alloc),
+        entries: settings.entries,
+        octets: settings.octets,
+        neighbours,
         keys: Vec::new(alloc),
     })
 }
 
-/// A node at 10.0.0.1 that answers queries from 10.0.0.0/8.
-pub(crate) fn node_of(alloc: Global) -> Option<Node> {
-    Node::new(alloc, settings(alloc)?).ok()
+/// A node at 10.0.0.1.
+pub(crate) fn node_with(alloc: Global, settings: &Settings) -> Option<Node> {
+    Node::new(alloc, config_of(alloc, settings)?).ok()
 }
 
-/// A datagram from 10.0.0.9.
-pub(crate) fn datagram_of(alloc: Global, socket: Socket, octets: &[u8]) -> Option<Arc<Datagram>> {
-    let from = End {
-        addr: [10, 0, 0, 9],
-        port: 3130,
-    };
+/// A node at 10.0.0.1 that answers queries from 10.0.0.0/8.
+pub(crate) fn node_of(alloc: Global) -> Option<Node> {
+    node_with(alloc, &USUAL)
+}
+
+/// A datagram for the node.
+pub(crate) fn datagram_of(
+    alloc: Global,
+    socket: Socket,
+    from: End,
+    octets: &[u8],
+) -> Option<Arc<Datagram>> {
     let payload = octets.to_vec(alloc).ok()?;
     let datagram = Datagram::new(socket, from, OWN, payload).ok()?;
     Arc::new(alloc, datagram).ok()
 }
 
-/// The arrival of a datagram from 10.0.0.9.
+/// The arrival of a datagram from the neighbour.
 pub(crate) fn arrival(alloc: Global, socket: Socket, octets: &[u8], now: Moment) -> Option<Event> {
-    let datagram = datagram_of(alloc, socket, octets)?;
+    let datagram = datagram_of(alloc, socket, PEER, octets)?;
+    Some(Event::Datagram { datagram, now })
+}
+
+/// A query, the socket that it arrives at, the address of its sender, and the expected reply.
+pub(crate) struct Exchange {
+    pub(crate) socket: Socket,
+    pub(crate) from: [u8; 4],
+    pub(crate) query: &'static [u8],
+    pub(crate) reply: &'static [u8],
+}
+
+/// The neighbour's query, and the reply of a node with nothing stored.
+pub(crate) const MISSED: Exchange = Exchange {
+    socket: Socket::Icp,
+    from: [10, 0, 0, 9],
+    query: QUERY,
+    reply: MISS,
+};
+
+/// The arrival of the query of an exchange.
+pub(crate) fn asked(alloc: Global, exchange: &Exchange) -> Option<Event> {
+    let from = End {
+        addr: exchange.from,
+        port: 3130,
+    };
+    let now = Moment::new(5)?;
+    let datagram = datagram_of(alloc, exchange.socket, from, exchange.query)?;
     Some(Event::Datagram { datagram, now })
 }
 
@@ -87,10 +173,20 @@ pub(crate) fn request(alloc: Global, client: u64, mode: Mode, now: Moment) -> Op
     })
 }
 
+/// An object of status 200 with the body `hi`, no header fields and a time to live of 60 seconds.
+pub(crate) fn greeting(alloc: Global) -> Option<SharedObject> {
+    let body = b"hi".to_vec(alloc).ok()?;
+    SharedObject::new(alloc, Object::new(200, Vec::new(alloc), body, 0, 60)).ok()
+}
+
+/// A header field.
+pub(crate) fn field(alloc: Global, name: &[u8], value: &[u8]) -> Option<(Vec<u8>, Vec<u8>)> {
+    Some((name.to_vec(alloc).ok()?, value.to_vec(alloc).ok()?))
+}
+
 /// The end of a fetch with an object of body `hi` and a time to live of 60 seconds.
 pub(crate) fn fetched(alloc: Global, fetch: u32, now: Moment) -> Option<Event> {
-    let object = Object::new(200, Vec::new(alloc), b"hi".to_vec(alloc).ok()?, 0, 60);
-    let object = SharedObject::new(alloc, object).ok()?;
+    let object = greeting(alloc)?;
     Some(Event::Fetched {
         fetch,
         attempt: 0,
@@ -99,22 +195,45 @@ pub(crate) fn fetched(alloc: Global, fetch: u32, now: Moment) -> Option<Event> {
     })
 }
 
-/// A filter that accepts the first `k` octets of a packet.
-pub(crate) fn limit(alloc: Global, k: u32) -> Option<Arc<Checked>> {
-    let insn = Insn {
+/// The instruction of a filter that accepts the first `k` octets of a packet.
+pub(crate) fn limit(k: u32) -> Insn {
+    Insn {
         code: 6,
         jt: 0,
         jf: 0,
         k,
-    };
-    let program = check([insn].to_vec(alloc).ok()?).ok()?;
+    }
+}
+
+/// A filter with these instructions.
+pub(crate) fn filter_of(alloc: Global, insns: &[Insn]) -> Option<Arc<Checked>> {
+    let program = check(insns.to_vec(alloc).ok()?).ok()?;
     Arc::new(alloc, program).ok()
 }
 
-/// A swap of the ICP socket's filter for one that accepts the first `k` octets of a packet.
-pub(crate) fn swap(alloc: Global, k: u32) -> Option<Event> {
+/// A swap of the ICP socket's filter for one with these instructions.
+pub(crate) fn swap(alloc: Global, insns: &[Insn]) -> Option<Event> {
     Some(Event::Swap {
         slot: Slot::Socket(Socket::Icp),
-        program: Some(limit(alloc, k)?),
+        program: Some(filter_of(alloc, insns)?),
     })
+}
+
+/// The values, if none is missing.
+pub(crate) fn all_of<T: Drop>(alloc: Global, found: Vec<Option<T>>) -> Option<Vec<T>> {
+    let mut all = Vec::new(alloc);
+    for value in found {
+        all.push(value?).ok()?;
+    }
+    Some(all)
+}
+
+/// Whether a text spells these octets in hexadecimal.
+pub(crate) fn spells(alloc: Global, text: &str, octets: &[u8]) -> bool {
+    let Ok(spelled) = hex::encode(alloc, octets) else {
+        return false;
+    };
+    let is_same = spelled.as_str() == text;
+    drop(spelled);
+    is_same
 }

@@ -4,8 +4,8 @@
 //! can't be where the volume is let go of under the lock.
 ghost use Rattle.std.specs.Prelude.{◌≡◌};
 
-use crate::desks::book_of;
-use crate::events::{QUERY, datagram_of, timer};
+use crate::desks::{desk_with_room, submit};
+use crate::events::{PEER, QUERY, datagram_of, field, timer};
 use filter_slots::{Judged, Moment, Socket};
 use node_book::{Desk, Seat};
 use node_core::{Event, Out, Outcome};
@@ -61,8 +61,7 @@ impl Signs {
 fn fields(alloc: Global) -> Option<Vec<(Vec<u8>, Vec<u8>)>> {
     let mut fields = Vec::new(alloc);
     for _ in 0..FIELDS {
-        let field = (b"n".to_vec(alloc).ok()?, b"v".to_vec(alloc).ok()?);
-        fields.push(field).ok()?;
+        fields.push(field(alloc, b"n", b"v")?).ok()?;
     }
     Some(fields)
 }
@@ -80,8 +79,8 @@ fn large(alloc: Global) -> Option<Arc<Event>> {
     Arc::new(alloc, fetched).ok()
 }
 
-/// Submits an event.
-fn submit<L: Ledger, R: Wait>(
+/// Submits an event, whatever its actions are.
+fn submit_one<L: Ledger, R: Wait>(
     rt: &R,
     alloc: Global,
     desk: &Desk<L>,
@@ -89,8 +88,9 @@ fn submit<L: Ledger, R: Wait>(
     event: Arc<Event>,
 ) -> Option<()> {
     let mut out = Out::new(alloc).ok()?;
-    desk.submit(rt, alloc, seat, event, &mut out).ok()?;
-    Some(())
+    let is_taken = submit(rt, alloc, desk, seat, event, &mut out);
+    drop(out);
+    is_taken
 }
 
 /// Submits a query that was judged before.
@@ -100,7 +100,7 @@ fn submit_judged<L: Ledger, R: Wait>(
     desk: &Desk<L>,
     seat: &mut Seat<L>,
 ) -> Option<()> {
-    let judged = Judged::new(datagram_of(alloc, Socket::Icp, QUERY)?, None, None);
+    let judged = Judged::new(datagram_of(alloc, Socket::Icp, PEER, QUERY)?, None, None);
     let is_taken = submit_as(rt, alloc, desk, seat, &judged);
     drop(judged);
     is_taken
@@ -134,9 +134,9 @@ fn fill<L: Ledger, R: Wait>(
     seat: &mut Seat<L>,
     ends: &[Arc<Event>; 2],
 ) -> Option<()> {
-    submit(rt, alloc, desk, seat, Arc::try_clone(&ends[0]).ok()?)?;
-    submit(rt, alloc, desk, seat, large(alloc)?)?;
-    submit(rt, alloc, desk, seat, Arc::try_clone(&ends[1]).ok()?)
+    submit_one(rt, alloc, desk, seat, Arc::try_clone(&ends[0]).ok()?)?;
+    submit_one(rt, alloc, desk, seat, large(alloc)?)?;
+    submit_one(rt, alloc, desk, seat, Arc::try_clone(&ends[1]).ok()?)
 }
 
 /// The references to both events.
@@ -160,7 +160,7 @@ fn turn<L: Ledger, R: Wait + Clock>(
         thread::sleep(rt, Duration::from_millis(1));
     }
     let turned = match call {
-        Call::Submit => submit(rt, alloc, desk, seat, timer(alloc, 1)?),
+        Call::Submit => submit_one(rt, alloc, desk, seat, timer(alloc, 1)?),
         Call::SubmitJudged => submit_judged(rt, alloc, desk, seat),
     };
     signs.is_over.store(true, Ordering::SeqCst);
@@ -249,7 +249,7 @@ fn is_free<L: Ledger + Send + Sync, R: Threads + Wait + Clock + Sync>(
     call: Call,
 ) -> Option<bool> {
     let seat = seats.first_mut()?;
-    submit(rt, alloc, desk, seat, timer(alloc, 1)?)?;
+    submit_one(rt, alloc, desk, seat, timer(alloc, 1)?)?;
     for _ in 0..ROUNDS {
         if is_free_once(rt, alloc, desk, seat, call)? {
             return Some(true);
@@ -269,13 +269,7 @@ fn told<L: Ledger + Send + Sync, R: Threads + Wait + Clock + Sync>(
     requires parts { blank.parts ≡ L.parts }
     requires one { blank.parts ≡ 1 }
 {
-    let (desk, mut seats) = Desk::<L>::open_with(
-        alloc,
-        blank,
-        book_of(alloc, VOLUME)?,
-        1,
-        ROOM,
-    ).ok()?;
+    let (desk, mut seats) = desk_with_room::<L>(alloc, blank, VOLUME, ROOM)?;
     let is_free = is_free(rt, alloc, &desk, &mut seats, call);
     drop(seats);
     drop(desk);

@@ -1,6 +1,6 @@
 //! The events that the threads at the seats of a desk submit.
 
-use crate::events::{QUERY, arrival, fetched, request, swap, timer};
+use crate::events::{QUERY, arrival, fetched, limit, query, request, swap, timer};
 use bpf_check::Checked;
 use filter_slots::{Moment, Slot, Socket};
 use node_core::{Event, Mode, Outcome};
@@ -14,6 +14,7 @@ const NOP: &[u8] = b"\x00\x0e\x00\x00\x00\x08\x00\x02\x00\x00\x00\x07\x00\x02";
 #[derive(Clone, Copy)]
 pub(crate) enum Load {
     Timers,
+    Queries,
     Mixed,
 }
 
@@ -21,6 +22,7 @@ pub(crate) enum Load {
 pub(crate) fn event_of(alloc: Global, load: Load, place: u64, i: u32) -> Option<Arc<Event>> {
     match load {
         Load::Timers => timer(alloc, i as u64),
+        Load::Queries => query(alloc, (i as u64).wrapping_add(1)),
         Load::Mixed => Arc::new(alloc, mixed(alloc, place, i, Moment::new(i as u64)?)?).ok(),
     }
 }
@@ -34,9 +36,9 @@ fn mixed(alloc: Global, place: u64, i: u32, now: Moment) -> Option<Event> {
         2 => fetched(alloc, i % 64, now),
         3 => request(alloc, client, Mode::Private, now),
         4 => Some(Event::Gone { client }),
-        5 => swap(alloc, 65_535 - i % 3),
+        5 => swap(alloc, &[limit(65_535 - i % 3)]),
         6 => arrival(alloc, Socket::Htcp, NOP, now),
-        7 => swap(alloc, i % 60),
+        7 => swap(alloc, &[limit(i % 60)]),
         _ => arrival(alloc, Socket::Icp, QUERY, now),
     }
 }

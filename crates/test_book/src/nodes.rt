@@ -1,63 +1,17 @@
 //! Tests of nodes that take many events or datagrams judged before, and of copies of nodes.
 
-use crate::events::{QUERY, arrival, datagram_of, limit, node_of, request, swap};
+use crate::calls::{answered, is_sent, is_taken, outs_of};
+use crate::events::{
+    MISS, MISSED, PEER, QUERY, USUAL, asked, datagram_of, filter_of, limit, node_of, request, swap,
+};
 use filter_slots::{Judged, Moment, Socket};
-use node_core::{Action, Answer, Event, Mode, Node, Out, run_events};
+use node_core::{Action, Answer, Event, Mode, Node, Out};
 use std::alloc::Global;
 use std::test::Fail;
 
-/// The MISS reply of the node at 10.0.0.1 to the query.
-const MISS: &[u8] =
-    b"\x03\x02\x00\x1e\x00\x00\x00\x01\x00\x00\x00\x00\x00\x00\x00\x00\x0a\x00\x00\x01http://a/\x00";
-
-/// A neighbour's query.
-fn query(alloc: Global) -> Option<Event> {
-    arrival(alloc, Socket::Icp, QUERY, Moment::new(5)?)
-}
-
-/// Whether the only action is to send a MISS.
-fn is_missed(out: &Out) -> bool {
-    match out.actions() {
-        [Action::Send { payload, .. }] => payload.as_slice() == MISS,
-        _ => false,
-    }
-}
-
-/// Whether a node answers an event with one MISS.
-fn is_missed_at(alloc: Global, node: &mut Node, event: &Event, out: &mut Out) -> bool {
-    out.clear();
-    node.step(alloc, event, out).is_ok() && is_missed(out)
-}
-
-/// How many of this many equal queries a node answers with a MISS.
-fn missed_by(alloc: Global, node: &mut Node, event: &Event, queries: u32) -> Option<u32> {
-    let mut out = Out::new(alloc).ok()?;
-    let mut count = 0u32;
-    for _ in 0..queries {
-        count = count.wrapping_add(is_missed_at(alloc, node, event, &mut out) as u32);
-    }
-    Some(count)
-}
-
-/// How many of this many queries a new node answers with a MISS.
-fn missed(alloc: Global, queries: u32) -> Option<u32> {
-    let mut node = node_of(alloc)?;
-    let count = missed_of(alloc, &mut node, queries);
-    drop(node);
-    count
-}
-
-/// The same for this node.
-fn missed_of(alloc: Global, node: &mut Node, queries: u32) -> Option<u32> {
-    let event = query(alloc)?;
-    let count = missed_by(alloc, node, &event, queries);
-    drop(event);
-    count
-}
-
 #[test]
 fn many_queries_get_their_replies(rt: HostRuntime) {
-    let count = missed(rt.alloc(), 100_000);
+    let count = answered(rt.alloc(), &USUAL, &MISSED, 100_000);
     assert!(rt; count == Some(100_000));
 }
 
@@ -65,45 +19,32 @@ fn many_queries_get_their_replies(rt: HostRuntime) {
 fn queries(alloc: Global, count: u32) -> Option<Vec<Event>> {
     let mut events = Vec::new(alloc);
     for _ in 0..count {
-        events.push(query(alloc)?).ok()?;
+        events.push(asked(alloc, &MISSED)?).ok()?;
     }
     Some(events)
-}
-
-/// The actions of a node for each of this many queries.
-fn outs_by(alloc: Global, node: &mut Node, count: u32) -> Option<Vec<Out>> {
-    let events = queries(alloc, count)?;
-    let outs = run_events(alloc, node, &events).ok();
-    drop(events);
-    outs
-}
-
-/// The same of a new node.
-fn outs_of(alloc: Global, count: u32) -> Option<Vec<Out>> {
-    let mut node = node_of(alloc)?;
-    let outs = outs_by(alloc, &mut node, count);
-    drop(node);
-    outs
 }
 
 /// Whether the only action of each event is to send a MISS.
 fn are_missed(outs: &[Out]) -> bool {
     for out in outs {
-        if !is_missed(out) {
+        if !is_sent(out, MISS) {
             return false;
         }
     }
     true
 }
 
-#[test]
-fn a_long_list_is_taken(rt: HostRuntime) -> Result<(), Fail> {
-    let outs = outs_of(rt.alloc(), 1_000).ok_or("the list is taken")?;
-    let (count, are_missed) = (outs.len(), are_missed(&outs));
+/// For how many of this many queries, in one list, a new node gives actions, and whether each of these is to send a MISS.
+fn missed(alloc: Global, count: u32) -> Option<(usize, bool)> {
+    let outs = outs_of(alloc, &USUAL, queries(alloc, count)?)?;
+    let missed = (outs.len(), are_missed(&outs));
     drop(outs);
-    assert!(rt; count == 1_000);
-    assert!(rt; are_missed);
-    Ok(())
+    Some(missed)
+}
+
+#[test]
+fn a_long_list_is_taken(rt: HostRuntime) {
+    assert!(rt; missed(rt.alloc(), 1_000) == Some((1_000, true)));
 }
 
 /// The status that a client is answered with, if that is the only action.
@@ -130,8 +71,10 @@ fn told(alloc: Global, node: &mut Node, client: u64, mode: Mode) -> Option<u16> 
 /// The same of the request that is this event.
 fn status_at(alloc: Global, node: &mut Node, event: &Event) -> Option<u16> {
     let mut out = Out::new(alloc).ok()?;
-    node.step(alloc, event, &mut out).ok()?;
-    status_of(&out)
+    let is_taken = is_taken(alloc, node, event, &mut out);
+    let status = status_of(&out);
+    drop(out);
+    if is_taken { status } else { None }
 }
 
 /// Whether the requests of this many clients are all answered with this status at once.
@@ -162,8 +105,9 @@ fn clients_join_and_are_turned_away(rt: HostRuntime) {
 
 /// A query that was judged by a filter rejecting it.
 fn rejected(alloc: Global) -> Option<Judged> {
-    let filter = limit(alloc, 0)?;
-    Some(Judged::new(datagram_of(alloc, Socket::Icp, QUERY)?, Some(filter), None))
+    let filter = filter_of(alloc, &[limit(0)])?;
+    let datagram = datagram_of(alloc, Socket::Icp, PEER, QUERY)?;
+    Some(Judged::new(datagram, Some(filter), None))
 }
 
 /// Whether a query that was judged by a filter rejecting it is answered with a MISS.
@@ -179,14 +123,17 @@ fn is_missed_as(alloc: Global, node: &mut Node, judged: &Judged) -> Option<bool>
     let now = Moment::new(5)?;
     let mut out = Out::new(alloc).ok()?;
     node.step_judged(alloc, judged, now, &mut out).ok()?;
-    Some(is_missed(&out))
+    Some(is_sent(&out, MISS))
 }
 
 /// Whether a node takes a swap for a filter that rejects every datagram.
 fn is_closed(alloc: Global, node: &mut Node) -> Option<bool> {
-    let event = swap(alloc, 0)?;
     let mut out = Out::new(alloc).ok()?;
-    Some(node.step(alloc, &event, &mut out).is_ok())
+    let event = swap(alloc, &[limit(0)])?;
+    let is_taken = is_taken(alloc, node, &event, &mut out);
+    drop(event);
+    drop(out);
+    Some(is_taken)
 }
 
 /// Whether a new node answers a query with a MISS that a rejecting filter judged before, and how many datagrams it has then

@@ -1,11 +1,12 @@
 //! Test of a book written by many threads, which one thread replays.
 ghost use Rattle.std.specs.Prelude.{◌≡◌};
 
+use crate::calls::outs_by;
 use crate::desks::{Row, desk_of, worked};
 use crate::events::node_of;
 use crate::loads::{Load, again};
 use node_book::{Entry, Ledgered, Report, Seat};
-use node_core::{Event, Node, Out, run_events};
+use node_core::{Event, Node, Out};
 use std::alloc::Global;
 use std::marker::Brand;
 use std::sync::Wait;
@@ -31,12 +32,9 @@ fn are_tallies(outs: &[Out], entries: &[Entry]) -> bool {
     outs.len() == entries.len()
 }
 
-/// Whether a node that replays the events of these entries by `run_events` gets their tallies.
+/// Whether a node that replays the events of these entries, as one list, gets their tallies.
 fn is_replayed(alloc: Global, node: &mut Node, entries: &[Entry]) -> Option<bool> {
-    let events = events_of(alloc, entries)?;
-    let outs = run_events(alloc, node, &events).ok();
-    drop(events);
-    let outs = outs?;
+    let outs = outs_by(alloc, node, events_of(alloc, entries)?)?;
     let are_tallies = are_tallies(&outs, entries);
     drop(outs);
     Some(are_tallies)
