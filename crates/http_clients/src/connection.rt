@@ -1,10 +1,11 @@
 //! The HTTP connection of a client, as hyper has it.
 
 use crate::account::Telling;
+use crate::copying::HandOver;
 use crate::door::Door;
 use crate::reply::Reply;
 use crate::requests::Serves;
-use crate::tunnel::{HandOver, KeepTunnel};
+use crate::tunnel::KeepTunnel;
 use crate::upload::Upload;
 use bytes::{Bytes, BytesMut};
 use client_streams::{Patient, SharedStage, StreamTimeouts};

@@ -2,10 +2,11 @@
 
 use crate::account::{SharedFacts, Telling, tell_refused};
 use crate::connection::{Connections, OfClient};
+use crate::copying::{Copying, HandOver};
 use crate::door::Door;
 use crate::requests::{Answers, Serves};
 use crate::texts::{FORBIDDEN, forbidden};
-use crate::tunnel::{Copying, Dialer, HandOver, KeepTunnel, KeptTunnel, Opening};
+use crate::tunnel::{Dialer, KeepTunnel, KeptTunnel, Opening};
 use crate::watched::{Counted, OfWatching, Tunnels, Watch, Watched, Watching};
 use client_streams::{
     Accept, AcceptedClients, ClientLimits, Listeners, Patient, Refusal, SeatShare, SharedStage,

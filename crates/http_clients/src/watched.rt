@@ -4,8 +4,9 @@ ghost use Rattle.futures.specs.Poll.{OnPending};
 ghost use Rattle.futures.specs.Task.{Covers, Keeps};
 
 use crate::account::{End, SharedFacts, Telling};
+use crate::copying::{Carry, Copying, HandOver};
 use crate::requests::Answers;
-use crate::tunnel::{Carry, Copying, Dialer, HandOver, KeepTunnel, Opened, Opening, Reach, Wanted};
+use crate::tunnel::{Dialer, KeepTunnel, Opened, Opening, Reach, Wanted};
 use futures::channel::oneshot;
 use futures::task::{Context, Poll};
 use futures::{Future, ready};
