@@ -3,7 +3,8 @@
 //!
 //! The contracts see only that every future is polled in a state in which it may be; nothing is proved about the HTTP messages.
 //!
-//! Tested by: crates/test_edge; tests/serve, tests/serve_slow and tests/serve_hostile, which run the built program over loopback.
+//! Tested by: crates/test_edge; tests/serve, serve_operator, serve_passages, serve_freshness, serve_slow and serve_hostile, which run the
+//! built program over loopback.
 #![tactic(auto)]
 
 mod account;

@@ -1,7 +1,7 @@
 //! What the server and the client of HTTP have in common, on hyper: reading the whole content of a message, passing on a content as it
 //! comes, and header fields.
 //!
-//! The contracts see only that every future is polled in a state in which it may be. Tested by: crates/test_edge.
+//! The contracts see only that every future is polled in a state in which it may be. Tested by: tests/serve_passages.
 #![tactic(auto)]
 
 mod content;

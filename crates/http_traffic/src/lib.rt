@@ -1,7 +1,7 @@
 //! What the crates around HTTP hand to one another: requests of clients and their answers, what is administered, and fetches with
 //! their results. The decisions are behind the traits `Front`, `FollowUp`, `PassOn` and `Panel`; no type of the HTTP library stands here.
 //!
-//! Nothing is proved here. Tested by: crates/test_edge.
+//! Nothing is proved here. Tested by: crates/test_edge, tests/serve_passages.
 #![tactic(auto)]
 
 mod asking;

@@ -5,7 +5,7 @@
 //! in order, none longer than that, that the body ends only when none remain, and that the size hint is exact; an allocation failure loses
 //! nothing.
 //!
-//! Tested by: crates/test_edge.
+//! Tested by: tests/serve and tests/serve_freshness, which run the built program over loopback.
 #![tactic(auto)]
 
 ghost use Rattle.std.specs.Prelude.{◌≡◌, ◌≤◌, Some, IfOk, length, take, drop, slice_range, nat_lt};
