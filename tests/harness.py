@@ -8,6 +8,7 @@ import hmac
 import json
 import os
 import resource
+import select
 import shutil
 import socket
 import struct
@@ -167,14 +168,26 @@ def written(settings, folder):
     return path
 
 
-def hastened(folder):
-    """The environment of a proxy whose time passes faster (tests/haste.c), and how many times. Without a compiler that is once."""
+def preloaded(folder, name):
+    """The library of tests/NAME.c, to be preloaded before a proxy, in this folder. `None` without a compiler."""
     compiler = shutil.which("gcc") or shutil.which("clang")
     if not compiler:
-        return {}, 1
-    shim, source = os.path.join(folder, "haste.so"), os.path.join(os.path.dirname(os.path.abspath(__file__)), "haste.c")
+        return None
+    shim, source = os.path.join(folder, f"{name}.so"), os.path.join(os.path.dirname(os.path.abspath(__file__)), f"{name}.c")
     subprocess.run([compiler, "-O2", "-shared", "-fPIC", "-o", shim, source], check=True)
-    return {"LD_PRELOAD": shim, "HASTE": "20"}, 20
+    return shim
+
+
+def hastened(folder):
+    """The environment of a proxy whose time passes faster (tests/haste.c), and how many times. Without a compiler that is once."""
+    shim = preloaded(folder, "haste")
+    return ({"LD_PRELOAD": shim, "HASTE": "20"}, 20) if shim else ({}, 1)
+
+
+def lingering(folder, micros):
+    """The environment of a proxy in which each look at the clock takes so long (tests/linger.c). Without a compiler it takes no longer."""
+    shim = preloaded(folder, "linger")
+    return {"LD_PRELOAD": shim, "LINGER": str(micros)} if shim else {}
 
 
 class Proxy:
@@ -208,6 +221,8 @@ class Proxy:
                                         env={**os.environ, **self.environment})
         line = self.process.stdout.readline()
         if line == "ready\n":
+            is_told = select.select([self.process.stderr], [], [], 0)[0]
+            self.start_line = self.process.stderr.readline() if is_told else ""
             STARTED.__dict__.setdefault("proxies", []).append(self)
             return None
         self.process.wait(10)

@@ -266,6 +266,8 @@ impl<F: Front + FollowUp + PassOn, K: KeepTunnel> Serves<K> for FrontAnswers<F> 
         let alloc = self.context.alloc;
         let (status, waits) = match submit(&self.context, &facts, false) {
             Ok(waits) => (503, Some(waits)),
+            // What is stored is gone since the front was first asked.
+            Err(501) => return waiting_for_passage(&self.context, facts, None),
             Err(status) => (status, None),
         };
         // The content is not forwarded.

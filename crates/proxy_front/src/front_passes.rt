@@ -187,7 +187,7 @@ impl<R: Wait + Clock + Drop, S: Shared, N: TakeEvents> NodeFront<R, S, N> {
         }
     }
 
-    /// Passes on a request, which is without its content here. Errors: the status to answer.
+    /// Passes on a request, which is without its content here. Errors: the status to answer, 501 for a HEAD that isn't passed on.
     pub(crate) fn pass(&mut self, asked: &Asked, content: Option<Coming>) -> Result<Passing, u16> {
         match self.way_of(asked) {
             Ok(way) => {
@@ -215,6 +215,9 @@ impl<R: Wait + Clock + Drop, S: Shared, N: TakeEvents> NodeFront<R, S, N> {
 
     // How a request is passed on. Errors: the status to answer.
     fn way_of(&mut self, asked: &Asked) -> Result<Way, u16> {
+        if asked.method.as_str() == "HEAD" && !self.proxy.passes().has_method("HEAD") {
+            return Err(501);
+        }
         let key = self.key(asked)?;
         let way = self.way_under(asked, &key);
         drop(key);
