@@ -1,6 +1,7 @@
 # On a machine that has the Rattle toolchain (`rt`), python3 and make:
 #   make feed    runs the example script with the proved program if it is built, otherwise unproved, and says which
-#   make serve   runs the proxy on examples/serve.json, proved or unproved likewise
+#   make serve   runs the proxy on examples/serve.json, proved or unproved likewise; the unproved program of a commit is built once, below build/
+#   make fresh   runs make feed and make serve in a clean clone of these sources, as the gate does (minutes; nothing needs to be built)
 #   make group   runs the built program as three proxies that ask one another; if it is not built, it says what to do
 #   make build   proves and builds the program and all crates below it
 #   make install PREFIX=/usr/local DESTDIR=   installs the built program with its unit, manual and examples
@@ -32,13 +33,16 @@ CONFIG ?= examples/serve.json
 PREFIX ?= /usr/local
 DESTDIR ?=
 
-.PHONY: serve group feed build install deb package systemd page test format cases documents loopback attacks open hostile slow interop clients load large fuzz limits early kept six edits bench sweep storm
+.PHONY: serve group feed fresh build install deb package systemd page test format cases documents loopback attacks open hostile slow interop clients load large fuzz limits early kept six edits bench sweep storm
 
 feed:
 	@tools/feed $(SCRIPT)
 
 serve:
 	@tools/serve $(CONFIG)
+
+fresh:
+	@tests/first_runs
 
 group:
 	@demo/group $(PROGRAM)
