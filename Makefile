@@ -78,6 +78,7 @@ cases:
 
 documents:
 	@tools/documents $(PROGRAM)
+	@tools/documents --names
 	@tools/believe --check
 
 # The proxy over loopback.
