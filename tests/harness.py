@@ -3,6 +3,8 @@
 A proxy is a process on free ports. Where the environment has CLIENT_THREADS, that many of its threads serve clients. Whoever starts one ends it: by its last answer (`end`), by as many requests as it still
 answers (`finish`), or by its process id (`kill`). What a test leaves running is ended after it.
 """
+import contextlib
+import ctypes
 import hashlib
 import hmac
 import json
@@ -112,6 +114,34 @@ def at_once(count, function):
 def processor_seconds(pid):
     """The processor time of a process, with all its threads, to the nanosecond."""
     return time.clock_gettime(~pid << 3 | 2)        # the number of its CPU clock, as clock_getcpuclockid(3) makes it
+
+
+@contextlib.contextmanager
+def standing_still(thread):
+    """Stops one thread of a process meanwhile, by ptrace."""
+    libc = ctypes.CDLL(None, use_errno=True)
+    if libc.ptrace(16, thread, None, None):
+        raise Skipped("a thread can't be stopped here (ptrace)")
+    os.waitpid(thread, 0x40000000)
+    try:
+        yield
+    finally:
+        libc.ptrace(17, thread, None, None)
+
+
+def threads_seconds(pid):
+    """The processor time of each thread of a process in seconds, by the thread's id."""
+    seconds = {}
+    for thread in map(int, os.listdir(f"/proc/{pid}/task")):
+        with open(f"/proc/{pid}/task/{thread}/schedstat") as it:
+            seconds[thread] = int(it.read().split()[0]) / 1e9
+    return seconds
+
+
+def busiest(before, after):
+    """The thread whose processor time has grown most, and by how many seconds."""
+    grown = {thread: seconds - before.get(thread, 0.0) for thread, seconds in after.items()}
+    return max(grown.items(), key=lambda it: it[1])
 
 
 def free_port(kind=socket.SOCK_STREAM, address="127.0.0.1"):
