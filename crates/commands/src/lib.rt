@@ -11,6 +11,7 @@ mod ending;
 mod equipment;
 mod settings;
 mod telling;
+mod warnings;
 
 pub use check_command::run_check;
 pub use configuration_command::check_configuration;
