@@ -80,7 +80,7 @@ where
     let alloc = rt.alloc();
     let config = thread_config(&rt, &settings, limits);
     let (connecting, fetching) = (config.limits.connecting, config.limits.fetching);
-    match server_orders(alloc, &mut settings, config.client_threads) {
+    match server_orders(&rt, alloc, &mut settings, config.client_threads) {
         Ok((servers, hurries)) => {
             let (given, logs, filters) = equipped(equipment, connecting, fetching, hurries);
             let site = site_of(&rt, alloc, blank, settings, given);

@@ -12,6 +12,7 @@ mod equipment;
 mod patience;
 mod settings;
 mod telling;
+mod warnings;
 
 pub use check_command::run_check;
 pub use configuration_command::check_configuration;

@@ -1,0 +1,24 @@
+-- Laws about written names.
+use Rattle.std.proofs.Common.{◌≡◌, ℕ, ◌≤◌, List, [], ◌∷◌, length, map, take, Bool, true, false, cond, ◌&&◌, refl, ap, ap2}
+use Rattle.std.specs.List.{list_all}
+use Rattle.std.proofs.lemmas.Bool.{and_parts}
+use Rattle.http_header.specs.Token.{is_token_byte}
+use Rattle.http_rules.specs.Pseudonyms.{written_octet}
+
+-- what is written may be in a token
+pub written_tokens : (text : List ℕ) → list_all is_token_byte (map written_octet text) ≡ true
+written_tokens [] = refl
+written_tokens (c ∷ cs) = by (is_token_byte c) refl (written_tokens cs)
+  where
+    by : (b : Bool) → is_token_byte c ≡ b → list_all is_token_byte (map written_octet cs) ≡ true
+        → (is_token_byte (cond b c 45) && list_all is_token_byte (map written_octet cs)) ≡ true
+    by true e ih = rw e ih
+    by false e ih = ih
+
+-- what may be in a token is written as it is
+pub written_same : (text : List ℕ) → list_all is_token_byte text ≡ true → map written_octet text ≡ text
+written_same [] h = refl
+written_same (c ∷ cs) h =
+    let first : is_token_byte c ≡ true = (and_parts _ _ h).0 in
+    let rest : map written_octet cs ≡ cs = written_same cs (and_parts _ _ h).1 in
+    rw first (ap (λ (xs : List ℕ). c ∷ xs) rest)
