@@ -31,8 +31,8 @@ def keep(test, proxies):
         for n, proxy in enumerate(proxies):
             write_proxy(folder / f"proxy-{n}", proxy)
         forget_old()
-    except OSError as fault:
-        return f"nothing is kept: {fault}"
+    except Exception as fault:  # noqa: BLE001, since what is wrong here must not hide the failure
+        return f"not all is kept: {type(fault).__name__}: {fault}"
     return f"kept: {folder.relative_to(TOP)}"
 
 

@@ -81,20 +81,53 @@ def settled(number, seconds=0.5):
     return seen
 
 
-def rows_of(port, address, column):
-    """The kernel's rows of TCP sockets with this end, column 1 its own one and 2 the other side's; 0.0.0.0 is any address."""
-    family = socket.AF_INET6 if ":" in address else socket.AF_INET
-    words = struct.unpack(f"={4 if ':' in address else 1}I", socket.inet_pton(family, address))
-    end = "".join(f"{it:08X}" for it in words) + f":{port:04X}"
+SOCK_DIAG, DUMP, NETLINK_DONE, NETLINK_ERROR, ESTABLISHED, CLOSE_WAIT, ALL_BUT_TIME_WAIT = 20, 0x301, 3, 2, 1, 8, 0xfff & ~(1 << 6)
+
+
+def tcp_sockets(port, address, is_other_side=False):
+    """The kernel's TCP sockets with this end, their own one or the other side's: each its state, and how many octets nobody has read; of one that
+    listens, how many connections have not been accepted. 0.0.0.0 is any address."""
+    try:
+        return asked_sockets(port, address, is_other_side)
+    except OSError:
+        return listed_sockets(port, address, is_other_side)
+
+
+def listed_sockets(port, address, is_other_side):
+    """As `tcp_sockets`, by /proc/net/tcp, which is long where many connections have ended."""
+    words = struct.unpack(f"={4 if ':' in address else 1}I", socket.inet_pton(socket.AF_INET6 if ":" in address else socket.AF_INET, address))
+    end = f":{port:04X}" if address == "0.0.0.0" else "".join(f"{it:08X}" for it in words) + f":{port:04X}"
     with open("/proc/net/tcp6" if ":" in address else "/proc/net/tcp") as it:
-        rows = [line.split() for line in it.readlines()[1:]]
-    return [row for row in rows if row[column] == end or address == "0.0.0.0" and row[column].endswith(end[-5:])]
+        rows = [line.split() for line in it.readlines()[1:] if end in line]
+    return [(int(row[3], 16), int(row[4].split(":")[1], 16)) for row in rows if row[2 if is_other_side else 1].endswith(end)]
+
+
+def asked_sockets(port, address, is_other_side):
+    """As `tcp_sockets`, by sock_diag(7)."""
+    family = socket.AF_INET6 if ":" in address else socket.AF_INET
+    wanted = socket.inet_pton(family, address)
+    ends = struct.pack(">HH", *((0, port) if is_other_side else (port, 0)))
+    first = 16 + 8 + (16 if is_other_side else 0)         # where the address stands in a message (inet_diag_msg)
+    found = []
+    with socket.socket(socket.AF_NETLINK, socket.SOCK_RAW, 4) as s:
+        s.sendall(struct.pack("=IHHIIBBHI", 72, SOCK_DIAG, DUMP, 0, 0, family, socket.IPPROTO_TCP, 0, ALL_BUT_TIME_WAIT) + ends + bytes(44))
+        while True:
+            octets = s.recv(1 << 20)
+            while octets:
+                length, kind = struct.unpack_from("=IH", octets)
+                if kind == NETLINK_ERROR:
+                    raise OSError("sock_diag")
+                if kind == NETLINK_DONE:
+                    return found
+                if octets[first:first + len(wanted)] == wanted or address == "0.0.0.0":
+                    found.append((octets[17], struct.unpack_from("=I", octets, 72)[0]))
+                octets = octets[length + 3 & ~3:]
 
 
 def unread(port, is_sender=False, address="127.0.0.1"):
     """How many octets on connections to this TCP port of an address, or from it, nobody has read; each connection to it that has not been
     accepted counts as one."""
-    return sum(int(row[4].split(":")[1], 16) for row in rows_of(port, address, 2 if is_sender else 1))
+    return sum(count for _, count in tcp_sockets(port, address, is_sender))
 
 
 def at_once(count, function):
@@ -344,7 +377,7 @@ class Proxy:
 
     def clients(self):
         """How many connections to its port for clients it has not closed."""
-        return sum(row[3] in ("01", "08") for it in self.addresses() for row in rows_of(self.ports["http_port"], it, 1))
+        return sum(state in (ESTABLISHED, CLOSE_WAIT) for it in self.addresses() for state, _ in tcp_sockets(self.ports["http_port"], it))
 
     def udp(self, port, payload, seconds=10.0):
         with socket.socket(socket.AF_INET, socket.SOCK_DGRAM) as s:
