@@ -322,8 +322,9 @@ impl<R: Clock + Drop> AsyncRead for Patient<R> {
             Poll::Ready(got) => {
                 if let Ok(count) = &got
                     && 0 < *count
+                    && let Some(octets) = buf.get(..*count)
                 {
-                    self.note_read(buf.get(..*count).unwrap_or(b""));
+                    self.note_read(octets);
                 }
                 Poll::Ready(got)
             }

@@ -38,7 +38,8 @@ fn is_bracketed_host(rest: &[u8]) -> bool
     if rest.len() <= end {
         return false;
     }
-    is_six_text(&rest[..end]) && is_port_part(&rest[end + 1..])
+    let (_, behind) = rest.split_at(end + 1);
+    is_six_text(&rest[..end]) && is_port_part(behind)
 }
 
 // Whether a text is an address of IPv6.
