@@ -75,9 +75,12 @@ def is_path(crates, path, named):
     if not parts or parts[0] in ("build", *VALUES):
         return True
     pattern = "/".join(parts)
-    if SOURCE.fullmatch(pattern) or parts[0] in OF_CRATES and len(parts) > 1:
-        return any(any(TOP.glob(f"crates/{it}/**/{pattern}")) for it in named or crates)
-    return any(any(TOP.glob(below + pattern)) for below in ("", "crates/", "cases/", "crates/*/"))
+    below = ["", "crates/", "cases/", "crates/*/"]
+    if SOURCE.fullmatch(pattern):
+        below = [f"crates/{it}/{folder}/**/" for it in named or crates for folder in OF_CRATES]
+    elif parts[0] in OF_CRATES and len(parts) > 1:
+        below = [f"crates/{it}/" for it in named or crates]
+    return any(any(TOP.glob(it + pattern)) for it in below)
 
 
 def looked_for(crates, line):
