@@ -1,9 +1,8 @@
 //! The key that signs the cache's requests to itself, by which what was changed is taken out of the store.
 use neighbours::{Key, Octets};
 use node_core::Config;
-use serve_config::{has_key, has_own_key, kept_keys};
+use serve_config::{has_key, has_own_key, keep_keys};
 use std::alloc::{AllocError, Global};
-use std::mem;
 use std::random::RandomSource;
 
 /// How many octets a drawn secret has: as many as a signature (RFC 2104, section 3).
@@ -16,28 +15,16 @@ pub(crate) fn settle_keys<R: RandomSource>(
     alloc: Global,
     config: &mut Config,
 ) -> Result<(), AllocError> {
-    let listed = mem::replace(&mut config.keys, Vec::new(alloc));
-    let drawn = if has_own_key(listed.as_slice()) {
+    let drawn = if has_own_key(config.keys.as_slice()) {
         None
     } else {
-        Some(drawn_key(rt, alloc, listed.as_slice())?)
+        Some(drawn_key(rt, alloc, config.keys.as_slice())?)
     };
-    let kept = kept_keys(alloc, listed, config.neighbours.as_slice())?;
-    config.keys = with_first(alloc, drawn, kept)?;
-    Ok(())
-}
-
-/// These keys, and this one, if there is one, before them.
-fn with_first(alloc: Global, first: Option<Key>, others: Vec<Key>) -> Result<Vec<Key>, AllocError> {
-    let Some(first) = first else {
-        return Ok(others);
-    };
-    let mut keys = Vec::with_capacity(alloc, others.len().saturating_add(1))?;
-    keys.push(first)?;
-    for key in others {
-        keys.push(key)?;
+    keep_keys(&mut config.keys, config.neighbours.as_slice());
+    match drawn {
+        Some(drawn) => config.keys.insert(0, drawn),
+        None => Ok(()),
     }
-    Ok(keys)
 }
 
 /// A key with a secret that nobody knows, and a name that none of these keys has. Errors: the system has no random numbers, or out of

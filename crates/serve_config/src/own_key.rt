@@ -1,10 +1,9 @@
 //! The key that signs the cache's requests to itself, and the keys of a configuration that the node is given.
-ghost use Rattle.std.specs.Prelude.{◌≡◌, ◌++◌, ◌∷◌, [], IfOk, if◌then◌else◌};
+ghost use Rattle.std.specs.Prelude.{◌≡◌};
 ghost use Rattle.neighbours.specs.Faults.{has_key};
 ghost use Rattle.serve_config.specs.OwnKey.{has_own_key, is_known, is_name, is_named, kept_keys, stays};
 
 use neighbours::{Key, Neighbour, Octets};
-use std::alloc::{AllocError, Global};
 
 // The secret that the example of a configuration had in earlier versions.
 const KNOWN_SECRET: &[u8] = b"this is an example";
@@ -33,32 +32,11 @@ pub fn has_key(keys: &[Key], name: &[u8]) -> bool
     keys.iter().any(|key| key.name.as_slice() == name)
 }
 
-/// The keys of a configuration that its node is given: not those that everybody knows, unless one of the neighbours has them.
-pub fn kept_keys(
-    alloc: Global,
-    keys: Vec<Key>,
-    neighbours: &[Neighbour],
-) -> Result<Vec<Key>, AllocError>
-    ensures { IfOk result (λ kept. kept.items ≡ kept_keys neighbours.now keys.items) }
+/// Of these keys of a configuration those that its node is given: not those that everybody knows, unless one of the neighbours has them.
+pub fn keep_keys(keys: &mut Vec<Key>, neighbours: &[Neighbour])
+    ensures { keys.new.items ≡ kept_keys neighbours.now keys.old.items }
 {
-    let mut kept = Vec::new(alloc);
-    for key in keys {
-        kept = with_key(kept, key, neighbours)?;
-    }
-    Ok(kept)
-}
-
-// These keys, and this one if the node is given it.
-fn with_key(kept: Vec<Key>, key: Key, neighbours: &[Neighbour]) -> Result<Vec<Key>, AllocError>
-    ensures { IfOk result (λ after. after.items ≡ (if stays neighbours.now key then kept.items ++ key ∷ [] else kept.items)) }
-{
-    let mut kept = kept;
-    if !stays(neighbours, &key) {
-        drop(key);
-        return Ok(kept);
-    }
-    kept.push(key).map_err(AllocError::from)?;
-    Ok(kept)
+    keys.retain(|key| stays(neighbours, key));
 }
 
 /// Whether the node is given a key.
