@@ -22,7 +22,7 @@ pub(crate) fn settle_keys<R: RandomSource>(
     };
     keep_keys(&mut config.keys, config.neighbours.as_slice());
     match drawn {
-        Some(drawn) => config.keys.insert(0, drawn),
+        Some(drawn) => Ok(config.keys.insert(0, drawn)?),
         None => Ok(()),
     }
 }
