@@ -1,5 +1,5 @@
 -- Laws about written names.
-use Rattle.std.proofs.Common.{◌≡◌, ◌∙◌, ℕ, List, [], ◌∷◌, length, map, take, Bool, true, false, cond, ◌&&◌, refl, ap}
+use Rattle.std.proofs.Common.{◌≡◌, ◌∙◌, ℕ, List, [], ◌∷◌, map, take, Bool, true, false, cond, ◌&&◌, refl, ap}
 use Rattle.std.specs.List.{list_all}
 use Rattle.std.proofs.lemmas.Bool.{and_parts, leb-true}
 use Rattle.std.proofs.lemmas.List.{take_all}
@@ -8,6 +8,7 @@ use Rattle.http_rules.specs.Pseudonyms.{is_short_token, written_octet}
 
 -- what is written may be in a token
 pub written_tokens : (text : List ℕ) → list_all is_token_byte (map written_octet text) ≡ true
+unfolding is_token_byte
 written_tokens [] = refl
 written_tokens (c ∷ cs) = by (is_token_byte c) refl (written_tokens cs)
   where
