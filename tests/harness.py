@@ -304,12 +304,22 @@ class Proxy:
                                         env={**os.environ, **self.environment})
         line = self.process.stdout.readline()
         if line == "ready\n":
-            is_told = select.select([self.process.stderr], [], [], 0)[0]
-            self.start_line = self.process.stderr.readline() if is_told else ""
+            self.warnings, self.start_line = self.told_at_the_start()
             STARTED.__dict__.setdefault("proxies", []).append(self)
             return None
         self.process.wait(10)
         return line + self.process.stderr.read()
+
+    def told_at_the_start(self):
+        """The lines on standard error before the one that tells of the start, and that one; none where it had nothing."""
+        warnings = []
+        if not select.select([self.process.stderr], [], [], 0)[0]:
+            return warnings, ""
+        for line in iter(self.process.stderr.readline, ""):
+            if line.startswith("cache_main "):
+                return warnings, line
+            warnings.append(line)
+        return warnings, ""
 
     def end(self, wanted=0, seconds=20):
         """Waits until it ends after the last answer: the book settles, so the status is 0."""
