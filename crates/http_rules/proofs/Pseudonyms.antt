@@ -1,13 +1,14 @@
 -- Laws about written names.
-use Rattle.std.proofs.Common.{◌≡◌, ◌∙◌, ℕ, List, [], ◌∷◌, length, map, take, Bool, true, false, cond, ◌&&◌, refl, ap}
+use Rattle.std.proofs.Common.{◌≡◌, ◌∙◌, ◌≤◌, ◌++◌, ℕ, List, [], ◌∷◌, length, drop, map, take, Bool, true, false, cond, ◌&&◌, refl, sym, ap}
 use Rattle.std.specs.List.{list_all}
 use Rattle.std.proofs.lemmas.Bool.{and_parts, leb-true}
-use Rattle.std.proofs.lemmas.List.{take_all}
+use Rattle.std.proofs.lemmas.List.{append-nil, drop_all, take_all}
 use Rattle.http_header.specs.Token.{is_token_byte}
 use Rattle.http_rules.specs.Pseudonyms.{is_short_token, written_octet}
 
 -- what is written may be in a token
 pub written_tokens : (text : List ℕ) → list_all is_token_byte (map written_octet text) ≡ true
+unfolding is_token_byte
 written_tokens [] = refl
 written_tokens (c ∷ cs) = by (is_token_byte c) refl (written_tokens cs)
   where
@@ -23,6 +24,12 @@ written_same (c ∷ cs) h =
     let first : is_token_byte c ≡ true = (and_parts _ _ h).0 in
     let rest : map written_octet cs ≡ cs = written_same cs (and_parts _ _ h).1 in
     rw first (ap (λ (xs : List ℕ). c ∷ xs) rest)
+
+-- once nothing is left to write, all is written
+pub written_whole : (items front : List ℕ) (i : ℕ) → items ++ map written_octet (drop i front) ≡ map written_octet front → length front ≤ i
+    → items ≡ map written_octet front
+written_whole items front i e h =
+    sym (append-nil items) ∙ ap (λ (rest : List ℕ). items ++ map written_octet rest) (sym (drop_all i front h)) ∙ e
 
 -- what is made of a text of these octets has no others
 pub written_harmless : (items front : List ℕ) → items ≡ map written_octet front → list_all is_token_byte items ≡ true
