@@ -320,7 +320,6 @@ const VALIDATING: [Validating; 17] = [
     ("If-Modified-Since: Sat, 29 Oct 1994 19:43:31 GMT", false),
     ("If-Match: \"a\"", false),
     ("If-Unmodified-Since: Sat, 29 Oct 1994 19:43:31 GMT", false),
-    ("Cache-Control: no-cache, no-store;", false),
 ];
 
 struct MayValidate;
