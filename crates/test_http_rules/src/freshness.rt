@@ -422,7 +422,7 @@ fn refresh_rules(rt: HostRuntime) {
 // A method and the fields of a request, and how it is answered where nothing is stored.
 type Chosen = (&'static str, &'static str, Result<Mode, u16>);
 
-const PRAGMAS: [Chosen; 18] = [
+const PRAGMAS: [Chosen; 12] = [
     ("GET", "Pragma: no-cache", Ok(Mode::Private)),
     ("GET", "Pragma: x, No-Cache", Ok(Mode::Private)),
     ("GET", "Pragma: x\nPragma: no-cache", Ok(Mode::Private)),

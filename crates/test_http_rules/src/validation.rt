@@ -303,7 +303,7 @@ fn names_in_connection(rt: HostRuntime) {
 // Requests, and whether the fetch for one may validate.
 type Validating = (&'static str, bool);
 
-const VALIDATING: [Validating; 17] = [
+const VALIDATING: [Validating; 16] = [
     ("", true),
     ("Cache-Control: max-age=0", true),
     ("Cache-Control: no-cache", true),
