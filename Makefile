@@ -1,6 +1,7 @@
 # On a machine that has the Rattle toolchain (`rt`), python3 and make:
 #   make feed    runs the example script with the proved program if it is built, otherwise unproved, and says which
-#   make serve   runs the proxy on examples/serve.json, proved or unproved likewise
+#   make serve   runs the proxy on examples/serve.json, proved or unproved likewise; the unproved program of a commit is built once, below build/
+#   make fresh   runs make feed and make serve in a clean clone of these sources, as the gate does (minutes; nothing needs to be built)
 #   make group   runs the built program as three proxies that ask one another; if it is not built, it says what to do
 #   make build   proves and builds the program and all crates below it
 #   make install PREFIX=/usr/local DESTDIR=   installs the built program with its unit, manual and examples
@@ -17,6 +18,8 @@
 #   make interop tests the proxy beside a real squid (needs squid and curl)
 #   make clients runs curl, wget, git, pip, apt and a Chromium through it, and says what each fetched of the origin, beside squid (needs nginx and openssl)
 #   make attacks tests the proxy against clients, origins, neighbours and strangers that mean harm (100 s)
+#   make steady  runs each file of tests over the program 20 times beside a busy loop for each processor, and tells what failed how often (hours);
+#                with TIMES=3 fewer, with TESTS="serve_six serve:the_most_connections" only these, with THREADS=1,4 so many threads for clients in turn
 #   make open    tries the attacks that still succeed; docs/SECURITY.md has them under what does not hold
 #   make load    runs a mixed load for 15 minutes, for eleven of them with a hostile mix beside it (needs curl, a C compiler and unshare)
 #   make large   runs 100,000 answers of 1 MiB (5 to 20 minutes; needs a C compiler)
@@ -32,13 +35,16 @@ CONFIG ?= examples/serve.json
 PREFIX ?= /usr/local
 DESTDIR ?=
 
-.PHONY: serve group feed build install deb package systemd page test format cases documents loopback attacks open hostile slow interop clients load large fuzz limits early kept six edits bench sweep storm
+.PHONY: serve group feed fresh build install deb package systemd page test format cases documents loopback attacks open steady hostile slow interop clients load large fuzz limits early kept six edits bench sweep storm
 
 feed:
 	@tools/feed $(SCRIPT)
 
 serve:
 	@tools/serve $(CONFIG)
+
+fresh:
+	@tests/first_runs
 
 group:
 	@demo/group $(PROGRAM)
@@ -74,6 +80,7 @@ cases:
 
 documents:
 	@tools/documents $(PROGRAM)
+	@tools/documents --names
 	@tools/believe --check
 
 # The proxy over loopback.
@@ -95,6 +102,10 @@ attacks:
 
 open:
 	@tests/open_attacks $(PROGRAM)
+
+# What of the tests over the program doesn't always pass.
+steady:
+	@tools/steady $(PROGRAM) $(if $(TIMES),--times $(TIMES)) $(if $(THREADS),--threads $(THREADS)) $(TESTS)
 
 load:
 	@tests/load $(PROGRAM)

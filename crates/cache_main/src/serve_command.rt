@@ -3,7 +3,7 @@ ghost use Rattle.std.specs.Prelude.{◌≡◌};
 
 use crate::version::VERSION;
 use cache_serve::{ProxyLimits, start};
-use commands::{AskedPorts, equipment_of, tell_end, tell_finish, tell_ports, tell_start};
+use commands::{StartFacts, equipment_of, tell_end, tell_finish, tell_listening, tell_start};
 use proxy_site::SEATS;
 use serve_config::Settings;
 use std::alloc::AllocGlobal;
@@ -16,8 +16,8 @@ use std::sync::ledger::{Blank, Ledger};
 use std::thread::Threads;
 use std::time::Clock;
 
-/// Runs the proxy until it has given its last answer. Prints `ready` on standard output once all sockets are bound, and the line
-/// of a fault on standard error. Returns whether there was no fault.
+/// Runs the proxy until it has given its last answer. Once all sockets are bound prints lines about them on standard error, and then
+/// `ready` on standard output, before any line of a log; and the line of a fault on standard error. Returns whether there was no fault.
 pub fn run_serve<L, R>(rt: R, blank: Blank, settings: Settings) -> bool
 where
     L: Ledger + Send + Sync + 'static,
@@ -45,11 +45,12 @@ where
         drop(settings);
         return false;
     };
-    let asked = AskedPorts::of(&settings);
+    let facts = StartFacts::of(&settings, VERSION);
     match start::<L, R>(rt, blank, settings, equipment, ProxyLimits::usual()) {
         Ok(site) => {
+            tell_listening(rt, &facts, site.addresses(), site.clients.len());
             let _ = println!(rt; "ready");
-            tell_ports(&rt, site.addresses(), &asked);
+            site.begin_logs(&rt);
             match site.finish(rt) {
                 Ok(finish) => {
                     tell_finish(rt, &finish);

@@ -59,11 +59,7 @@ impl ProxyLimits {
     pub fn usual() -> ProxyLimits {
         ProxyLimits {
             clients: serve_limits(4_096, ADDRESS_CONNECTIONS, CLIENT_CONTENT),
-            // (no limit of an address, so that where all 64 are taken the longest idle one gives way)
-            administration: ServeLimits {
-                grace: Duration::from_secs(1),
-                ..serve_limits(64, 65, ADMINISTRATION_CONTENT)
-            },
+            administration: administration_limits(),
             connecting: Duration::from_secs(5),
             fetching: Duration::from_secs(30),
             idle: None,
@@ -72,9 +68,24 @@ impl ProxyLimits {
     }
 }
 
-/// What both servers have in common: 60 s for an idle connection and for a client that does not read its answer, 30 s for a head
-/// and between two pieces of content, 100 ms without an accept after one that failed, and 5 s for open connections to end (1 s for
-/// those of administrators, who are served until then).
+/// The limits of the server for administration, which is asked over loopback alone: 2 s for a head, so that no user of the host holds its
+/// connections by heads that don't end, and 1 s for open connections to end, which are served until then.
+fn administration_limits() -> ServeLimits {
+    // (no limit of an address, so that where all 64 are taken the longest idle one gives way)
+    let limits = serve_limits(64, 65, ADMINISTRATION_CONTENT);
+    ServeLimits {
+        still: StreamTimeouts {
+            head: Duration::from_secs(2),
+            ..limits.still
+        },
+        grace: Duration::from_secs(1),
+        ..limits
+    }
+}
+
+/// What both servers have in common, where `administration_limits` says nothing else: 60 s for an idle connection and for a client that
+/// does not read its answer, 30 s for a head and between two pieces of content, 100 ms without an accept after one that failed, and 5 s
+/// for open connections to end.
 fn serve_limits(connections: usize, an_address: u32, content: usize) -> ServeLimits {
     ServeLimits {
         still: StreamTimeouts {

@@ -14,7 +14,7 @@ use proxy_setup::{LogTasks, Orders, equipped, server_orders, site_of};
 use proxy_site::{Equipment, SEATS, ServeFault, Site, Writing, Writings};
 use proxy_state::Shared;
 use serve_config::Settings;
-use std::alloc::{AllocGlobal, Global};
+use std::alloc::{AllocError, AllocGlobal, Global};
 use std::fs::Files;
 use std::io::{Eprint, Print};
 use std::net::Net;
@@ -80,7 +80,7 @@ where
     let alloc = rt.alloc();
     let config = thread_config(&rt, &settings, limits);
     let (connecting, fetching) = (config.limits.connecting, config.limits.fetching);
-    match server_orders(alloc, &mut settings, config.client_threads) {
+    match server_orders(&rt, alloc, &mut settings, config.client_threads) {
         Ok((servers, hurries)) => {
             let (given, logs, filters) = equipped(equipment, connecting, fetching, hurries);
             let site = site_of(&rt, alloc, blank, settings, given);
@@ -228,28 +228,48 @@ where
     R::Dir: Send + 'static,
 {
     match log_line(alloc, log)? {
-        Some((task, end, written)) => {
+        Some((task, LogEnds { begin, end }, line)) => {
             let write = move || {
+                let _ = begin.recv(&rt);
                 run_log(&rt, task);
                 let _ = end.send(&rt, ());
             };
-            writing_of(thread::spawn(&rt, write), written)
+            writing_of(thread::spawn(&rt, write), line)
         }
         None => Ok(None),
     }
 }
 
-// What writes a log, with the two ends of a channel by which its thread says that it has ended.
-type LogLine<F> = (LogTask<F>, Sender<(), Global>, Receiver<(), Global>);
+// What the thread that writes a log has of the one that starts it: it begins by a message, or once nobody is there to send one, and sends
+// one when all is written.
+#[derive(Drop)]
+struct LogEnds {
+    begin: Receiver<(), Global>,
+    end: Sender<(), Global>,
+}
 
-// What writes a log, if there is one, with what says that it has ended.
+// What the thread that starts it has of that one.
+#[derive(Drop)]
+struct LogLine {
+    held: Sender<(), Global>,
+    written: Receiver<(), Global>,
+}
+
+// How a thread that writes a log and the one that starts it hear of each other. Errors: out of memory.
+fn log_ends(alloc: Global) -> Result<(LogEnds, LogLine), AllocError> {
+    let (held, begin) = bounded(alloc, 1)?;
+    let (end, written) = bounded(alloc, 1)?;
+    Ok((LogEnds { begin, end }, LogLine { held, written }))
+}
+
+// What writes a log, if there is one, with what its thread and the one that starts it hear of each other by.
 fn log_line<F: Drop>(
     alloc: Global,
     log: Option<LogTask<F>>,
-) -> Result<Option<LogLine<F>>, ServeFault> {
+) -> Result<Option<(LogTask<F>, LogEnds, LogLine)>, ServeFault> {
     match log {
-        Some(task) => match bounded(alloc, 1) {
-            Ok((end, written)) => Ok(Some((task, end, written))),
+        Some(task) => match log_ends(alloc) {
+            Ok((ends, line)) => Ok(Some((task, ends, line))),
             Err(_) => {
                 drop(task);
                 Err(ServeFault::NoMemory)
@@ -262,13 +282,20 @@ fn log_line<F: Drop>(
 // The thread that writes a log, if it was started.
 fn writing_of<E: Drop>(
     begun: Result<JoinHandle<()>, E>,
-    written: Receiver<(), Global>,
+    line: LogLine,
 ) -> Result<Option<Writing>, ServeFault> {
     match begun {
-        Ok(thread) => Ok(Some(Writing { thread, written })),
+        Ok(thread) => {
+            let LogLine { held, written } = line;
+            Ok(Some(Writing {
+                thread,
+                held,
+                written,
+            }))
+        }
         Err(refused) => {
             drop(refused);
-            drop(written);
+            drop(line);
             Err(ServeFault::NoMemory)
         }
     }

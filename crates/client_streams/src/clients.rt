@@ -72,7 +72,7 @@ impl<F: Future<Output = ()>, R: Wait + Clock + Copy> Future for Seated<F, R> {
     }
 }
 
-// How long a thread that serves more clients than another leaves the next one to that, in milliseconds.
+// How long a thread that serves more clients than another leaves the next one to that at most, in milliseconds.
 const MOMENT_MILLIS: u64 = 1;
 
 // How often all threads look again for a connection that can give way to a client that waits, in milliseconds: those that were new when it
@@ -124,7 +124,8 @@ pub struct Stops {
 /// or one that has been so for longest among another thread's, unless it came less than 250 ms ago and few of its address are served; while
 /// none is idle, that client waits, and further ones wait in the listener's queue. A client that takes no seat holds one of 64 others of its
 /// thread, and is closed where none of these is free. Where an accept fails, as for want of descriptors, a connection that is idle is closed
-/// too. A thread that serves more clients than another lets that accept the next one, for a millisecond.
+/// too. A thread that serves more clients than another lets that accept the next one, for a millisecond at most, and no longer than it does
+/// so.
 ///
 /// The first futures serve nobody, and end together: one for each seat, so that whoever runs the futures has room for as many as
 /// there may be, and no client is refused for want of memory for that room. `Accept::opened` is called after that.
@@ -222,7 +223,7 @@ impl<A: Accept, R: Wait + Clock + Copy> AcceptedClients<A, R> {
         };
         let Ok((socket, address)) = ready!(listeners.poll_accept(cx)) else {
             self.rest();
-            self.seats.want();
+            self.seats.note_failure();
             return Poll::Ready(None);
         };
         let address = canonical(address);
@@ -269,6 +270,7 @@ impl<A: Accept, R: Wait + Clock + Copy> AcceptedClients<A, R> {
         self.stop = None;
         self.listeners = None;
         self.arrival = None;
+        self.seats.give_up();
         self.seats.open();
         self.ending = self.timers.sleep(&self.rt, self.grace).ok();
         true
@@ -319,7 +321,7 @@ impl<A: Accept, R: Wait + Clock + Copy> AcceptedClients<A, R> {
         true
     }
 
-    // Leaves the next client to other threads, for a moment.
+    // Leaves the next client to other threads, for a moment. It ends early once this thread does not serve more than another any longer.
     fn let_others_accept(&mut self) {
         let is_next = self.opening == Opening::Done && self.arrival.is_none();
         if is_next && self.resting.is_none() && !self.has_waited {
@@ -342,6 +344,8 @@ impl<A: Accept, R: Wait + Clock + Copy> Stream for AcceptedClients<A, R> {
         }
         if self.seats.heed(cx) {
             self.let_others_accept();
+        } else if self.has_waited {
+            self.resting = None;
         }
         if let Some(resting) = &mut self.resting {
             let _ = ready!(resting.poll(cx));
@@ -366,7 +370,7 @@ impl<A: Accept, R: Wait + Clock + Copy> Stream for AcceptedClients<A, R> {
             Ok(None) => {
                 self.arrival = Some(arrival);
                 if self.must_look(cx) {
-                    self.seats.want();
+                    self.seats.look_again();
                     return cx.yield_now();
                 }
                 let _ = ready!(self.seats.wait(cx));

@@ -57,6 +57,8 @@ struct Doing {
     is_sending: Cell<bool>,
     // Whether a read failed because the peer was silent for too long.
     has_timed_out: Cell<bool>,
+    // Whether the head that was begun last is of an OPTIONS without a path.
+    has_no_path: Cell<bool>,
 }
 
 /// The stage of a connection, set by its HTTP service and read by its socket. Reference-counted within one thread.
@@ -72,6 +74,7 @@ impl SharedStage {
             is_anew: Cell::new(false),
             is_sending: Cell::new(false),
             has_timed_out: Cell::new(false),
+            has_no_path: Cell::new(false),
         };
         Ok(SharedStage(Rc::new(alloc, doing)?))
     }
@@ -118,6 +121,18 @@ impl SharedStage {
         self.0.has_timed_out.get()
     }
 
+    /// Whether the request whose head has come is an OPTIONS for a URL with nothing behind its host and port, which the HTTP library doesn't
+    /// tell from one with the path `/`. It is known where the request line came by one read, at whose beginning it stood. Asked once for each
+    /// request.
+    pub fn take_no_path(&self) -> bool {
+        self.0.has_no_path.replace(false)
+    }
+
+    // Notes the first octets of a head.
+    fn note_first(&self, octets: &[u8]) {
+        self.0.has_no_path.set(has_no_path(octets));
+    }
+
     // Notes that a read fails because the peer was silent for too long.
     fn note_silence(&self) {
         self.0.has_timed_out.set(true);
@@ -127,6 +142,21 @@ impl SharedStage {
     fn set_sending(&self, is_sending: bool) {
         self.0.is_sending.set(is_sending);
     }
+}
+
+// Whether these octets begin with the line of an OPTIONS for a URL with nothing behind its host and port (RFC 9112, section 3.2.4).
+fn has_no_path(octets: &[u8]) -> bool {
+    let Some(rest) = octets.strip_prefix(b"OPTIONS http://") else {
+        return false;
+    };
+    for &octet in rest {
+        match octet {
+            b' ' => return true,
+            b'/' | b'?' | b'\r' | b'\n' => return false,
+            _ => {}
+        }
+    }
+    false
 }
 
 /// A timeout that starts with the first wait after some progress.
@@ -228,12 +258,15 @@ impl<R: Clock + Copy> Patient<R> {
 
 impl<R: Clock + Drop> Patient<R> {
     // Called after each read that brought octets.
-    fn note_read(&mut self)
+    fn note_read(&mut self, octets: &[u8])
         ensures { self.new.socket ≡ self.old.socket }
     {
         match self.stage.get() {
             Stage::Head | Stage::Content | Stage::Tunnel => {}
-            Stage::Idle => self.stage.set(Stage::Head),
+            Stage::Idle => {
+                self.stage.set(Stage::Head);
+                self.stage.note_first(octets);
+            }
             Stage::Asked => self.coming.begin_anew(),
         }
     }
@@ -287,8 +320,11 @@ impl<R: Clock + Drop> AsyncRead for Patient<R> {
     fn poll_read(&mut self, cx: &mut Context<'_>, buf: &mut [u8]) -> Poll<io::Result<usize>> {
         match AsyncRead::poll_read(&mut self.socket, cx, buf) {
             Poll::Ready(got) => {
-                if matches!(got, Ok(count) if 0 < count) {
-                    self.note_read();
+                if let Ok(count) = &got
+                    && 0 < *count
+                    && let Some(octets) = buf.get(..*count)
+                {
+                    self.note_read(octets);
                 }
                 Poll::Ready(got)
             }

@@ -1,5 +1,5 @@
 //! The seats of a listener's clients, over all threads that serve them.
-ghost use Rattle.std.specs.Prelude.{◌≡◌, ◌+◌, IfOk, OnErr, if◌then◌else◌};
+ghost use Rattle.std.specs.Prelude.{◌≡◌, ◌+◌, ◌-◌, true, false, IfOk, OnErr, if◌then◌else◌};
 ghost use Rattle.futures.specs.Task.{IsArmed, Keeps};
 
 use crate::clients::ClientLimits;
@@ -17,6 +17,8 @@ struct Post {
     bell: Option<Waker>,
     // Whether a client of the thread waits for a seat.
     is_waiting: bool,
+    // Whether the thread leaves the next client to others, since it serves more than another.
+    is_resting: bool,
     // The clients that the thread serves.
     clients: usize,
 }
@@ -29,6 +31,10 @@ const FEW_CLIENTS: usize = 8;
 struct Counts {
     // How many more there may be.
     free: usize,
+    // The connections that give way to a client and whose seats are not free yet.
+    giving_way: usize,
+    // Whether an accept failed, and no connection has given way and no client has taken a seat since.
+    has_failed: bool,
     // The clients of each address.
     addresses: BTreeMap<IpAddr, usize>,
     an_address: usize,
@@ -46,11 +52,14 @@ impl Counts {
             posts.push(Post {
                 bell: None,
                 is_waiting: false,
+                is_resting: false,
                 clients: 0,
             })?;
         }
         Ok(Counts {
             free: limits.most,
+            giving_way: 0,
+            has_failed: false,
             addresses: BTreeMap::new(alloc),
             an_address: limits.an_address,
             few: FEW_CLIENTS.min(limits.most / 4),
@@ -77,25 +86,73 @@ impl Counts {
     fn take(&mut self, thread: usize, address: IpAddr) -> Result<bool, NoSeat>
         ensures taken { IfOk result (λ is_taken. self.old.free ≡ self.new.free + (if is_taken then 1 else 0)) }
         ensures refused { OnErr result (self.new.free ≡ self.old.free) }
+        ensures giving_way { self.new.giving_way ≡ self.old.giving_way }
     {
         if self.has_most(address) {
+            self.set_waiting(thread, false);
             return Err(NoSeat);
         }
         if self.free == 0 {
             return Ok(false);
         }
+        self.set_waiting(thread, false);
         self.count(address)?;
         self.free -= 1;
+        self.has_failed = false;
         if let Some(post) = self.posts.get_mut(thread) {
-            post.is_waiting = false;
             post.clients = post.clients.saturating_add(1);
         }
+        self.wake_rested();
         Ok(true)
+    }
+
+    // Sets whether a client of this thread waits for a seat.
+    fn set_waiting(&mut self, thread: usize, is_waiting: bool)
+        ensures free { self.new.free ≡ self.old.free }
+        ensures giving_way { self.new.giving_way ≡ self.old.giving_way }
+    {
+        if let Some(post) = self.posts.get_mut(thread) {
+            post.is_waiting = is_waiting;
+        }
+    }
+
+    // In how many threads a client waits for a seat.
+    fn waiting(&self) -> usize {
+        let mut waiting = 0usize;
+        for post in self.posts.iter() {
+            if post.is_waiting {
+                waiting = waiting.saturating_add(1);
+            }
+        }
+        waiting
+    }
+
+    // Whether a connection is to give way: more clients wait than seats are free or about to be, or an accept failed.
+    fn must_give_way(&self) -> bool {
+        self.has_failed || self.free.saturating_add(self.giving_way) < self.waiting()
+    }
+
+    // Has a connection give way, if one is to. Returns whether it does.
+    fn give_way(&mut self) -> bool
+        ensures counted { result ≡ true → self.new.giving_way ≡ self.old.giving_way + 1 }
+        ensures refused { result ≡ false → self.new.giving_way ≡ self.old.giving_way }
+        ensures free { self.new.free ≡ self.old.free }
+    {
+        if !self.must_give_way() {
+            return false;
+        }
+        let Some(giving_way) = self.giving_way.checked_add(1) else {
+            return false;
+        };
+        self.giving_way = giving_way;
+        self.has_failed = false;
+        true
     }
 
     // Counts one client more of this address. Errors: out of memory.
     fn count(&mut self, address: IpAddr) -> Result<(), NoSeat>
-        ensures { self.new.free ≡ self.old.free }
+        ensures free { self.new.free ≡ self.old.free }
+        ensures giving_way { self.new.giving_way ≡ self.old.giving_way }
     {
         let count = match self.addresses.get(&address) {
             Some(count) => count.saturating_add(1),
@@ -107,9 +164,14 @@ impl Counts {
         }
     }
 
-    // One client less of this address, in this thread. Who waits for a seat looks for one again.
-    fn leave(&mut self, thread: usize, address: IpAddr) {
+    // One client less of this address, in this thread, whose connection gave way or did not. Who waits for a seat looks for one again.
+    fn leave(&mut self, thread: usize, address: IpAddr, gave_way: bool)
+        ensures { self.new.giving_way ≡ self.old.giving_way - (if gave_way then 1 else 0) }
+    {
         self.free = self.free.saturating_add(1);
+        if gave_way {
+            self.giving_way = self.giving_way.saturating_sub(1);
+        }
         self.forget(address);
         if let Some(post) = self.posts.get_mut(thread) {
             post.clients = post.clients.saturating_sub(1);
@@ -120,9 +182,26 @@ impl Counts {
                 post.bell = None;
             }
         }
+        self.wake_rested();
     }
 
-    fn forget(&mut self, address: IpAddr) {
+    // Wakes the tasks that leave the next client to others, where their thread does not serve more clients than another any longer.
+    fn wake_rested(&mut self)
+        ensures free { self.new.free ≡ self.old.free }
+        ensures giving_way { self.new.giving_way ≡ self.old.giving_way }
+    {
+        let most = self.most_in_balance();
+        for post in self.posts.iter_mut() {
+            if post.is_resting && post.clients <= most {
+                post.is_resting = false;
+                post.bell = None;
+            }
+        }
+    }
+
+    fn forget(&mut self, address: IpAddr)
+        ensures { self.new.giving_way ≡ self.old.giving_way }
+    {
         let Some(count) = self.addresses.get_mut(&address) else {
             return;
         };
@@ -133,21 +212,28 @@ impl Counts {
         }
     }
 
-    // Whether a thread serves more clients than another: one more, and a 32nd part of all.
-    fn is_ahead(&self, thread: usize) -> bool {
-        let Some(post) = self.posts.get(thread) else {
+    // The most clients with which a thread does not count as serving more than another: one more than the fewest, and a 32nd part of all.
+    fn most_in_balance(&self) -> usize {
+        let (mut all, mut fewest) = (0usize, usize::MAX);
+        for post in self.posts.iter() {
+            all = all.saturating_add(post.clients);
+            fewest = fewest.min(post.clients);
+        }
+        fewest.saturating_add(1).saturating_add(all / 32)
+    }
+
+    // Whether this thread serves more clients than another. If so it rests.
+    fn note_rest(&mut self, thread: usize) -> bool {
+        let most = self.most_in_balance();
+        let Some(post) = self.posts.get_mut(thread) else {
             return false;
         };
-        let (mut all, mut least) = (0usize, post.clients);
-        for other in self.posts.iter() {
-            all = all.saturating_add(other.clients);
-            least = least.min(other.clients);
-        }
-        least.saturating_add(1).saturating_add(all / 32) < post.clients
+        post.is_resting = most < post.clients;
+        post.is_resting
     }
 
     // Wakes the tasks that accept the clients of all threads but this one.
-    fn ring_others(&mut self, thread: usize) {
+    fn wake_others(&mut self, thread: usize) {
         for (number, post) in self.posts.iter_mut().enumerate() {
             if number != thread {
                 post.bell = None;
@@ -159,9 +245,20 @@ impl Counts {
 // The seats of all threads.
 #[derive(Drop)]
 struct Pool {
-    // Whether a client waits for a seat to which no connection gives way yet. It is set only while `counts` is locked.
+    // Whether a connection is to give way, as `Counts::must_give_way` says. It is set only while `counts` is locked.
     is_wanted: AtomicBool,
     counts: Mutex<Counts>,
+}
+
+impl Pool {
+    // Has all threads see whether a connection is to give way. Where none was to before, those but this one look for one.
+    fn note_want(&self, counts: &mut Counts, thread: usize) {
+        let is_wanted = counts.must_give_way();
+        let was_wanted = self.is_wanted.swap(is_wanted, Ordering::SeqCst);
+        if is_wanted && !was_wanted {
+            counts.wake_others(thread);
+        }
+    }
 }
 
 /// Error: a client gets no seat, and none by waiting either.
@@ -209,16 +306,16 @@ impl SeatShare {
     /// served, or out of memory.
     pub(crate) fn take<R: Wait>(&self, rt: &R, address: IpAddr) -> Result<bool, NoSeat> {
         let mut counts = self.pool.counts.lock(rt);
-        let is_taken = counts.take(self.thread, address)?;
-        if is_taken {
-            self.pool.is_wanted.store(false, Ordering::SeqCst);
-        }
-        Ok(is_taken)
+        let taken = counts.take(self.thread, address);
+        self.pool.note_want(&mut *counts, self.thread);
+        taken
     }
 
-    /// Gives back the seat of a client of this address.
-    pub(crate) fn leave<R: Wait>(&self, rt: &R, address: IpAddr) {
-        self.pool.counts.lock(rt).leave(self.thread, address);
+    /// Gives back the seat of a client of this address, whose connection gave way or did not.
+    pub(crate) fn leave<R: Wait>(&self, rt: &R, address: IpAddr, gave_way: bool) {
+        let mut counts = self.pool.counts.lock(rt);
+        counts.leave(self.thread, address, gave_way);
+        self.pool.note_want(&mut *counts, self.thread);
     }
 
     /// Whether few clients of this address are served: at most 8, or a quarter of all that may be.
@@ -226,24 +323,41 @@ impl SeatShare {
         self.pool.counts.lock(rt).has_few(address)
     }
 
-    /// Has the connection of some thread give way that has been idle for longest, and the other threads look for it anew.
-    pub(crate) fn want<R: Wait>(&self, rt: &R) {
+    /// Notes that an accept failed, so a connection of some thread is to give way. The other threads look for one anew.
+    pub(crate) fn note_failure<R: Wait>(&self, rt: &R) {
         let mut counts = self.pool.counts.lock(rt);
+        counts.has_failed = true;
         self.pool.is_wanted.store(true, Ordering::SeqCst);
-        counts.ring_others(self.thread);
+        counts.wake_others(self.thread);
     }
 
-    /// Whether a client of any thread waits for a seat to which no connection gives way yet.
+    /// Has the other threads look anew for a connection that can give way.
+    pub(crate) fn look_again<R: Wait>(&self, rt: &R) {
+        self.pool.counts.lock(rt).wake_others(self.thread);
+    }
+
+    /// Notes that no client of the thread waits for a seat any longer.
+    pub(crate) fn give_up<R: Wait>(&self, rt: &R) {
+        let mut counts = self.pool.counts.lock(rt);
+        counts.set_waiting(self.thread, false);
+        self.pool.note_want(&mut *counts, self.thread);
+    }
+
+    /// Whether a connection of any thread is to give way: more clients wait for a seat than connections do so already, or an accept failed.
     pub(crate) fn is_wanted(&self) -> bool {
         self.pool.is_wanted.load(Ordering::SeqCst)
     }
 
-    /// As `is_wanted`. If so, the caller's connection is the one that gives way.
-    pub(crate) fn gives_way(&self) -> bool {
-        self.pool.is_wanted.swap(false, Ordering::SeqCst)
+    /// As `is_wanted`. If so, the caller's connection gives way, and its seat has to be given back as that of one.
+    pub(crate) fn gives_way<R: Wait>(&self, rt: &R) -> bool {
+        let mut counts = self.pool.counts.lock(rt);
+        let gives_way = counts.give_way();
+        self.pool.note_want(&mut *counts, self.thread);
+        gives_way
     }
 
-    /// Has this task woken when a client of another thread waits for a seat. Returns whether the thread serves more clients than another.
+    /// Has this task woken when a client of another thread waits for a seat. Returns whether the thread serves more clients than another: if
+    /// so it is woken as well when it does not any longer.
     pub(crate) fn listen<R: Wait>(&self, rt: &R, cx: &mut Context<'_>) -> bool
         ensures { Keeps cx.old cx.new }
     {
@@ -251,7 +365,7 @@ impl SeatShare {
         if let Some(post) = counts.posts.get_mut(self.thread) {
             let _: Poll<()> = cx.register(&Source::new(), &mut post.bell);
         }
-        counts.is_ahead(self.thread)
+        counts.note_rest(self.thread)
     }
 
     /// Waits until a seat is free, and has the other threads look for a connection that can give way.
@@ -264,14 +378,11 @@ impl SeatShare {
         if 0 < counts.free {
             return cx.yield_now();
         }
-        // Where it was wanted already the others have looked.
-        if !self.pool.is_wanted.swap(true, Ordering::SeqCst) {
-            counts.ring_others(self.thread);
-        }
+        counts.set_waiting(self.thread, true);
+        self.pool.note_want(&mut *counts, self.thread);
         let Some(post) = counts.posts.get_mut(self.thread) else {
             return cx.yield_now();
         };
-        post.is_waiting = true;
         cx.register(&Source::new(), &mut post.bell)
     }
 }

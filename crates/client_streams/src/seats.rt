@@ -31,6 +31,8 @@ struct Seat {
     after: usize,
     // Wakes the task that serves the client.
     waker: Option<Waker>,
+    // Whether the connection gives way to a client that waits.
+    gives_way: bool,
 }
 
 /// The seats of a thread's clients, and which connections are idle. There is one for each client that all threads may serve together.
@@ -60,6 +62,7 @@ impl<R: Wait + Clock + Copy> Seats<R> {
                 before: number,
                 after: number,
                 waker: None,
+                gives_way: false,
             })?;
         }
         Ok(Seats {
@@ -82,15 +85,16 @@ impl<R: Wait + Clock + Copy> Seats<R> {
         }
         let seat = self.free.pop();
         if seat.is_none() {
-            self.share.leave(&self.rt, address);
+            self.share.leave(&self.rt, address, false);
         }
         Ok(seat)
     }
 
     fn leave(&mut self, number: usize, address: Option<IpAddr>) {
         self.take_out(number);
+        let gave_way = self.set_giving_way(number, false);
         if let Some(address) = address {
-            self.share.leave(&self.rt, address);
+            self.share.leave(&self.rt, address, gave_way);
         }
         // Both have the capacity for all of their seats.
         let _ = if number <= self.last {
@@ -100,6 +104,15 @@ impl<R: Wait + Clock + Copy> Seats<R> {
         };
         // A waker that is dropped wakes its task.
         self.taker = None;
+        self.wake_wanted();
+    }
+
+    // Sets whether the connection of a seat gives way. Returns whether it did.
+    fn set_giving_way(&mut self, number: usize, gives_way: bool) -> bool {
+        match self.seats.get_mut(number) {
+            Some(seat) => std::mem::replace(&mut seat.gives_way, gives_way),
+            None => false,
+        }
     }
 
     // The seat that follows in the ring.
@@ -150,6 +163,13 @@ impl<R: Wait + Clock + Copy> Seats<R> {
         }
     }
 
+    // Has the connection that has been idle for longest closed if one of any thread is to give way.
+    fn wake_wanted(&mut self) {
+        if self.share.is_wanted() {
+            self.wake_longest_idle();
+        }
+    }
+
     // Waits until a seat is free, and has the connection closed that has been idle for longest, or one of another thread.
     fn wait(&mut self, cx: &mut Context<'_>) -> Poll<()>
         ensures pending { result ≡ Poll.Pending }
@@ -166,16 +186,20 @@ impl<R: Wait + Clock + Copy> Seats<R> {
         ensures { Keeps cx.old cx.new }
     {
         let is_ahead = self.share.listen(&self.rt, cx);
-        if self.share.is_wanted() {
-            self.wake_longest_idle();
-        }
+        self.wake_wanted();
         is_ahead
     }
 
-    // Has the connection that has been idle for longest closed, or one of another thread.
-    fn want(&mut self) {
-        self.share.want(&self.rt);
+    // Has the connection that has been idle for longest closed, or one of another thread, since an accept failed.
+    fn note_failure(&mut self) {
+        self.share.note_failure(&self.rt);
         self.wake_longest_idle();
+    }
+
+    // Has all threads look anew for a connection that can give way to a client that waits.
+    fn look_again(&mut self) {
+        self.share.look_again(&self.rt);
+        self.wake_wanted();
     }
 
     // Whether a connection came a moment ago, and few others of its address are served: a request may be on its way.
@@ -198,7 +222,8 @@ impl<R: Wait + Clock + Copy> Seats<R> {
         self.put_last(number);
         let is_longest = self.after(NO_SEAT) == number;
         let is_next = is_longest && self.share.is_wanted();
-        if is_next && !self.is_new(arrival) && self.share.gives_way() {
+        if is_next && !self.is_new(arrival) && self.share.gives_way(&self.rt) {
+            self.set_giving_way(number, true);
             return true;
         }
         if let Some(seat) = self.seats.get_mut(number) {
@@ -210,9 +235,7 @@ impl<R: Wait + Clock + Copy> Seats<R> {
     // Notes that the connection of a seat is not idle. One that has been idle for long may have to close in its place.
     fn work(&mut self, number: usize) {
         self.take_out(number);
-        if self.share.is_wanted() {
-            self.wake_longest_idle();
-        }
+        self.wake_wanted();
     }
 
     // Waits until the server is open.
@@ -322,10 +345,24 @@ impl<R: Wait + Clock + Copy> SharedSeats<R> {
         })
     }
 
-    /// Has the connection that has been idle for longest closed, or one of another thread.
-    pub fn want(&self) {
+    /// Has the connection that has been idle for longest closed, or one of another thread, since an accept failed.
+    pub fn note_failure(&self) {
         if let Ok(mut seats) = self.0.try_borrow_mut() {
-            seats.want();
+            seats.note_failure();
+        }
+    }
+
+    /// Has all threads look anew for a connection that can give way to a client that waits.
+    pub fn look_again(&self) {
+        if let Ok(mut seats) = self.0.try_borrow_mut() {
+            seats.look_again();
+        }
+    }
+
+    /// Notes that no client of this thread waits for a seat any longer.
+    pub fn give_up(&self) {
+        if let Ok(seats) = self.0.try_borrow_mut() {
+            seats.share.give_up(&seats.rt);
         }
     }
 

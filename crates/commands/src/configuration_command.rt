@@ -3,6 +3,7 @@
 use crate::NO_OUTPUT;
 use crate::equipment::filters_of;
 use crate::settings::settings_in;
+use crate::warnings::warn;
 use node_core::Network;
 use serve_config::{Settings, SixNetwork};
 use std::fs;
@@ -10,7 +11,7 @@ use std::net::{Ipv4Addr, Ipv6Addr};
 use std::process::ExitCode;
 
 /// Prints `ok` on standard output if the proxy would accept a configuration file, and the line of the fault on standard error if
-/// not. Networks with bits beyond their prefix are told on standard error, and accepted.
+/// not. Networks with bits beyond their prefix are told on standard error, and accepted, as is what a start warns of.
 pub fn check_configuration(rt: &HostRuntime, file: &str) -> ExitCode {
     let text = match fs::read(rt, file) {
         Ok(text) => text,
@@ -32,6 +33,7 @@ fn check_settings(rt: &HostRuntime, settings: &Settings) -> ExitCode {
     warn_of(rt, "allowed", settings.node.allowed.as_slice());
     warn_of_six_clients(rt, settings);
     warn_of_denied(rt, settings);
+    warn(rt, settings);
     if filters_of(rt, settings).is_none() {
         return ExitCode::FAILURE;
     }

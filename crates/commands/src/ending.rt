@@ -1,15 +1,11 @@
 //! What `serve` tells at its end, where nothing waits for long for what standard error goes to.
-use crossbeam_channel::bounded;
+use crate::patience::tell;
 use proxy_site::Finish;
 use std::alloc::{AllocError, AllocGlobal, Global};
 use std::io::Eprint;
 use std::sync::Wait;
-use std::thread;
 use std::thread::Threads;
-use std::time::{Clock, Duration};
-
-/// How many seconds the end waits for standard error.
-const GRACE: u64 = 5;
+use std::time::Clock;
 
 /// Prints whether lines of the access log are lost, and how many events were settled if an administrator ended the proxy; nothing
 /// where standard error takes nothing, or where memory runs out.
@@ -40,28 +36,4 @@ fn lines_of(alloc: Global, finish: &Finish) -> Result<Option<String>, AllocError
         lines.push_str(line.as_str())?;
     }
     Ok(if lines.is_empty() { None } else { Some(lines) })
-}
-
-/// Prints lines on standard error, by a thread of its own. Returns once they are written, or after some seconds; a thread that still
-/// waits then ends with the program.
-fn tell<R>(rt: R, lines: String)
-where
-    R: Threads + Wait + Clock + AllocGlobal + Eprint + Copy + Send + 'static,
-{
-    let Ok((end, written)) = bounded(rt.alloc(), 1) else {
-        return;
-    };
-    let write = move || {
-        let _ = eprintln!(rt; "{lines}");
-        let _ = end.send(&rt, ());
-    };
-    let Ok(thread) = thread::spawn(&rt, write) else {
-        return;
-    };
-    if written
-        .recv_timeout(&rt, Duration::from_secs(GRACE))
-        .is_ok()
-    {
-        thread.join(&rt);
-    }
 }

@@ -9,15 +9,17 @@ mod check_command;
 mod configuration_command;
 mod ending;
 mod equipment;
+mod patience;
 mod settings;
 mod telling;
+mod warnings;
 
 pub use check_command::run_check;
 pub use configuration_command::check_configuration;
 pub use ending::tell_finish;
 pub use equipment::equipment_of;
 pub use settings::settings_of;
-pub use telling::{AskedPorts, tell_end, tell_ports, tell_start};
+pub use telling::{StartFacts, tell_end, tell_listening, tell_start};
 
 /// The message when standard output cannot be written.
 pub const NO_OUTPUT: &str = "standard output can't be written";

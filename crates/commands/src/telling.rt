@@ -1,49 +1,153 @@
 //! What `serve` tells of the start of a proxy, and of a failure.
+use crate::patience::tell;
+use filter_slots::End;
 use proxy_site::{Addresses, Port, ServeFault};
 use serve_config::Settings;
+use std::alloc::{AllocError, AllocGlobal, Global};
 use std::io::{Eprint, ErrorKind};
+use std::net::{Ipv4Addr, Ipv6Addr, SocketAddrV4, SocketAddrV6};
+use std::sync::Wait;
+use std::thread::Threads;
+use std::time::Clock;
+
+/// What a start tells beside the addresses that were bound.
+#[derive(Clone, Copy)]
+pub struct StartFacts {
+    version: &'static str,
+    asked: AskedPorts,
+    six: Option<Ipv6Addr>,
+    entries: u32,
+    octets: u32,
+}
 
 /// The ports that a configuration asks for.
 #[derive(Clone, Copy)]
-pub struct AskedPorts {
+struct AskedPorts {
     icp: u16,
     htcp: u16,
     clients: u16,
     administration: u16,
 }
 
-impl AskedPorts {
-    /// Those of these settings.
-    pub fn of(settings: &Settings) -> AskedPorts {
-        AskedPorts {
-            icp: settings.node.icp.port,
-            htcp: settings.node.htcp.port,
-            clients: settings.http_port,
-            administration: settings.admin_port,
+impl StartFacts {
+    /// Those of these settings, for a program of this version.
+    pub fn of(settings: &Settings, version: &'static str) -> StartFacts {
+        StartFacts {
+            version,
+            asked: AskedPorts {
+                icp: settings.node.icp.port,
+                htcp: settings.node.htcp.port,
+                clients: settings.http_port,
+                administration: settings.admin_port,
+            },
+            six: match &settings.six_clients {
+                Some(clients) => Some(Ipv6Addr::from_bits(clients.address)),
+                None => None,
+            },
+            entries: settings.node.entries,
+            octets: settings.node.octets,
         }
     }
 }
 
-/// Prints the port that the system chose for each that was asked for as 0.
-pub fn tell_ports<R: Eprint>(rt: &R, chosen: Option<Addresses>, asked: &AskedPorts) {
-    let Some(chosen) = chosen else {
+/// Prints a line about a proxy that listens at these addresses and serves clients by so many threads, with the version of the program and
+/// the limits of the store, and a line for each port that was asked for as 0; nothing where standard error takes nothing, or where memory
+/// runs out.
+pub fn tell_listening<R>(
+    rt: R,
+    facts: &StartFacts,
+    addresses: Option<Addresses>,
+    client_threads: usize,
+)
+where
+    R: Threads + Wait + Clock + AllocGlobal + Eprint + Copy + Send + 'static,
+{
+    let Some(addresses) = addresses else {
         return;
     };
-    tell_port(rt, "icp_port", asked.icp, chosen.icp.port);
-    tell_port(rt, "htcp_port", asked.htcp, chosen.htcp.port);
-    tell_port(rt, "http_port", asked.clients, chosen.clients.port());
-    tell_port(
-        rt,
-        "admin_port",
-        asked.administration,
-        chosen.administration.port(),
-    );
+    if let Ok(lines) = start_lines(rt.alloc(), facts, addresses, client_threads) {
+        tell(rt, lines);
+    }
 }
 
-/// Prints a port that was asked for as 0.
-fn tell_port<R: Eprint>(rt: &R, key: &str, asked: u16, chosen: u16) {
-    if asked == 0 {
-        let _ = eprintln!(rt; "{key}: {chosen}");
+/// The lines of a start, without the last line break. Errors: out of memory.
+fn start_lines(
+    alloc: Global,
+    facts: &StartFacts,
+    addresses: Addresses,
+    client_threads: usize,
+) -> Result<String, AllocError> {
+    let mut lines = start_line(alloc, facts, addresses, client_threads)?;
+    let (asked, clients) = (facts.asked, addresses.clients.port());
+    add_port(alloc, &mut lines, "icp_port", asked.icp, addresses.icp.port)?;
+    add_port(
+        alloc,
+        &mut lines,
+        "htcp_port",
+        asked.htcp,
+        addresses.htcp.port,
+    )?;
+    add_port(alloc, &mut lines, "http_port", asked.clients, clients)?;
+    let administration = addresses.administration.port();
+    add_port(
+        alloc,
+        &mut lines,
+        "admin_port",
+        asked.administration,
+        administration,
+    )?;
+    Ok(lines)
+}
+
+/// Adds the line of a port that was asked for as 0. Errors: out of memory.
+fn add_port(
+    alloc: Global,
+    lines: &mut String,
+    key: &str,
+    asked: u16,
+    chosen: u16,
+) -> Result<(), AllocError> {
+    if asked != 0 {
+        return Ok(());
+    }
+    let line = format!(in alloc; "\n{key}: {chosen}")?;
+    lines.push_str(line.as_str())
+}
+
+/// The line about a proxy that listens. Errors: out of memory.
+fn start_line(
+    alloc: Global,
+    facts: &StartFacts,
+    addresses: Addresses,
+    client_threads: usize,
+) -> Result<String, AllocError> {
+    let (icp, htcp) = (socket_at(addresses.icp), socket_at(addresses.htcp));
+    let (clients, administration) = (addresses.clients, addresses.administration);
+    let (version, entries, octets) = (facts.version, facts.entries, facts.octets);
+    let six = six_text(alloc, facts.six, clients.port())?;
+    let threads = if client_threads == 1 {
+        "thread"
+    } else {
+        "threads"
+    };
+    format!(in alloc;
+        "cache_main {version}: ICP {icp}, HTCP {htcp}, HTTP {clients}{six}, administration {administration}; {client_threads} client {threads}; store of at most {entries} objects and {octets} octets"
+    )
+}
+
+/// The address of a query socket.
+fn socket_at(end: End) -> SocketAddrV4 {
+    SocketAddrV4::new(Ipv4Addr::from_octets(end.addr), end.port)
+}
+
+/// What the line tells of the address of IPv6 at which clients are served at this port too; nothing if there is none. Errors: out of memory.
+fn six_text(alloc: Global, six: Option<Ipv6Addr>, port: u16) -> Result<String, AllocError> {
+    match six {
+        Some(address) => {
+            let at = SocketAddrV6::new(address, port, 0, 0);
+            format!(in alloc; " and {at}")
+        }
+        None => Ok(String::new(alloc)),
     }
 }
 

@@ -80,7 +80,11 @@ impl<H: Serves<K>, K: KeepTunnel> Door<H, K> {
     // The method and the target of a request. Returns `None` if out of memory.
     fn line(&self, parts: &http::request::Parts) -> Option<(String, String)> {
         let method = String::from_str(self.alloc, parts.method.as_str()).ok()?;
-        let target = target_of(self.alloc, &parts.uri).ok()?;
+        let mut target = target_of(self.alloc, &parts.uri).ok()?;
+        if self.stage.take_no_path() && target.ends_with('/') {
+            // The library has put the path `/` there.
+            let _ = target.pop();
+        }
         Some((method, target))
     }
 

@@ -263,19 +263,11 @@ impl<F: Front + FollowUp + PassOn, K: KeepTunnel> Serves<K> for FrontAnswers<F> 
         if is_large(&self.context, &facts) {
             return waiting_for_passage(&self.context, facts, None);
         }
-        let alloc = self.context.alloc;
-        let (status, waits) = match submit(&self.context, &facts, false) {
-            Ok(waits) => (503, Some(waits)),
-            Err(status) => (status, None),
-        };
-        // The content is not forwarded.
-        let _ = facts.put_content(Vec::new(alloc));
-        Waiting {
-            alloc,
-            facts,
-            status,
-            waits,
-            passes: None,
+        match submit(&self.context, &facts, false) {
+            Ok(waits) => waiting_for_answer(&self.context, facts, 503, Some(waits)),
+            // What was stored when the front was first asked is gone.
+            Err(501) => waiting_for_passage(&self.context, facts, None),
+            Err(status) => waiting_for_answer(&self.context, facts, status, None),
         }
     }
 
@@ -303,6 +295,27 @@ fn tunnel_by<F: PassOn, K: Drop>(front: &mut F, facts: &SharedFacts<K>) -> Resul
     match &facts.asked {
         Some(asked) => front.tunnel(asked),
         None => Err(503),
+    }
+}
+
+// Waits for the answer to the request of these facts, which the front has accepted, or else answers it with this status. The content is not
+// forwarded.
+fn waiting_for_answer<F: Front + FollowUp + PassOn, K: Drop>(
+    context: &Rc<ClientContext<F>>,
+    facts: SharedFacts<K>,
+    status: u16,
+    waits: Option<Waits<F>>,
+) -> Waiting<F, K>
+    ensures { ⟦<Waiting<F, K> as Future>⟧.can_poll result }
+{
+    let alloc = context.alloc;
+    let _ = facts.put_content(Vec::new(alloc));
+    Waiting {
+        alloc,
+        facts,
+        status,
+        waits,
+        passes: None,
     }
 }
 

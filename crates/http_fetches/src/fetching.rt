@@ -35,9 +35,6 @@ use tokio::time;
 use tokio::time::Timeout;
 use tokio::time::error::Elapsed;
 
-/// How many requests that are passed on run beside the fetches of a thread.
-pub const MOST_PASSAGES: usize = 256;
-
 /// Limits of the fetches of one thread.
 #[derive(Clone, Copy)]
 pub struct FetchLimits {
@@ -51,7 +48,7 @@ pub struct FetchLimits {
     pub idle: Option<Duration>,
     /// How long a connection is kept for further fetches after an answer. None are if it is left out.
     pub keep: Option<Duration>,
-    /// The most concurrent fetches.
+    /// The most jobs at a time: fetches, and requests that are passed on. Further ones wait in the channel.
     pub at_once: usize,
 }
 
@@ -675,8 +672,8 @@ impl<R: Clock + Copy + Drop, A: Admit> Tend for Tending<R, A> {
 }
 
 /// Runs the jobs of a channel until all its senders are gone and the last job has ended, after `seat` was told that it can. Each job has
-/// a connection to itself, a new one or for a fetch one that is kept, and a fetch passes its result to `seat`. `MOST_PASSAGES` requests
-/// that are passed on take no place of the fetches. Errors: the event loop failed, or out of memory.
+/// a connection to itself, a new one or for a fetch one that is kept, and a fetch passes its result to `seat`. Errors: the event loop
+/// failed, or out of memory.
 pub fn run_fetches<R, S, A>(
     rt: R,
     jobs: UnboundedReceiver<Job>,
@@ -752,7 +749,6 @@ where
 {
     let alloc = rt.alloc();
     let mut seat = PassOn { seat };
-    let most = at_once.saturating_add(MOST_PASSAGES);
     let starter = Starter { alloc, means };
-    fetch_chain::run(&rt, runtime, jobs, starter, &mut seat, tending, most)
+    fetch_chain::run(&rt, runtime, jobs, starter, &mut seat, tending, at_once)
 }

@@ -20,4 +20,4 @@ mod speaking;
 mod visit;
 
 pub use budget::{Budget, Share};
-pub use fetching::{FetchLimits, FetchRules, MOST_PASSAGES, run_fetches};
+pub use fetching::{FetchLimits, FetchRules, run_fetches};

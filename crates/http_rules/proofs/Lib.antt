@@ -3,12 +3,14 @@ pub mod Elements
 pub mod Equal
 pub mod Found
 pub mod Heads
+pub mod HostFields
 pub mod Hosts
 pub mod KeyTexts
 pub mod Named
 pub mod Numerals
 pub mod Lengths
 pub mod PlainHeads
+pub mod Pseudonyms
 pub mod StoredDirectives
 pub mod StoredValues
 pub mod TagElements

@@ -7,6 +7,7 @@ use Rattle.std.proofs.Math.ListN.{get_or}
 use Rattle.std.proofs.lemmas.List.{drop_more}
 use Rattle.http_rules.specs.Fields.{Field}
 use Rattle.http_rules.specs.Directives.{argument, directives_in, first_argument, is_unclosed, has_unclosed}
+use Rattle.http_rules.specs.Forbidding.{forbids, forbids_in}
 use Rattle.http_rules.specs.Validators.{stored_fields}
 use Rattle.http_rules.proofs.Found.{option_or_nothing, or_nothing}
 use Rattle.http_rules.proofs.Named.{first_argument-append}
@@ -68,3 +69,25 @@ pub unclosed_step : (object : List (Vec ℕ Global × Vec ℕ Global)) (i : ℕ)
     ≡ (has_unclosed ((field.0.items, field.1.items) ∷ []) || has_unclosed (stored_fields (drop (i + 1) object)))
 unclosed_step object i field h e =
     ap has_unclosed (fields_next object i field h e) ∙ unclosed_cons (field.0.items, field.1.items) (stored_fields (drop (i + 1) object))
+
+-- a field forbids something, or one of the others
+forbids_cons : (name : List ℕ) (f : Field) (fs : List Field) → forbids name (f ∷ fs) ≡ (forbids name (f ∷ []) || forbids name fs)
+forbids_cons name f fs = by (bytes_eq f.0 (codes "cache-control"))
+  where
+    others : List Field
+    others = filter (λ (g : Field). bytes_eq g.0 (codes "cache-control")) fs
+
+    forbids_of : List Field → Bool
+    forbids_of fields = list_any (forbids_in name) (map (λ (g : Field). g.1) fields)
+
+    by : (b : Bool) → forbids_of (cond b (f ∷ others) others) ≡ (forbids_of (cond b (f ∷ []) []) || forbids_of others)
+    by true = ap (λ (b : Bool). b || forbids_of others) (sym (or_nothing (forbids_in name f.1)))
+    by false = refl
+
+-- the next field of an object forbids something, or one behind it
+pub forbids_step : (name : List ℕ) (object : List (Vec ℕ Global × Vec ℕ Global)) (i : ℕ) (field : Vec ℕ Global × Vec ℕ Global)
+    → i < length object → field ≡ get_or object i field
+    → forbids name (stored_fields (drop i object))
+    ≡ (forbids name ((field.0.items, field.1.items) ∷ []) || forbids name (stored_fields (drop (i + 1) object)))
+forbids_step name object i field h e =
+    ap (forbids name) (fields_next object i field h e) ∙ forbids_cons name (field.0.items, field.1.items) (stored_fields (drop (i + 1) object))

@@ -11,9 +11,9 @@ is_name_octet octet =
     is_ascii_alphanumeric octet || list_any (λ mark. octet == mark) (codes "-._~")
     || list_any (λ mark. octet == mark) (codes "!$&'()*+,;=")
 
--- one or more of them
+-- one or more of them, at most 253 (RFC 1035, section 2.3.4, without the two octets that no text shows)
 abbrev pub is_registered_name : List ℕ → Bool
-is_registered_name text = not (length text == 0) && list_all is_name_octet text
+is_registered_name text = (not (length text == 0) && nat_le (length text) 253) && list_all is_name_octet text
 
 -- the port that a numeral says: 1 to 65,535
 abbrev pub port_of : List ℕ → Option ℕ

@@ -11,13 +11,14 @@ use Rattle.http_rules.specs.declared.freshness.Kept.{Kept}
 use Rattle.http_rules.specs.declared.refresh.RefreshRule.{RefreshRule}
 use Rattle.http_rules.specs.Fields.{Field, values_of, first_value, has_field}
 use Rattle.http_rules.specs.Directives.{argument, argument_seconds, asks, has_unclosed}
+use Rattle.http_rules.specs.Forbidding.{forbids}
 use Rattle.http_rules.specs.Text.{trimmed, seconds}
 use Rattle.http_rules.specs.Expiry.{date_of, expires_lifetime, heuristic_lifetime}
 use Rattle.http_rules.specs.Refresh.{first_rule, ruled_lifetime}
 
 -- no-store (section 5.2.2.5), which is ignored beside must-understand if the status is understood, as 200 is (section 5.2.2.3)
 abbrev pub forbids_store : List Field → Bool
-forbids_store fields = asks (codes "no-store") fields && not (asks (codes "must-understand") fields)
+forbids_store fields = forbids (codes "no-store") fields && not (asks (codes "must-understand") fields)
 
 -- whether another request might get another response, from the Vary values (section 4.1). An exception to that section: what came
 -- without a content coding to a fetch that had no Accept-Encoding is given to every request, as nearly all accept it
@@ -35,9 +36,9 @@ abbrev pub is_barred : List Field → Bool
 is_barred fields =
     forbids_store fields
     -- section 5.2.2.7, with or without field names
-    || asks (codes "private") fields
+    || forbids (codes "private") fields
     -- section 5.2.2.4: not to be used without validation
-    || asks (codes "no-cache") fields
+    || forbids (codes "no-cache") fields
     -- section 4.1
     || varies fields
     -- mostly for one client; stricter than section 7.3

@@ -9,9 +9,11 @@ pub mod Elements
 pub mod EntityTags
 pub mod Expiry
 pub mod Fields
+pub mod Forbidding
 pub mod Forwarding
 pub mod Framing
 pub mod Freshness
+pub mod HostFields
 pub mod Loops
 pub mod Mirrors
 pub mod Options
@@ -20,6 +22,7 @@ pub mod OriginsSix
 pub mod Parts
 pub mod Passing
 pub mod Plain
+pub mod Pseudonyms
 pub mod Ranges
 pub mod Refresh
 pub mod Requests

@@ -23,23 +23,37 @@ is_inside_six address network = first_bits network.prefix address == first_bits 
 -- whether the first 96 bits are those of ::/96, ::ffff:0:0/96, ::ffff:0:0:0/96 or 64:ff9b::/96, which end with an address of IPv4
 -- (RFC 4291, section 2.5.5; RFC 2765, section 2.1; RFC 6052, section 2.1)
 abbrev pub ends_with_four : ℕ → Bool
-ends_with_four front = front == 0 || front == 65535 || front == 4294901760 || front == 6619035 * 2 ^ 64
+ends_with_four front = front == 0 || front == 0xffff || front == 0xffff0000 || front == 0x64ff9b * 2 ^ 64
 
--- the networks that are never fetched from, where the configuration says nothing: fd00:ec2::254 alone, where a cloud (AWS) tells each of
--- its hosts what that is trusted with, as 169.254.169.254 does
+-- the address of these eight groups of 16 bits, as texts of addresses have them (RFC 4291, section 2.2)
+abbrev pub six : ℕ → ℕ → ℕ → ℕ → ℕ → ℕ → ℕ → ℕ → ℕ
+six a b c d e f g h =
+    a * 2 ^ 112 + b * 2 ^ 96 + c * 2 ^ 80 + d * 2 ^ 64 + e * 2 ^ 48 + f * 2 ^ 32 + g * 2 ^ 16 + h
+
+-- the network of one address alone
+abbrev pub alone : ℕ → SixNetwork
+alone address = record { address = address; prefix = 128 }
+
+-- the networks that are never fetched from, where the configuration says nothing: the addresses at which clouds tell each of their hosts
+-- what that is trusted with, as 169.254.169.254 does. fd00:ec2::254 is that of AWS, fd20:ce::254 that of Google, fd00:c1::a9fe:a9fe that
+-- of Oracle
 abbrev pub usual_six_denials : List SixNetwork
-usual_six_denials = record { address = 64768 * 2 ^ 112 + 3778 * 2 ^ 96 + 596; prefix = 128 } ∷ []
+usual_six_denials =
+    alone (six 0xfd00 0xec2 0 0 0 0 0 0x254)
+    ∷ alone (six 0xfd20 0xce 0 0 0 0 0 0x254)
+    ∷ alone (six 0xfd00 0xc1 0 0 0 0 0xa9fe 0xa9fe)
+    ∷ []
 
 -- the address of IPv4 that one of IPv6 stands for: ::1, and ::, by which Linux reaches ::1, for 127.0.0.1; fe80::/10, addresses of a
 -- link alone, for 169.254.0.0; 2002::/16 for what follows (RFC 3056, section 2); 2001::/32 for the last 32 bits, each turned
 -- (RFC 4380, section 4)
 abbrev pub stands_for : ℕ → Option ℕ
 stands_for address =
-    if nat_le address 1 then Some 2130706433
-    else if address / 2 ^ 118 == 1018 then Some 2851995648
+    if nat_le address 1 then Some 0x7f000001
+    else if address / 2 ^ 118 == 0x3fa then Some 0xa9fe0000
     else if ends_with_four (address / 2 ^ 32) then Some (address % 2 ^ 32)
-    else if address / 2 ^ 112 == 8194 then Some (address / 2 ^ 80 % 2 ^ 32)
-    else if address / 2 ^ 96 == 536936448 then Some (4294967295 - address % 2 ^ 32)
+    else if address / 2 ^ 112 == 0x2002 then Some (address / 2 ^ 80 % 2 ^ 32)
+    else if address / 2 ^ 96 == 0x20010000 then Some (0xffffffff - address % 2 ^ 32)
     else None
 
 -- whether a server at this address of IPv4, as a number, may be fetched from
@@ -55,7 +69,7 @@ is_as rules (Some address) port = admits_four rules address port
 abbrev pub reached_six : ℕ → ℕ
 reached_six address =
     if address == 0 then 1
-    else if address == 65535 * 2 ^ 32 then 65535 * 2 ^ 32 + 2130706433
+    else if address == 0xffff * 2 ^ 32 then 0xffff * 2 ^ 32 + 0x7f000001
     else address
 
 -- whether an address, or the one that a connection to it reaches, is in one of these networks; each is, where there are none at all

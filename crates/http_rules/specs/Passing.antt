@@ -1,7 +1,8 @@
 -- What a request that is passed on takes along.
-use Rattle.std.specs.Prelude.{ℕ, ◌-◌, ◌≡◌, List, [], ◌∷◌, codes, bytes_eq, filter, map, not, ◌==◌, ◌&&◌, Bool, true, false, Option, Some, None, option_map, unwrap_or, if◌then◌else◌}
+use Rattle.std.specs.Prelude.{ℕ, ◌-◌, ◌≡◌, List, [], ◌∷◌, codes, bytes_eq, drop, filter, length, map, nat_le, not, take, ◌==◌, ◌&&◌, ◌||◌, Bool, true, false, Option, Some, None, option_map, unwrap_or, if◌then◌else◌}
 use Rattle.std.specs.Fmt.{decimal}
 use Rattle.std.specs.List.{list_any}
+use Rattle.http_header.specs.Token.{lowercase}
 use Rattle.http_rules.specs.declared.forwarding.Onward.{Onward}
 use Rattle.http_rules.specs.declared.forwarding.Onward.TheVariants.{Pass, Last}
 use Rattle.http_rules.specs.Fields.{Field, values_of}
@@ -16,9 +17,20 @@ safe_methods = codes "GET" ∷ codes "HEAD" ∷ codes "OPTIONS" ∷ codes "TRACE
 abbrev pub is_unsafe : List ℕ → Bool
 is_unsafe method = not (list_any (bytes_eq method) safe_methods)
 
+-- whether a target is an `http` URL with nothing behind its host and port
+abbrev pub has_no_path : List ℕ → Bool
+has_no_path target =
+    nat_le 7 (length target)
+    && (bytes_eq (lowercase (take 7 target)) (codes "http://") && not (list_any (λ c. c == 47 || c == 63) (drop 7 target)))
+
 -- the methods whose requests a proxy may be the last recipient of (RFC 9110, section 7.6.2), without TRACE, which is not passed on
 abbrev pub is_counted : List ℕ → Bool
 is_counted method = bytes_eq method (codes "OPTIONS")
+
+-- whether a request is about its server as a whole, and so reaches it with the target `*` (RFC 9112, section 3.2.4): OPTIONS for an
+-- absolute URL with an empty path and no query. 47 is a slash, 63 a question mark
+abbrev pub is_for_server : List ℕ → List ℕ → Bool
+is_for_server method target = bytes_eq method (codes "OPTIONS") && has_no_path target
 
 -- the hops that a Max-Forwards value still has, at most 2,147,483,648; none if it is no number
 abbrev pub hops : List ℕ → Option ℕ

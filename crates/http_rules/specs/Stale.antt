@@ -4,6 +4,7 @@ use Rattle.http_rules.specs.declared.stale.StaleUse.{StaleUse}
 use Rattle.http_rules.specs.declared.stale.StaleUse.TheVariants.{InPlaceOfError, WhileValidated, Accepted}
 use Rattle.http_rules.specs.Fields.{Field}
 use Rattle.http_rules.specs.Directives.{argument, argument_seconds, asks, has_unclosed}
+use Rattle.http_rules.specs.Forbidding.{forbids}
 
 -- whether a status is an error in whose place a stale object may be served (RFC 5861, section 4)
 abbrev pub is_error : ℕ → Bool
@@ -19,13 +20,13 @@ supersedes status =
 abbrev pub prohibits_stale : List Field → Bool
 prohibits_stale fields =
     -- section 5.2.2.4
-    asks (codes "no-cache") fields
+    forbids (codes "no-cache") fields
     -- section 5.2.2.2
-    || asks (codes "must-revalidate") fields
+    || forbids (codes "must-revalidate") fields
     -- section 5.2.2.8
-    || asks (codes "proxy-revalidate") fields
+    || forbids (codes "proxy-revalidate") fields
     -- section 5.2.2.10: it says what proxy-revalidate says
-    || asks (codes "s-maxage") fields
+    || forbids (codes "s-maxage") fields
     -- any of them might be hidden by the quote
     || has_unclosed fields
 

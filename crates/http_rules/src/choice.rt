@@ -7,8 +7,8 @@ ghost use Rattle.http_rules.specs.Choice.{is_own, has_accepted, alone, shared, c
 use crate::conditions::is_for_origin;
 use crate::directives::Directives;
 use crate::fields::has_field;
+use crate::forbidding::forbids;
 use crate::ranges::range_of;
-use crate::request::may_ask_no_cache;
 use crate::reuse::{accepts, asks_by_pragma};
 use crate::validators::only_value;
 use http_header::HeaderMap;
@@ -29,7 +29,7 @@ pub struct Stored {
 /// `answer_to` says of it. A GET for which nothing is stored shares a fetch, unless it has a range; a HEAD is not fetched. Requests
 /// with Authorization, Cookie, `no-store`, `no-cache` (RFC 9111, section 5.2.1), `Pragma: no-cache` without Cache-Control (RFC 7234,
 /// section 5.4), a directive behind an unclosed quote, If-Match or If-Unmodified-Since are never answered from the store. `stored` makes no
-/// difference to a GET without Range and Cache-Control.
+/// difference to a GET without Range and Cache-Control. `no-store` and `no-cache` count before a semicolon, too.
 ///
 /// Errors: the status code of the refusal. 501 for a method other than GET and HEAD, and for a HEAD that is not answered from the
 /// store; 504 for a request with `only-if-cached` that is not.
@@ -85,8 +85,8 @@ fn is_own(head: &HeaderMap, directives: &Directives) -> bool
 {
     has_field(head, "authorization")
         || has_field(head, "cookie")
-        || directives.no_store
-        || may_ask_no_cache(directives)
+        || forbids(head, b"no-store")
+        || (forbids(head, b"no-cache") || directives.unclosed)
         || asks_by_pragma(head)
         || is_for_origin(head)
 }

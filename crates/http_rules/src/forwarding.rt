@@ -1,5 +1,5 @@
-//! Which header fields are forwarded (RFC 9110, sections 7.6.1 and 11.7).
-ghost use Rattle.std.specs.Prelude.{◌≡◌, ◌<◌, ◌≤◌, IfOk, IsErrOf, map, bytes_eq, length};
+//! Which header fields are forwarded (RFC 9110, sections 7.6.1 and 11.7; RFC 8586, section 2).
+ghost use Rattle.std.specs.Prelude.{◌≡◌, ◌<◌, ◌≤◌, IfOk, IsErrOf, map, bytes_eq, codes, length};
 ghost use Rattle.std.specs.List.{list_any};
 ghost use Rattle.http_rules.specs.Fields.{fields_of};
 ghost use Rattle.http_rules.specs.Forwarding.{always_removed, options, end_to_end};
@@ -41,7 +41,7 @@ pub enum Onward {
 }
 
 /// The fields that are forwarded, as pairs of a name in lower case and a value, in the order of the map: all but the known
-/// hop-by-hop fields and those that the Connection fields name.
+/// hop-by-hop fields and those that the Connection fields name, of which CDN-Loop stays.
 ///
 /// Errors: the Connection fields have more than 64 elements in all, or out of memory.
 pub fn end_to_end(alloc: Global, head: &HeaderMap) -> Result<Vec<(Vec<u8>, Vec<u8>)>, PassFault>
@@ -53,12 +53,19 @@ pub fn end_to_end(alloc: Global, head: &HeaderMap) -> Result<Vec<(Vec<u8>, Vec<u
     let mut kept = Vec::new(alloc);
     for (name, value) in head.iter() {
         let name = name.as_bytes();
-        if !is_always_removed(name) && !options.contains(name) {
+        if !is_always_removed(name) && (tells_loops(name) || !options.contains(name)) {
             let field = (name.to_vec(alloc)?, value.as_bytes().to_vec(alloc)?);
             kept.push(field).map_err(AllocError::from)?;
         }
     }
     Ok(kept)
+}
+
+// Whether fields with this name have the marks of caches, which no Connection field takes off.
+fn tells_loops(name: &[u8]) -> bool
+    ensures { result ≡ bytes_eq name.now (codes "cdn-loop") }
+{
+    name == b"cdn-loop".as_slice()
 }
 
 // Whether fields with this name are never forwarded.

@@ -8,6 +8,7 @@ use crate::age::age_value;
 use crate::directives::Directives;
 use crate::expiry::{date_of, expires_lifetime, heuristic_lifetime};
 use crate::fields::{has_field, values_of};
+use crate::forbidding::forbids;
 use crate::named_directive::argument_of;
 use crate::refresh::{RefreshRule, first_rule};
 use crate::seconds::MOST_SECONDS;
@@ -33,7 +34,8 @@ pub struct Kept {
 /// if it overrides; no rule has a response stored that must not be.
 ///
 /// Only responses with status 200 to shared requests are kept: other statuses are not, although RFC 9111 would allow some of them.
-/// Neither are responses with `no-cache`, which would have to be validated before each use.
+/// Neither are responses with `no-cache`, which would have to be validated before each use. `no-store`, `private` and `no-cache` count
+/// before a semicolon, too.
 pub fn may_keep(
     mode: Mode,
     url: &[u8],
@@ -69,9 +71,9 @@ fn is_barred(head: &HeaderMap, directives: &Directives) -> bool
     requires { Finds directives.now (fields_of head.now) }
     ensures { result ≡ is_barred (fields_of head.now) }
 {
-    forbids_store(head, directives)
-        || directives.private
-        || directives.no_cache
+    forbids_store(head)
+        || forbids(head, b"private")
+        || forbids(head, b"no-cache")
         || varies(head)
         || has_field(head, "set-cookie")
         || directives.unclosed
@@ -79,11 +81,10 @@ fn is_barred(head: &HeaderMap, directives: &Directives) -> bool
 
 // Whether there is a `no-store` that counts: beside `must-understand` it does not, as status 200 is understood (RFC 9111, section
 // 5.2.2.3).
-fn forbids_store(head: &HeaderMap, directives: &Directives) -> bool
-    requires { Finds directives.now (fields_of head.now) }
+fn forbids_store(head: &HeaderMap) -> bool
     ensures { result ≡ forbids_store (fields_of head.now) }
 {
-    directives.no_store && argument_of(head, b"must-understand").is_none()
+    forbids(head, b"no-store") && argument_of(head, b"must-understand").is_none()
 }
 
 // Whether a response depends on fields of the request (RFC 9111, section 4.1). `Vary: Accept-Encoding` alone does not count where

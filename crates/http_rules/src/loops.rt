@@ -28,8 +28,8 @@ fn marker_name(name: &[u8]) -> &[u8]
     if is_token(name) { name } else { b"wabretos" }
 }
 
-// Whether a text is a token.
-fn is_token(text: &[u8]) -> bool
+/// Whether a text is a token.
+pub(crate) fn is_token(text: &[u8]) -> bool
     ensures { result ≡ is_token text.now }
 {
     !text.is_empty() && has_token_octets(text)

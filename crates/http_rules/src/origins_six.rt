@@ -6,6 +6,7 @@ ghost use Rattle.http_rules.specs.OriginsSix.{
   admits_at,
   admits_four,
   admits_six,
+  alone,
   first_bits,
   is_as,
   is_denied_six,
@@ -30,6 +31,16 @@ pub struct SixNetwork {
 }
 
 impl SixNetwork {
+    // The network of one address alone.
+    fn alone(address: u128) -> SixNetwork
+        ensures { result ≡ alone address }
+    {
+        SixNetwork {
+            address,
+            prefix: 128,
+        }
+    }
+
     /// Whether an address is in this network.
     pub fn contains(&self, address: u128) -> bool
         ensures { result ≡ is_inside_six address self.now }
@@ -63,11 +74,13 @@ const MAPPED_NONE: u128 = 0xffff_0000_0000;
 
 const MAPPED_LOOPBACK: u128 = 0xffff_7f00_0001;
 
-// fd00:ec2::254, at which a cloud (AWS) tells each of its hosts what that is trusted with.
-const METADATA: SixNetwork = SixNetwork {
-    address: 0xfd00_0ec2_0000_0000_0000_0000_0000_0254,
-    prefix: 128,
-};
+// fd00:ec2::254, fd20:ce::254 and fd00:c1::a9fe:a9fe, at which clouds (AWS, Google, Oracle) tell each of their hosts what that is trusted
+// with.
+const METADATA_AWS: u128 = 0xfd00_0ec2_0000_0000_0000_0000_0000_0254;
+
+const METADATA_GOOGLE: u128 = 0xfd20_00ce_0000_0000_0000_0000_0000_0254;
+
+const METADATA_ORACLE: u128 = 0xfd00_00c1_0000_0000_0000_0000_a9fe_a9fe;
 
 // The last 32 bits of an address.
 fn last_bits(address: u128) -> u32
@@ -185,12 +198,15 @@ fn reached_six(address: u128) -> u128
     }
 }
 
-/// The networks of IPv6 that are never fetched from where the configuration says nothing: fd00:ec2::254 alone, the metadata of a cloud.
+/// The networks of IPv6 that are never fetched from where the configuration says nothing: fd00:ec2::254, fd20:ce::254 and
+/// fd00:c1::a9fe:a9fe, the metadata of clouds.
 pub fn usual_six_denials(alloc: Global) -> Result<Vec<SixNetwork>, AllocError>
     ensures { IfOk result (λ networks. networks.items ≡ usual_six_denials) }
 {
     let mut denied = Vec::new(alloc);
-    denied.push(METADATA)?;
+    denied.push(SixNetwork::alone(METADATA_AWS))?;
+    denied.push(SixNetwork::alone(METADATA_GOOGLE))?;
+    denied.push(SixNetwork::alone(METADATA_ORACLE))?;
     Ok(denied)
 }
 
@@ -199,12 +215,12 @@ pub fn usual_six_denials(alloc: Global) -> Result<Vec<SixNetwork>, AllocError>
 /// (RFC 6052, section 2.1), in 2002::/16 (RFC 3056, section 2), and turned at the end of 2001::/32 (RFC 4380, section 4). What admits ::1 or
 /// :: admits 127.0.0.1, and what admits an address of a link alone (fe80::/10) admits 169.254.0.0.
 pub fn embedded_law()
-    ensures loopback { (rules : OriginRules) (address port : ℕ) → address ≤ 1 → admits_six rules address port ≡ true → admits_four rules 2130706433 port ≡ true }
-    ensures link { (rules : OriginRules) (rest port : ℕ) → rest < 2 ^ 118 → admits_six rules (1018 * 2 ^ 118 + rest) port ≡ true → admits_four rules 2851995648 port ≡ true }
+    ensures loopback { (rules : OriginRules) (address port : ℕ) → address ≤ 1 → admits_six rules address port ≡ true → admits_four rules 0x7f000001 port ≡ true }
+    ensures link { (rules : OriginRules) (rest port : ℕ) → rest < 2 ^ 118 → admits_six rules (0x3fa * 2 ^ 118 + rest) port ≡ true → admits_four rules 0xa9fe0000 port ≡ true }
     ensures compatible { (rules : OriginRules) (four port : ℕ) → four < 2 ^ 32 → 1 < four → admits_six rules four port ≡ true → admits_four rules four port ≡ true }
-    ensures mapped { (rules : OriginRules) (four port : ℕ) → four < 2 ^ 32 → admits_six rules (65535 * 2 ^ 32 + four) port ≡ true → admits_four rules four port ≡ true }
-    ensures translated { (rules : OriginRules) (four port : ℕ) → four < 2 ^ 32 → admits_six rules (65535 * 2 ^ 48 + four) port ≡ true → admits_four rules four port ≡ true }
-    ensures nat64 { (rules : OriginRules) (four port : ℕ) → four < 2 ^ 32 → admits_six rules (100 * 2 ^ 112 + 65435 * 2 ^ 96 + four) port ≡ true → admits_four rules four port ≡ true }
-    ensures six_to_four { (rules : OriginRules) (four rest port : ℕ) → four < 2 ^ 32 → rest < 2 ^ 80 → admits_six rules (8194 * 2 ^ 112 + four * 2 ^ 80 + rest) port ≡ true → admits_four rules four port ≡ true }
-    ensures teredo { (rules : OriginRules) (four rest port : ℕ) → four < 2 ^ 32 → rest < 2 ^ 64 → admits_six rules (536936448 * 2 ^ 96 + rest * 2 ^ 32 + (4294967295 - four)) port ≡ true → admits_four rules four port ≡ true }
+    ensures mapped { (rules : OriginRules) (four port : ℕ) → four < 2 ^ 32 → admits_six rules (0xffff * 2 ^ 32 + four) port ≡ true → admits_four rules four port ≡ true }
+    ensures translated { (rules : OriginRules) (four port : ℕ) → four < 2 ^ 32 → admits_six rules (0xffff * 2 ^ 48 + four) port ≡ true → admits_four rules four port ≡ true }
+    ensures nat64 { (rules : OriginRules) (four port : ℕ) → four < 2 ^ 32 → admits_six rules (0x64 * 2 ^ 112 + 0xff9b * 2 ^ 96 + four) port ≡ true → admits_four rules four port ≡ true }
+    ensures six_to_four { (rules : OriginRules) (four rest port : ℕ) → four < 2 ^ 32 → rest < 2 ^ 80 → admits_six rules (0x2002 * 2 ^ 112 + four * 2 ^ 80 + rest) port ≡ true → admits_four rules four port ≡ true }
+    ensures teredo { (rules : OriginRules) (four rest port : ℕ) → four < 2 ^ 32 → rest < 2 ^ 64 → admits_six rules (0x20010000 * 2 ^ 96 + rest * 2 ^ 32 + (0xffffffff - four)) port ≡ true → admits_four rules four port ≡ true }
 {}

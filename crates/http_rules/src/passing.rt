@@ -1,12 +1,15 @@
 //! Which fields a request that is passed on takes along (RFC 9110, section 7.6), and which methods are safe.
-ghost use Rattle.std.specs.Prelude.{◌≡◌, ◌<◌, IfOk, IsErrOf, length, map};
+ghost use Rattle.std.specs.List.{list_any};
+ghost use Rattle.std.specs.Prelude.{◌≡◌, ◌==◌, ◌||◌, ◌<◌, IfOk, IsErrOf, length, map};
 ghost use Rattle.http_rules.specs.Fields.{fields_of};
 ghost use Rattle.http_rules.specs.Forwarding.{options};
-ghost use Rattle.http_rules.specs.Passing.{GoesOnward, has_no_hops, hops, is_counted, is_made_anew, is_unsafe, is_zero, onward_fields, onward_value};
+ghost use Rattle.http_rules.specs.Passing.{GoesOnward, has_no_hops, has_no_path, hops, is_counted, is_for_server, is_made_anew, is_unsafe, is_zero, onward_fields, onward_value};
 
 use crate::fields::values_of;
 use crate::forwarding::{Onward, PassFault, end_to_end};
+use crate::host_field::SCHEME_OCTETS;
 use crate::seconds::seconds;
+use crate::text::is_name;
 use http_header::HeaderMap;
 use std::alloc::{AllocError, Global};
 
@@ -34,6 +37,29 @@ pub fn onward(alloc: Global, method: &str, head: &HeaderMap) -> Result<Onward, P
     }
     let fields = end_to_end(alloc, head)?;
     Ok(Onward::Pass(onward_fields(alloc, is_counted, fields)?))
+}
+
+/// Whether a request is about its server as a whole: OPTIONS for an `http` URL with an empty path and no query. The last proxy on its way
+/// sends it with the target `*` (RFC 9112, section 3.2.4).
+pub fn is_for_server(method: &str, target: &str) -> bool
+    ensures { result ≡ is_for_server method.now target.now }
+{
+    is_counted(method) && has_no_path(target.as_bytes())
+}
+
+// Whether a target is an `http` URL with nothing behind its host and port.
+fn has_no_path(target: &[u8]) -> bool
+    ensures { result ≡ has_no_path target.now }
+{
+    SCHEME_OCTETS <= target.len()
+        && (is_name(&target[..SCHEME_OCTETS], b"http://") && !has_path(&target[SCHEME_OCTETS..]))
+}
+
+// Whether a path or a query begins in a text.
+fn has_path(text: &[u8]) -> bool
+    ensures { result ≡ list_any (λ c. c == 47 || c == 63) text.now }
+{
+    text.iter().any(|&octet| octet == b'/' || octet == b'?')
 }
 
 // Whether Max-Forwards counts in requests with this method.

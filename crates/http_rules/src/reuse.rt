@@ -7,7 +7,8 @@ ghost use Rattle.http_rules.specs.Reuse.{may_have_no_cache, asks_by_pragma, is_y
 
 use crate::directives::{argument_seconds, is_unclosed};
 use crate::fields::{has_field, values_of};
-use crate::named_directive::{argument_in, argument_of};
+use crate::forbidding::forbids_in;
+use crate::named_directive::argument_of;
 use http_header::HeaderMap;
 
 /// Whether a Pragma field counts and has `no-cache`, or may have it behind an unclosed quote.
@@ -29,7 +30,7 @@ pub(crate) fn asks_by_pragma(head: &HeaderMap) -> bool
 fn may_have_no_cache(value: &[u8]) -> bool
     ensures { result ≡ may_have_no_cache value.now }
 {
-    argument_in(value, b"no-cache").is_some() || is_unclosed(value)
+    forbids_in(value, b"no-cache") || is_unclosed(value)
 }
 
 /// Whether a request with these fields accepts a stored response that has this age and stays fresh for `life` seconds: its

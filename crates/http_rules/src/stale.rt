@@ -6,6 +6,7 @@ ghost use Rattle.http_rules.specs.Validators.{stored_fields};
 ghost use Rattle.http_rules.specs.Stale.{is_error, supersedes, prohibits_stale, window, operators_window, is_within, permits, may_serve_stale, has_stale_use, takes_stale, accepted_by, stale_use};
 
 use crate::directives::argument_seconds;
+use crate::forbidding::stored_forbids;
 use crate::named_directive::{argument_of, has_stored_unclosed, stored_argument};
 use http_header::HeaderMap;
 
@@ -41,7 +42,7 @@ pub fn supersedes(status: u16) -> bool
 /// In place of an error it may if it has been stale for at most as many seconds as its `stale-if-error` says, or as the operator
 /// allows, whose 0 allows nothing; while it is validated, if for at most as many as its `stale-while-revalidate` says; where the client
 /// accepts it, if for at most as many as the client says. A directive whose argument is no number allows nothing. With `no-cache`, `must-revalidate`, `proxy-revalidate` or `s-maxage`, or a Cache-Control
-/// value with an unclosed quote, it never may (RFC 9111, section 4.2.4).
+/// value with an unclosed quote, it never may (RFC 9111, section 4.2.4); these four count before a semicolon, too.
 pub fn may_serve_stale(
     object: &[(Vec<u8>, Vec<u8>)],
     occasion: StaleUse,
@@ -104,10 +105,10 @@ fn accepted_by(argument: &[u8]) -> Option<StaleUse>
 fn prohibits_stale(object: &[(Vec<u8>, Vec<u8>)]) -> bool
     ensures { result ≡ prohibits_stale (stored_fields object.now) }
 {
-    stored_argument(object, b"no-cache").is_some()
-        || stored_argument(object, b"must-revalidate").is_some()
-        || stored_argument(object, b"proxy-revalidate").is_some()
-        || stored_argument(object, b"s-maxage").is_some()
+    stored_forbids(object, b"no-cache")
+        || stored_forbids(object, b"must-revalidate")
+        || stored_forbids(object, b"proxy-revalidate")
+        || stored_forbids(object, b"s-maxage")
         || has_stored_unclosed(object)
 }
 

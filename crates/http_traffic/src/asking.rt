@@ -151,7 +151,8 @@ pub trait Front: Drop {
         }
     }
 
-    /// Accepts a request. Errors: the status to answer, as when the target is not a URL or memory runs out.
+    /// Accepts a request. Errors: the status to answer, as when the target is not a URL or memory runs out. With 501, as for a HEAD that
+    /// nothing stored answers any more, the request is passed on by `PassOn::pass_on`, or refused by that.
     fn ask(&mut self, asked: &Asked) -> Result<Asking, u16>;
 
     /// Accepts a request once more, to be forwarded as `Forward::Bypass`: by a private fetch, which joins no other and which no

@@ -1,7 +1,8 @@
 //! What the crates around HTTP hand to one another: requests of clients and their answers, what is administered, and fetches with
 //! their results. The decisions are behind the traits `Front`, `FollowUp`, `PassOn` and `Panel`; no type of the HTTP library stands here.
 //!
-//! Nothing is proved here. Tested by: crates/test_edge, tests/serve_passages.
+//! Proved is which of a name's addresses are connected to (`Addresses::admitted`), and of all else that it is free of panics and
+//! overflows. Tested by: crates/test_edge, tests/serve_passages.
 #![tactic(auto)]
 
 mod asking;

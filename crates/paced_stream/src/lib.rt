@@ -3,7 +3,8 @@
 //! The contracts see only which socket event a read or write waits for. Tested by: tests/serve_attacks.
 #![tactic(auto)]
 
-ghost use Rattle.std.specs.Prelude.{◌≡◌, ⊤};
+ghost use Rattle.std.specs.Prelude.{◌≡◌, ◌≤◌, ⊤, length};
+ghost use Rattle.tokio.specs.Io.Moved.{count_moved};
 ghost use Rattle.tokio.specs.Net.{stream_readable, stream_writable};
 
 use futures::task::{Context, Poll};
@@ -27,6 +28,9 @@ pub struct Paced {
     turn: usize,
     // What may still be read in this one.
     left: usize,
+    // Whether a read has waited for an event of the socket. The event loop notes each event that comes after that, but may have passed over
+    // one that came before the first read.
+    has_waited: bool,
 }
 
 impl Paced {
@@ -37,6 +41,7 @@ impl Paced {
             socket,
             turn,
             left: turn,
+            has_waited: false,
         }
     }
 
@@ -51,6 +56,23 @@ impl Paced {
         match self.socket.try_read(&mut octet) {
             Ok(_) => false,
             Err(error) => error.kind() == ErrorKind::WouldBlock,
+        }
+    }
+
+    // A read that is about to wait for an event: until one has found nothing, what is there is read without one.
+    fn read_before_waiting(&mut self, buf: &mut [u8]) -> Poll<io::Result<usize>>
+        ensures socket { self.new.socket ≡ self.old.socket }
+        ensures bound { count_moved result ≤ length buf.new }
+    {
+        if self.has_waited {
+            return Poll::Pending;
+        }
+        match self.socket.try_read(buf) {
+            Err(error) if error.kind() == ErrorKind::WouldBlock => {
+                self.has_waited = true;
+                Poll::Pending
+            }
+            read => Poll::Ready(read),
         }
     }
 }
@@ -72,7 +94,10 @@ impl AsyncRead for Paced {
             return cx.yield_now();
         }
         let most = self.left.min(buf.len());
-        let polled = AsyncRead::poll_read(&mut self.socket, cx, &mut buf[..most]);
+        let polled = match AsyncRead::poll_read(&mut self.socket, cx, &mut buf[..most]) {
+            Poll::Pending => self.read_before_waiting(&mut buf[..most]),
+            polled => polled,
+        };
         match &polled {
             Poll::Ready(Ok(count)) => self.left = self.left.saturating_sub(*count),
             Poll::Ready(Err(_)) => {}

@@ -5,7 +5,8 @@ use crossbeam_channel::Sender;
 use forwarding::{Field, KnownKeys, Profile, Waiting, server_in_digits};
 use futures::channel::oneshot;
 use http_rules::{
-    Mirror, SixNetwork, TargetFault, has_come_back, is_plain_request, may_validate, mirrored,
+    Mirror, SixNetwork, TargetFault, has_come_back, has_long_name, is_host, is_plain_request,
+    may_validate, mirrored,
 };
 use http_traffic::{Asked, Asking, FollowUp, Forward, Front, How, Outcome, PassOn, Shape, Told};
 use node_core::{Event, Mode, Network};
@@ -21,6 +22,9 @@ use std::sync::atomic::Ordering;
 use std::sync::{Arc, Mutex, Wait};
 use std::time::{Clock, Instant};
 use traffic_figures::{AnswerNote, Course};
+
+/// The most octets of a name, and so of a key that needn't be looked at for one that is too long.
+const MOST_NAME_OCTETS: usize = 253;
 
 /// Whose requests are taken, and what they stand for.
 pub struct FrontRules {
@@ -129,6 +133,15 @@ fn key_for(
         Err(TargetFault::NotHttp) => Err(400),
         Err(TargetFault::TooLong) => Err(414),
         Err(TargetFault::NoMemory) => Err(503),
+    }
+}
+
+/// Errors: 400 if the Host field of a request is no valid value (RFC 9112, section 3.2). A request with several is refused before it comes
+/// here.
+pub(crate) fn check_host(asked: &Asked) -> Result<(), u16> {
+    match asked.head.get("host") {
+        Some(host) if !is_host(host.as_bytes()) => Err(400),
+        _ => Ok(()),
     }
 }
 
@@ -279,7 +292,7 @@ impl<R: Wait + Clock + Drop, S: Shared, N: TakeEvents> NodeFront<R, S, N> {
     }
 
     /// Has what is stored under a key fetched anew for all: it is taken out, as the administration does, and what is on its way of it is not
-    /// stored; a request of the cache's own, whose answer nobody waits for, asks for it. Without a key to sign with it stays.
+    /// stored; a request of the cache's own, whose answer nobody waits for, asks for it. Where the cache may not ask itself it stays.
     fn renew(&mut self, key: CacheKey) {
         let now = self.proxy.now(&self.rt);
         match self.rules.purger.event(self.alloc, &key, now) {
@@ -327,10 +340,17 @@ impl<R: Wait + Clock + Drop, S: Shared, N: TakeEvents> NodeFront<R, S, N> {
         }
     }
 
-    /// The key of what a request asks for. Errors: the HTTP status to answer.
+    /// The key of what a request asks for. Errors: the HTTP status to answer, 400 if its Host is no valid value or the name of the server is
+    /// longer than any can be.
     pub(crate) fn key(&mut self, asked: &Asked) -> Result<CacheKey, u16> {
+        check_host(asked)?;
         let mirrors = self.rules.mirrors.as_slice();
-        key_for(self.alloc, mirrors, &mut self.keys, asked.target.as_str())
+        let key = key_for(self.alloc, mirrors, &mut self.keys, asked.target.as_str())?;
+        if MOST_NAME_OCTETS < key.as_slice().len() && has_long_name(&key) {
+            drop(key);
+            return Err(400);
+        }
+        Ok(key)
     }
 
     /// How a request for this key in this mode is taken beside what is being fetched: alone where that was changed meanwhile.

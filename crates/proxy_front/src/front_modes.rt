@@ -6,7 +6,7 @@ use http_rules::{Stored, choose, classify, is_for_a_part};
 use http_traffic::Asked;
 use node_core::Mode;
 use object_store::{CacheKey, Entry};
-use proxy_state::{Shared, TakeEvents};
+use proxy_state::{Shared, TakeEvents, has_marks};
 use std::sync::Wait;
 use std::time::Clock;
 
@@ -45,7 +45,7 @@ impl<R: Wait + Clock + Drop, S: Shared, N: TakeEvents> NodeFront<R, S, N> {
     }
 
     /// How a request for this key that has come now is answered by RFC 9111, as `fresh_mode` says. The third one within a minute for a part
-    /// of what is not stored and may be has the whole fetched for all beside it. Errors: the HTTP status to answer.
+    /// of what is not stored and may be has the whole fetched for all beside it, unless it is refused. Errors: the HTTP status to answer.
     pub(crate) fn counted_mode(&mut self, asked: &Asked, key: &CacheKey) -> Result<Mode, u16> {
         let stored = self.stored_for(asked, key);
         let mode = choose(asked.method.as_str(), &asked.head, stored)?;
@@ -55,7 +55,7 @@ impl<R: Wait + Clock + Drop, S: Shared, N: TakeEvents> NodeFront<R, S, N> {
         Ok(mode)
     }
 
-    /// Counts a request for this key if it is for a part, and has the whole fetched for all if it is the third.
+    /// Counts a request for this key if it is for a part and may be taken, and has the whole fetched for all if it is the third.
     fn count_part(&mut self, asked: &Asked, key: &CacheKey) {
         if !self.is_for_the_whole(asked, key) {
             return;
@@ -65,10 +65,14 @@ impl<R: Wait + Clock + Drop, S: Shared, N: TakeEvents> NodeFront<R, S, N> {
         }
     }
 
-    /// Whether a GET for which nothing is stored and which asks for a part has the whole fetched: it is counted.
+    /// Whether a GET for which nothing is stored and which asks for a part has the whole fetched: it is counted. One that `check` refuses
+    /// is not: nothing is fetched for it.
     fn is_for_the_whole(&self, asked: &Asked, key: &CacheKey) -> bool {
         let kept = self.proxy.kept();
         if kept.parts.is_none() || !is_for_a_part(&asked.head) {
+            return false;
+        }
+        if self.check(asked, key, has_marks(asked)).is_err() {
             return false;
         }
         let now = self.proxy.now(&self.rt);

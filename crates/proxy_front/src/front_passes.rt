@@ -1,9 +1,11 @@
 //! Client requests that are passed on without the node, and tunnels.
-use crate::front::NodeFront;
+use crate::front::{NodeFront, check_host};
 use forwarding::{Destination, Field, Profile};
 use futures::channel::{mpsc, oneshot};
 use http_header::HeaderMap;
-use http_rules::{Authority, Onward, authority_of, changed_keys, has_come_back, is_unsafe, onward};
+use http_rules::{
+    Authority, Onward, authority_of, changed_keys, has_come_back, is_for_server, is_unsafe, onward,
+};
 use http_traffic::{
     Asked, Coming, PassFault, Passage, PassedHead, Passing, Piece, Road, Server, Ticket, Told,
     TunnelEnd, address_in_digits,
@@ -187,7 +189,7 @@ impl<R: Wait + Clock + Drop, S: Shared, N: TakeEvents> NodeFront<R, S, N> {
         }
     }
 
-    /// Passes on a request, which is without its content here. Errors: the status to answer.
+    /// Passes on a request, which is without its content here. Errors: the status to answer, 501 for a HEAD that isn't passed on.
     pub(crate) fn pass(&mut self, asked: &Asked, content: Option<Coming>) -> Result<Passing, u16> {
         match self.way_of(asked) {
             Ok(way) => {
@@ -215,6 +217,9 @@ impl<R: Wait + Clock + Drop, S: Shared, N: TakeEvents> NodeFront<R, S, N> {
 
     // How a request is passed on. Errors: the status to answer.
     fn way_of(&mut self, asked: &Asked) -> Result<Way, u16> {
+        if asked.method.as_str() == "HEAD" && !self.proxy.passes().has_method("HEAD") {
+            return Err(501);
+        }
         let key = self.key(asked)?;
         let way = self.way_under(asked, &key);
         drop(key);
@@ -225,7 +230,7 @@ impl<R: Wait + Clock + Drop, S: Shared, N: TakeEvents> NodeFront<R, S, N> {
     fn way_under(&self, asked: &Asked, key: &CacheKey) -> Result<Way, u16> {
         self.check(asked, key, true)?;
         let fields = self.onward_fields(asked)?;
-        match self.road_on(key) {
+        match self.road_for(asked, key) {
             Some((onwards, ticket)) => Ok(Way {
                 fields,
                 onwards,
@@ -234,6 +239,22 @@ impl<R: Wait + Clock + Drop, S: Shared, N: TakeEvents> NodeFront<R, S, N> {
             None => {
                 drop(fields);
                 Err(503)
+            }
+        }
+    }
+
+    // Where a request for this key goes that is passed on, and its ticket, as `road_on` has it. One about the server as a whole has the target
+    // that says so.
+    fn road_for(&self, asked: &Asked, key: &CacheKey) -> Option<(Onwards, Ticket)> {
+        let (onwards, ticket) = self.road_on(key)?;
+        if !is_for_server(asked.method.as_str(), asked.target.as_str()) {
+            return Some((onwards, ticket));
+        }
+        match onwards.for_server(self.alloc) {
+            Some(onwards) => Some((onwards, ticket)),
+            None => {
+                drop(ticket);
+                None
             }
         }
     }
@@ -369,9 +390,10 @@ impl<R: Wait + Clock + Drop, S: Shared, N: TakeEvents> NodeFront<R, S, N> {
         }
     }
 
-    /// Where the tunnel leads that a request opens. Errors: 400 if its target is no host and port, 403 if a tunnel may not lead there, 508
-    /// if the request has come through this cache before, 503 if there are too many tunnels, or if out of memory.
+    /// Where the tunnel leads that a request opens. Errors: 400 if its target is no host and port, or its Host no valid value, 403 if a tunnel
+    /// may not lead there, 508 if the request has come through this cache before, 503 if there are too many tunnels, or if out of memory.
     pub(crate) fn lead(&self, asked: &Asked) -> Result<TunnelEnd, u16> {
+        check_host(asked)?;
         let authority = self.authority(asked).ok_or(400u16)?;
         self.check_end(asked, authority)?;
         match self.proxy.passes().tunnels.take() {

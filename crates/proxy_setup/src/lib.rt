@@ -8,9 +8,10 @@
 #![tactic(auto)]
 
 mod orders;
+mod own_key;
 mod passing;
 mod state;
 
 pub use orders::{Keeping, LogTasks, Orders, ServerOrders, equipped, server_orders};
-pub use passing::{MethodsFault, methods_fault};
+pub use passing::lacks_own_address;
 pub use state::{Given, site_of};

@@ -1,9 +1,10 @@
 //! What the threads of a proxy are started with.
+use crate::own_key::settle_keys;
 use crate::passing::allows_own;
 use crate::state::{Given, Logs, six_networks};
 use filter_files::Filter;
 use futures::channel::oneshot;
-use http_rules::{Mirror, SixNetwork};
+use http_rules::{Mirror, SixNetwork, written_name};
 use log_writer::LogTask;
 use node_core::{Config, Network};
 use proxy_front::FrontRules;
@@ -12,6 +13,7 @@ use proxy_state::Purger;
 use serve_config::{FilterFile, MirrorPath, Settings};
 use std::alloc::{AllocError, Global};
 use std::mem;
+use std::random::RandomSource;
 use std::time::Duration;
 
 /// What the threads are started with, beside the shared state. `F` is a file.
@@ -65,17 +67,29 @@ fn keeping_of(alloc: Global, settings: &mut Settings) -> Result<Keeping, AllocEr
     })
 }
 
-/// What takes objects out of the store, with the first key of the configuration.
+/// What takes objects out of the store, with the first of the node's keys. Errors: there is none, or out of memory.
 fn purger_of(alloc: Global, config: &Config) -> Result<Purger, AllocError> {
-    let key = match config.keys.as_slice().first() {
-        Some(key) => Some(key.copy(alloc)?),
-        None => None,
+    let Some(key) = config.keys.as_slice().first() else {
+        return Err(AllocError);
     };
     Ok(Purger {
         own: config.htcp,
         is_allowed: allows_own(config),
-        key,
+        key: key.copy(alloc)?,
     })
+}
+
+/// Has the settings say the name of the cache as fields have it, and the keys of the node, of which the first signs the requests of the cache to
+/// itself. Errors: the system has no random numbers, or out of memory.
+fn settle<R: RandomSource>(
+    rt: &R,
+    alloc: Global,
+    settings: &mut Settings,
+) -> Result<(), AllocError> {
+    let name = written_name(alloc, settings.name.as_bytes())?;
+    settings.name = String::from_str(alloc, str::from_utf8(name.as_slice()).unwrap_or(""))?;
+    drop(name);
+    settle_keys(rt, alloc, &mut settings.node)
 }
 
 /// What ends the grace of clients early at each of so many threads, and what these hear it from.
@@ -94,12 +108,15 @@ fn hurries(
 }
 
 /// What the servers are started with, which is taken out of the settings, and what ends the grace of clients early at each of so many
-/// threads. Errors: out of memory.
-pub fn server_orders(
+/// threads. The settings are settled by this, so it comes before anything else is made of them. Errors: the system has no random numbers,
+/// or out of memory.
+pub fn server_orders<R: RandomSource>(
+    rt: &R,
     alloc: Global,
     settings: &mut Settings,
     threads: usize,
 ) -> Result<(ServerOrders, Vec<oneshot::Sender<()>>), AllocError> {
+    settle(rt, alloc, settings)?;
     let (hurries, hurried) = hurries(alloc, threads)?;
     let orders = ServerOrders {
         rules: front_rules(alloc, settings)?,

@@ -17,32 +17,14 @@ const STREAM_SECONDS: u64 = 60;
 /// How many seconds both sides of a tunnel may be without an octet.
 const TUNNEL_SECONDS: u64 = 300;
 
-/// What a configuration lacks that passes on methods which change what they ask for: what is stored of it is taken out of the store by a
-/// signed request of the cache to itself.
-#[derive(Clone, Copy, Debug, PartialEq, Eq)]
-pub enum MethodsFault {
-    /// A key to sign with.
-    NoKey,
-    /// That the cache may ask itself.
-    NotAllowed,
-}
-
-/// What a configuration lacks for the methods that it passes on, if anything.
-pub fn methods_fault(settings: &Settings) -> Option<MethodsFault> {
+/// Whether a configuration passes on methods which change what they ask for, and the cache may not ask itself: what is stored of it is taken
+/// out of the store by a request of the cache to itself.
+pub fn lacks_own_address(settings: &Settings) -> bool {
     let is_safe = settings
         .methods
         .iter()
         .all(|method| !is_unsafe(method.name()));
-    let config = &settings.node;
-    if is_safe {
-        None
-    } else if config.keys.is_empty() {
-        Some(MethodsFault::NoKey)
-    } else if !allows_own(config) {
-        Some(MethodsFault::NotAllowed)
-    } else {
-        None
-    }
+    !is_safe && !allows_own(&settings.node)
 }
 
 /// Whether queries from the address of the HTCP socket are answered.

@@ -111,6 +111,11 @@ impl<S: Drop, L: Ledger> Site<S, L> {
         self.addresses
     }
 
+    /// Has the logs written from now on. What was told for them before waits until this is called or the proxy ends.
+    pub fn begin_logs<R: Wait>(&self, rt: &R) {
+        self.writings.begin(rt);
+    }
+
     /// The next free seat, with the shared state.
     pub fn seat(&mut self) -> Result<ThreadSeat<S, L>, ServeFault> {
         let Some(seat) = self.spare.pop() else {

@@ -1,6 +1,6 @@
 //! The threads that write the access log and the notices, and their end.
 use crate::limits::LOG_GRACE;
-use crossbeam_channel::Receiver;
+use crossbeam_channel::{Receiver, Sender};
 use std::alloc::Global;
 use std::sync::Wait;
 use std::thread::{JoinHandle, Threads};
@@ -11,15 +11,27 @@ use std::time::{Clock, Duration};
 pub struct Writing {
     /// Its handle.
     pub thread: JoinHandle<()>,
+    /// Has it begin, by a message or by being dropped. Lines wait until then.
+    pub held: Sender<(), Global>,
     /// Receives a message once all is written.
     pub written: Receiver<(), Global>,
 }
 
 impl Writing {
+    /// Has the lines written that wait, and those that come.
+    fn begin<R: Wait>(&self, rt: &R) {
+        let _ = self.held.send(rt, ());
+    }
+
     /// Waits until all lines are written, for a while. Returns whether they are. A thread that still waits for what it writes to ends
     /// with the program.
     fn is_done<R: Threads + Wait + Clock>(self, rt: &R) -> bool {
-        let Writing { thread, written } = self;
+        let Writing {
+            thread,
+            held,
+            written,
+        } = self;
+        drop(held);
         if written
             .recv_timeout(rt, Duration::from_secs(LOG_GRACE))
             .is_err()
@@ -50,6 +62,12 @@ pub struct Written {
 }
 
 impl Writings {
+    /// Has both logs written from now on, with the lines that wait.
+    pub(crate) fn begin<R: Wait>(&self, rt: &R) {
+        begin(rt, &self.log);
+        begin(rt, &self.notices);
+    }
+
     /// Waits until all lines of both logs are written, for a while each.
     pub(crate) fn finish<R: Threads + Wait + Clock>(self, rt: &R) -> Written {
         let Writings { log, notices } = self;
@@ -57,6 +75,13 @@ impl Writings {
             is_logged: is_done(rt, log),
             is_told: is_done(rt, notices),
         }
+    }
+}
+
+// Has a log written, if there is one.
+fn begin<R: Wait>(rt: &R, log: &Option<Writing>) {
+    if let Some(log) = log {
+        log.begin(rt);
     }
 }
 

@@ -102,6 +102,19 @@ pub struct Onwards {
     pub is_origin: bool,
 }
 
+impl Onwards {
+    /// The same for a request about the server as a whole (RFC 9112, section 3.2.4): an origin is asked with the target `*`, a parent with the
+    /// URL without its path. `None` if out of memory.
+    pub fn for_server(mut self, alloc: Global) -> Option<Onwards> {
+        if self.is_origin {
+            self.destination.target = String::from_str(alloc, "*").ok()?;
+        } else {
+            let _ = self.destination.target.pop();
+        }
+        Some(self)
+    }
+}
+
 /// What passes the proxy without the node.
 pub struct Passes {
     /// The methods whose requests are passed on.

@@ -21,9 +21,6 @@ const MOST_LISTED: usize = 1_000;
 const STORE_LINE: &str =
     "400 Bad Request: /store, /store?limit= and a number from 1 to 1000, or /store/ and a percent-encoded http URL\n";
 
-const NO_KEY: &str =
-    "409 Conflict: an object is taken out by a signed request to the cache itself, and the configuration has no key\n";
-
 const NOT_ALLOWED: &str =
     "409 Conflict: an object is taken out by a request from the cache to itself, and its address is not in allowed\n";
 
@@ -33,8 +30,6 @@ const STILL_STORED: &str =
 /// Why an object stays where it is.
 #[derive(Clone, Copy, Debug, PartialEq, Eq)]
 pub enum Obstacle {
-    /// No key to sign with.
-    NoKey,
     /// The cache may not ask itself.
     NotAllowed,
     /// The request was dropped, or the object came back.
@@ -48,7 +43,7 @@ pub struct Purger {
     /// Whether queries from that address are answered.
     pub is_allowed: bool,
     /// The key that the requests are signed with.
-    pub key: Option<Key>,
+    pub key: Key,
 }
 
 // Written by hand, so that what lets it go is one call for the prover (docs/GATE.md).
@@ -66,13 +61,10 @@ impl Purger {
     /// The event that takes an object out of the store: a CLR (RFC 2756, section 6.5) from the cache to itself, signed, without
     /// RD, so that nothing is sent in answer. Errors: why there is none, or out of memory.
     pub fn event(&self, alloc: Global, key: &CacheKey, now: Moment) -> Result<Event, StoreFault> {
-        let Some(signer) = &self.key else {
-            return Err(stays(alloc, Obstacle::NoKey));
-        };
         if !self.is_allowed {
             return Err(stays(alloc, Obstacle::NotAllowed));
         }
-        match clearing(alloc, key, self.own, signer, now.seconds()) {
+        match clearing(alloc, key, self.own, &self.key, now.seconds()) {
             Ok(payload) => self.arrival(alloc, payload, now),
             Err(_) => Err(StoreFault::NoMemory),
         }
@@ -124,7 +116,6 @@ fn clearing(
 /// Why an object stays, for an administrator.
 pub fn stays(alloc: Global, obstacle: Obstacle) -> StoreFault {
     let line = match obstacle {
-        Obstacle::NoKey => NO_KEY,
         Obstacle::NotAllowed => NOT_ALLOWED,
         Obstacle::StillStored => STILL_STORED,
     };

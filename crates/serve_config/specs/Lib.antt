@@ -4,6 +4,7 @@ pub mod Group
 pub mod Mirrors
 pub mod Origins
 pub mod Own
+pub mod OwnKey
 pub mod Parts
 pub mod Passing
 pub mod Refresh

@@ -23,8 +23,7 @@ is_self settings neighbour = queries_self settings neighbour || fetches_self set
 abbrev pub clashes : ℕ → ℕ → Bool
 clashes port other = not (port == 0) && (port == other)
 
--- whether the two query sockets, or the sockets for clients and for administration, can't both be bound
+-- whether the sockets for clients and for administration, which is at 127.0.0.1, can't both be bound
 abbrev pub shares_port : Settings → Bool
 shares_port settings =
-    clashes settings.node.icp.port settings.node.htcp.port
-    || (bytes_eq settings.address (127 ∷ 0 ∷ 0 ∷ 1 ∷ []) && clashes settings.http_port settings.admin_port)
+    bytes_eq settings.address (127 ∷ 0 ∷ 0 ∷ 1 ∷ []) && clashes settings.http_port settings.admin_port

@@ -2,7 +2,8 @@
 //! what is wrong and where.
 //!
 //! The contract of [`Settings::read`] gives the ranges of the numbers that other crates rely on, and what holds of the neighbours
-//! and the signing keys of an accepted configuration (`specs/Group.antt`); keys, kinds and messages are only tested.
+//! and the signing keys of an accepted configuration (`specs/Group.antt`); keys, kinds and messages are only tested. Which keys the node
+//! is given, and whether there is one for the cache's requests to itself, is defined in `specs/OwnKey.antt`.
 //! Tested by: tests/configurations (rows of cases/configurations), crates/test_http_rules, cases/serve, must-fail edits.
 #![tactic(auto)]
 
@@ -18,6 +19,7 @@ mod mirrors;
 mod node;
 mod origins;
 mod own;
+mod own_key;
 mod passing;
 mod place;
 mod settings;
@@ -33,6 +35,7 @@ pub use filters::FilterFile;
 pub use freshness::{Freshness, RefreshRule, UrlPart};
 pub use mirrors::MirrorPath;
 pub use origins::SixNetwork;
+pub use own_key::{has_key, has_own_key, is_known, keep_keys, stays};
 pub use passing::{Large, PassedMethod};
 pub use settings::{LogFormat, LogLevel, Settings};
 pub use shared_fields::SharedField;

@@ -10,8 +10,8 @@ use crate::settings::Settings;
 use neighbours::{End, Neighbour};
 use std::alloc::Global;
 
-/// Checks that none of the neighbours is this cache itself, and that this cache's own sockets can stand beside one another. Errors: a
-/// neighbour that is, before two sockets that can't.
+/// Checks that none of the neighbours is this cache itself, and that this cache's sockets for clients and for administration can stand beside
+/// one another. Errors: a neighbour that is, before two sockets that can't.
 pub(crate) fn check_own(alloc: Global, settings: &Settings) -> Result<(), Fault>
     ensures apart { IfOk result (λ u. list_any (is_self settings.now) settings.now.node.neighbours.items ≡ false) }
     ensures ports { IfOk result (λ u. shares_port settings.now ≡ false) }
@@ -72,15 +72,11 @@ fn fetches_self(settings: &Settings, neighbour: &Neighbour) -> bool
         || (neighbour.end.addr == [127, 0, 0, 1] && neighbour.http_port == settings.admin_port)
 }
 
-// Checks that this cache's own sockets can stand beside one another: not both query sockets at one port, and not clients and
-// administration, which is at 127.0.0.1. Port 0 is whichever is free. Errors: the first two that can't, at the key of the latter.
+// Checks that clients and administration, which is at 127.0.0.1, are not at one port. Port 0 is whichever is free. Two query sockets at one
+// port are not looked for here: the second can't be bound, which is a fault of its own. Errors: they are, at the key of the latter.
 fn check_ports(alloc: Global, settings: &Settings) -> Result<(), Fault>
     ensures { IfOk result (λ u. shares_port settings.now ≡ false) }
 {
-    if clashes(settings.node.icp.port, settings.node.htcp.port) {
-        let place = Place::whole().key("htcp_port");
-        return Err(Fault::value(alloc, place, "icp_port is the same port at this address"));
-    }
     if settings.address == [127, 0, 0, 1] && clashes(settings.http_port, settings.admin_port) {
         let place = Place::whole().key("admin_port");
         return Err(Fault::value(alloc, place, "http_port is the same port at this address"));

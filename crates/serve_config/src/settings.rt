@@ -67,7 +67,7 @@ pub struct Settings {
     pub six_clients: Option<SixClients>,
     /// The port for administration.
     pub admin_port: u16,
-    /// The name in Via fields: one or more visible ASCII characters.
+    /// The name of the cache: one or more visible ASCII characters. `http_rules::written_name` is what fields have of it.
     pub name: String,
     /// Maximum length of a fetched body in octets, 1 to 1,073,741,824.
     pub body_limit: u32,
@@ -139,7 +139,7 @@ impl Settings {
     /// Parses the settings from JSON. If a key occurs twice in an object, the last one counts.
     ///
     /// Errors: [`Fault`]. If there are several, syntax comes first, then missing or unknown keys and wrong kinds, then values, then
-    /// a neighbour that is this cache itself, and last two own sockets with the same port.
+    /// a neighbour that is this cache itself, and last clients and administration at the same port.
     pub fn read(alloc: Global, text: &[u8]) -> Result<Settings, Fault>
         ensures body_limit { IfOk result (λ s. (1 ≤ s.body_limit) × (s.body_limit ≤ 1073741824)) }
         ensures volume { IfOk result (λ s. (1 ≤ s.volume) × (s.volume ≤ 1048576)) }

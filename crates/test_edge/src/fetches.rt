@@ -1,10 +1,12 @@
 //! Tests of fetches.
+ghost use Rattle.std.specs.Prelude.{◌<◌};
+
 use crate::limits::{AllBut, fetch_limits, fetch_rules};
 use crate::origin::{Origin, listen, nowhere};
 use fetch_chain::Submit;
 use futures::channel::mpsc::{UnboundedReceiver, UnboundedSender, unbounded};
 use futures::channel::oneshot;
-use http_fetches::{FetchRules, run_fetches};
+use http_fetches::{FetchLimits, FetchRules, run_fetches};
 use http_traffic::{FetchEnd, FetchFault, Fetched, Job, Order, Server, Work};
 use std::alloc::{AllocGlobal, Global};
 use std::net::{Net, SocketAddr};
@@ -42,10 +44,24 @@ pub(crate) fn run_jobs<R>(
 where
     R: Wait + Clock + RandomSource + AllocGlobal + Net + Copy,
 {
+    let limits = fetch_limits(octets, Duration::from_secs(4));
+    run_limited(rt, work, rules, limits)
+}
+
+// As `run_jobs`, with these limits.
+fn run_limited<R>(
+    rt: R,
+    work: UnboundedReceiver<Job>,
+    rules: FetchRules<AllBut>,
+    limits: FetchLimits,
+) -> io::Result<Kept>
+where
+    R: Wait + Clock + RandomSource + AllocGlobal + Net + Copy,
+    requires { 0 < limits.at_once }
+{
     let mut kept = Kept {
         all: Vec::new(rt.alloc()),
     };
-    let limits = fetch_limits(octets, Duration::from_secs(4));
     match run_fetches(rt, work, &mut kept, rules, limits) {
         Ok(()) => Ok(kept),
         Err(fault) => {
@@ -321,5 +337,49 @@ fn a_server_that_is_not_admitted(rt: HostRuntime) -> Result<(), Fail> {
     drop(kept);
     origin.join(&rt);
     assert!(rt; count == 2 && are_as_wanted);
+    Ok(())
+}
+
+// Has a thread that does one job at a time fetch a page that comes after a moment, and then one that comes at once.
+fn fetch_one_by_one<R>(rt: R, server: SocketAddr) -> io::Result<Kept>
+where
+    R: Wait + Clock + RandomSource + AllocGlobal + Net + Copy,
+{
+    let alloc = rt.alloc();
+    let rules = fetch_rules(alloc, 1000)?;
+    let (jobs, work) = unbounded(alloc)?;
+    let slow = ask(&rt, alloc, &jobs, Some(server), 0, "/slow")?;
+    let good = ask(&rt, alloc, &jobs, Some(server), 1, "/good")?;
+    drop(jobs);
+    let mut limits = fetch_limits(10, Duration::from_secs(4));
+    limits.at_once = 1;
+    let kept = run_limited(rt, work, rules, limits);
+    drop((slow, good));
+    kept
+}
+
+// Whether these fetches were whole, and ended in the order of their numbers.
+fn are_in_order(all: &[Fetched]) -> bool {
+    let mut next = 0u32;
+    for done in all {
+        if done.fetch != next || !matches!(done.end, FetchEnd::Whole(_)) {
+            return false;
+        }
+        next = next.saturating_add(1);
+    }
+    true
+}
+
+/// A thread does no more jobs at a time than its limits say: with one, a page that comes at once waits for one that does not.
+#[test]
+fn no_more_jobs_than_its_limits_say(rt: HostRuntime) -> Result<(), Fail> {
+    let listener = listen(&rt)?;
+    let origin = Origin::start(rt, rt.alloc(), listener, 2)?;
+    let kept = fetch_one_by_one(rt, origin.address)?;
+    let count = kept.all.len();
+    let are_in_order = are_in_order(kept.all.as_slice());
+    drop(kept);
+    origin.join(&rt);
+    assert!(rt; count == 2 && are_in_order);
     Ok(())
 }

@@ -243,7 +243,7 @@ fn expires_without_a_date(rt: HostRuntime) {
     heads_hold(&rt, rt.alloc(), &EXPIRING, &KeptLater);
 }
 
-const PROHIBITIONS: [Lives; 20] = [
+const PROHIBITIONS: [Lives; 28] = [
     ("Cache-Control: max-age=60, no-store", None),
     (
         "Cache-Control: max-age=60, no-store, must-understand",
@@ -288,6 +288,20 @@ const PROHIBITIONS: [Lives; 20] = [
         "Cache-Control: max-age=60, must-revalidate, public",
         Some(60),
     ),
+    ("Cache-Control: no-store; max-age=60, max-age=60", None),
+    ("Cache-Control: max-age=60, No-Store;", None),
+    ("Cache-Control: private;x, max-age=60", None),
+    ("Cache-Control: no-cache ;, max-age=60", None),
+    (
+        "Cache-Control: max-age=60, no-store;, must-understand",
+        Some(60),
+    ),
+    (
+        "Cache-Control: max-age=60, no-store, must-understand;",
+        None,
+    ),
+    ("Cache-Control: max-age=60, public; no-store", Some(60)),
+    ("Cache-Control: max-age=60, x=\"private;\"", Some(60)),
 ];
 
 // RFC 9111, sections 3 (statuses), 4.1 (Vary), 5.2.2.3 (must-understand), 5.2.2.4 (no-cache), 5.2.2.5 (no-store), 5.2.2.7 (private).
@@ -408,7 +422,7 @@ fn refresh_rules(rt: HostRuntime) {
 // A method and the fields of a request, and how it is answered where nothing is stored.
 type Chosen = (&'static str, &'static str, Result<Mode, u16>);
 
-const PRAGMAS: [Chosen; 10] = [
+const PRAGMAS: [Chosen; 18] = [
     ("GET", "Pragma: no-cache", Ok(Mode::Private)),
     ("GET", "Pragma: x, No-Cache", Ok(Mode::Private)),
     ("GET", "Pragma: x\nPragma: no-cache", Ok(Mode::Private)),
@@ -423,6 +437,22 @@ const PRAGMAS: [Chosen; 10] = [
     ("GET", "Cache-Control: no-cache, only-if-cached", Err(504)),
     ("GET", "Host: a", Ok(Mode::Shared)),
     ("POST", "Pragma: no-cache", Err(501)),
+    ("GET", "Pragma: no-cache; x", Ok(Mode::Private)),
+    ("GET", "Pragma: x; no-cache", Ok(Mode::Shared)),
+    ("GET", "Cache-Control: no-store;", Ok(Mode::Private)),
+    (
+        "GET",
+        "Cache-Control: max-age=9, No-Store; max-age=0",
+        Ok(Mode::Private),
+    ),
+    (
+        "GET",
+        "Cache-Control: no-cache;a=\"b, c\"",
+        Ok(Mode::Private),
+    ),
+    ("GET", "Cache-Control: no-stores;", Ok(Mode::Shared)),
+    ("GET", "Cache-Control: x=\"no-store;\"", Ok(Mode::Shared)),
+    ("GET", "Cache-Control: no-cache;, only-if-cached", Err(504)),
 ];
 
 struct ChosenOf;

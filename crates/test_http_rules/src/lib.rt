@@ -13,6 +13,8 @@ mod freshness;
 #[cfg(test)]
 mod heads;
 #[cfg(test)]
+mod hosts;
+#[cfg(test)]
 mod parts;
 #[cfg(test)]
 mod passing;

@@ -11,7 +11,7 @@ use std::process::Abort;
 // A method and the fields of a request, and how it is answered.
 type Classified = (&'static str, &'static str, Result<Mode, u16>);
 
-const MODES: [Classified; 20] = [
+const MODES: [Classified; 21] = [
     ("GET", "Host: a", Ok(Mode::Shared)),
     ("POST", "Cache-Control: only-if-cached", Err(501)),
     ("get", "", Err(501)),
@@ -60,6 +60,7 @@ const MODES: [Classified; 20] = [
         "Cache-Control: x=\"a, no-store\\\"\"",
         Ok(Mode::Shared),
     ),
+    ("GET", "Cache-Control: no-store;", Ok(Mode::Shared)),
 ];
 
 struct ModeOf;
@@ -81,7 +82,7 @@ fn modes(rt: HostRuntime) {
 // The fields of a response, and how long it is kept.
 type Life = (&'static str, Option<u32>);
 
-const LIVES: [Life; 23] = [
+const LIVES: [Life; 24] = [
     ("Cache-Control: max-age=60, s-maxage=30\nAge: 10", Some(20)),
     ("Cache-Control: max-age=10\nAge: 10", None),
     ("Cache-Control: private, max-age=60", None),
@@ -108,6 +109,7 @@ const LIVES: [Life; 23] = [
     ("Cache-Control: max-age=60, x=\"a\\\", private", None),
     ("Cache-Control: max-age=60, x=\"a\\\"\"", Some(60)),
     ("Expires: 0", None),
+    ("Cache-Control: max-age=60, no-store;", Some(60)),
 ];
 
 // How long a response is kept, and that it is not kept for a private request or with another status.
@@ -261,7 +263,7 @@ fn at_most_64_options(rt: HostRuntime) {
 // Fields, and how many of them are forwarded.
 type Named = (&'static str, usize);
 
-const NAMED: [Named; 7] = [
+const NAMED: [Named; 9] = [
     ("Connection: X-ONE\nx-one: 1\nX-One: 2\nX-Two: 1", 1),
     ("Connection: \t x-one\t ,,x-two\nX-One: 1\nX-Two: 1", 0),
     ("Connection: x-one x-two\nX-One: 1\nX-Two: 1", 2),
@@ -269,6 +271,11 @@ const NAMED: [Named; 7] = [
     ("Connection: \"x-one\"\nX-One: 1", 1),
     ("CDN-Loop: a\nCDN-Loop: b\nCDN-Cache-Control: c", 3),
     ("Connection: close\nX-One: 1", 1),
+    ("Connection: CDN-Loop\nCDN-Loop: a;id=1", 1),
+    (
+        "Connection: x-one, cdn-loop\nX-One: 1\nCDN-Loop: a\nCDN-Loop: b",
+        2,
+    ),
 ];
 
 struct ForwardedOf;

@@ -15,7 +15,7 @@ use std::process::Abort;
 // in place of an error and while it is validated.
 type Uses = (&'static str, u32, bool, bool);
 
-const USES: [Uses; 43] = [
+const USES: [Uses; 48] = [
     // It is fresh for 600 s: its age is below its lifetime (RFC 9111, section 4.2).
     (
         "max-age=600, stale-if-error=1200, stale-while-revalidate=1200",
@@ -154,6 +154,16 @@ const USES: [Uses; 43] = [
         false,
     ),
     ("stale-if-error=60, x=\"a", 610, false, false),
+    ("must-revalidate;, stale-if-error=60", 610, false, false),
+    (
+        "Proxy-Revalidate; stale, stale-if-error=60",
+        610,
+        false,
+        false,
+    ),
+    ("no-cache;, stale-if-error=60", 610, false, false),
+    ("s-maxage=600; x, stale-if-error=60", 610, false, false),
+    ("stale-if-error=60;", 610, false, false),
 ];
 
 fn is_used(object: &[Field], row: &Uses) -> bool {

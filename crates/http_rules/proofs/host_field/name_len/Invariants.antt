@@ -1,0 +1,7 @@
+use Rattle.std.proofs.Common.{◌≡◌, ◌+◌, ◌==◌, ◌||◌, drop}
+use Rattle.std.specs.List.{position_or_len}
+use Rattle.http_rules.proofs.host_field.name_len.Given as goal
+
+abbrev pub invariant-loop-i : goal.invariant-loop-i
+invariant-loop-i l =
+    position_or_len (λ c. c == 58 || c == 47) l.text ≡ l.i + position_or_len (λ c. c == 58 || c == 47) (drop l.i l.text)
