@@ -1,4 +1,4 @@
-use Rattle.std.proofs.Common.{ℕ, List, ◌<◌, ◌≤◌, length, codes, sym, ◌∙◌, arith}
+use Rattle.std.proofs.Common.{ℕ, List, ◌<◌, length, codes, arith, rules}
 use Rattle.http_header.specs.Token.{lowercase}
 use Rattle.http_rules.proofs.Found.{flag_step, seconds_step, loose_step, flag_kept, seconds_kept, loose_kept}
 use Rattle.http_rules.proofs.Lengths.{shorter, shorter_front}

@@ -23,8 +23,8 @@ returns c =
     let fields : List Field = fields_of c.args.head.now in
     let found = c.loop-value.found in
     let empty : c.loop-value.value-iterator ≡ [] = search rules in
-    let k : Completes found [] (directives fields) = rw empty at (c.loop-value.invariant.1.1.0) in
-    let open_before : has_unclosed fields ≡ (found.unclosed || false) = rw empty at (c.loop-value.invariant.1.1.1) in
+    let k : Completes found [] (directives fields) = rw empty at (c.loop-value.invariant.2) in
+    let open_before : has_unclosed fields ≡ (found.unclosed || false) = rw empty at (c.loop-value.invariant.3) in
     record {
       only_if_cached = whole_flag (codes "only-if-cached") (directives fields) found.only_if_cached k.only_if_cached;
       no_cache = whole_flag (codes "no-cache") (directives fields) found.no_cache k.no_cache;
