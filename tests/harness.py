@@ -27,6 +27,8 @@ import unsteady
 PROGRAM = os.path.abspath(sys.argv[1]) if len(sys.argv) > 1 else None
 THREADS = {"client_threads": int(os.environ["CLIENT_THREADS"])} if "CLIENT_THREADS" in os.environ else {}
 TESTS = []
+# How many times as fast the time of a hastened proxy passes.
+HASTE = 20
 # What the test on each thread has started.
 STARTED = threading.local()
 
@@ -172,6 +174,17 @@ def threads_seconds(pid):
     return seconds
 
 
+def owed(*pids):
+    """For how many seconds so far threads of these processes were ready to run and had no processor, all threads together. What took longer
+    because others had the processors took longer by at most what this grew by meanwhile; with nothing beside it that is next to nothing."""
+    seconds = 0.0
+    for pid in pids:
+        for thread in os.listdir(f"/proc/{pid}/task"):
+            with contextlib.suppress(OSError), open(f"/proc/{pid}/task/{thread}/schedstat") as it:
+                seconds += int(it.read().split()[1]) / 1e9
+    return seconds
+
+
 def busiest(before, after):
     """The thread whose processor time has grown most, and by how many seconds."""
     grown = {thread: seconds - before.get(thread, 0.0) for thread, seconds in after.items()}
@@ -262,9 +275,17 @@ def preloaded(folder, name):
 
 
 def hastened(folder):
-    """The environment of a proxy whose time passes faster (tests/haste.c), and how many times. Without a compiler that is once."""
-    shim = preloaded(folder, "haste")
-    return ({"LD_PRELOAD": shim, "HASTE": "20"}, 20) if shim else ({}, 1)
+    """The environment of a proxy whose time passes 20 times as fast (tests/haste.c) from when the function is called that is returned with it.
+    Without a compiler it passes no faster."""
+    shim, octet = preloaded(folder, "haste"), os.path.join(folder, "haste")
+    with open(octet, "wb") as it:
+        it.write(b"\0")
+
+    def begin():
+        with open(octet, "r+b") as it:
+            it.write(b"\1")
+
+    return ({"LD_PRELOAD": shim, "HASTE": str(HASTE), "HASTE_FROM": octet} if shim else {}), begin
 
 
 def lingering(folder, micros):

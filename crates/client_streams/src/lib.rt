@@ -12,6 +12,7 @@ mod listeners;
 mod patient;
 mod pool;
 mod refusal;
+mod request_line;
 mod seats;
 
 pub use clients::{Accept, AcceptedClients, ClientLimits, Seated, Stops};

@@ -3,6 +3,7 @@ ghost use Rattle.std.specs.Prelude.{◌≡◌, ⊤};
 ghost use Rattle.futures.specs.Task.{Keeps};
 ghost use Rattle.tokio.specs.Net.{stream_readable, stream_writable};
 
+use crate::request_line::RequestLine;
 use futures::Future;
 use futures::task::{Context, Poll};
 use paced_stream::{CLIENT_TURN, Paced};
@@ -57,8 +58,8 @@ struct Doing {
     is_sending: Cell<bool>,
     // Whether a read failed because the peer was silent for too long.
     has_timed_out: Cell<bool>,
-    // Whether the head that was begun last is of an OPTIONS without a path.
-    has_no_path: Cell<bool>,
+    // How far the line of the request whose head was begun last has come.
+    line: Cell<RequestLine>,
 }
 
 /// The stage of a connection, set by its HTTP service and read by its socket. Reference-counted within one thread.
@@ -74,7 +75,7 @@ impl SharedStage {
             is_anew: Cell::new(false),
             is_sending: Cell::new(false),
             has_timed_out: Cell::new(false),
-            has_no_path: Cell::new(false),
+            line: Cell::new(RequestLine::Other),
         };
         Ok(SharedStage(Rc::new(alloc, doing)?))
     }
@@ -122,15 +123,20 @@ impl SharedStage {
     }
 
     /// Whether the request whose head has come is an OPTIONS for a URL with nothing behind its host and port, which the HTTP library doesn't
-    /// tell from one with the path `/`. It is known where the request line came by one read, at whose beginning it stood. Asked once for each
+    /// tell from one with the path `/`. It is known unless the request line began behind another request in one read. Asked once for each
     /// request.
     pub fn take_no_path(&self) -> bool {
-        self.0.has_no_path.replace(false)
+        self.0.line.replace(RequestLine::Other).has_no_path()
     }
 
     // Notes the first octets of a head.
     fn note_first(&self, octets: &[u8]) {
-        self.0.has_no_path.set(has_no_path(octets));
+        self.0.line.set(RequestLine::BEGIN.behind(octets));
+    }
+
+    // Notes further octets of a head.
+    fn note_more(&self, octets: &[u8]) {
+        self.0.line.set(self.0.line.get().behind(octets));
     }
 
     // Notes that a read fails because the peer was silent for too long.
@@ -142,21 +148,6 @@ impl SharedStage {
     fn set_sending(&self, is_sending: bool) {
         self.0.is_sending.set(is_sending);
     }
-}
-
-// Whether these octets begin with the line of an OPTIONS for a URL with nothing behind its host and port (RFC 9112, section 3.2.4).
-fn has_no_path(octets: &[u8]) -> bool {
-    let Some(rest) = octets.strip_prefix(b"OPTIONS http://") else {
-        return false;
-    };
-    for &octet in rest {
-        match octet {
-            b' ' => return true,
-            b'/' | b'?' | b'\r' | b'\n' => return false,
-            _ => {}
-        }
-    }
-    false
 }
 
 /// A timeout that starts with the first wait after some progress.
@@ -262,7 +253,8 @@ impl<R: Clock + Drop> Patient<R> {
         ensures { self.new.socket ≡ self.old.socket }
     {
         match self.stage.get() {
-            Stage::Head | Stage::Content | Stage::Tunnel => {}
+            Stage::Head => self.stage.note_more(octets),
+            Stage::Content | Stage::Tunnel => {}
             Stage::Idle => {
                 self.stage.set(Stage::Head);
                 self.stage.note_first(octets);

@@ -1,8 +1,14 @@
 -- Directives that are found one after another.
-use Rattle.std.proofs.Common.{◌≡◌, ℕ, List, [], ◌∷◌, find, bytes_eq, Bool, true, false, cond, ◌||◌, Option, Some, None, is_some, option_map, refl, sym, ap, ◌∙◌}
+use Rattle.std.proofs.Common.{◌≡◌, ℕ, List, [], ◌∷◌, ◌++◌, map, flat_map, find, codes, bytes_eq, Bool, true, false, cond, ◌||◌, Option, Some, None, is_some, option_map, refl, sym, ap, ◌∙◌}
+use Rattle.std.specs.List.{list_any}
 use Rattle.std.specs.Option.{option_or}
-use Rattle.http_rules.specs.Directives.{first_argument, argument_seconds}
-use Rattle.http_rules.specs.Elements.{is_among, seconds_among}
+use Rattle.std.proofs.lemmas.List.Folds.{list_any-append}
+use Rattle.http_header.specs.Token.{lowercase}
+use Rattle.http_rules.specs.declared.directives.Place.TheVariants.{Plain}
+use Rattle.http_rules.specs.Fields.{Field, values_of}
+use Rattle.http_rules.specs.Directives.{first_argument, argument_seconds, directives, directives_in, directive_of, elements_from}
+use Rattle.http_rules.specs.Elements.{is_among, is_loosely_among, seconds_among}
+use Rattle.http_rules.specs.Forbidding.{before_semicolon, forbids, forbids_in}
 use Rattle.http_rules.proofs.Elements.{first_argument-cons}
 
 -- a directive in front has the name, or one of the others
@@ -70,6 +76,36 @@ pub seconds_kept : (word : List ℕ) (d : List ℕ × List ℕ) (rest whole : Li
     → seconds_among word whole ≡ option_or found (seconds_among word rest)
 seconds_kept word d rest whole found h e =
     h ∙ ap (λ (o : Option (List ℕ)). option_or found (option_map argument_seconds o)) (first_argument-kept word d rest e)
+
+-- one more directive is looked at for a name, perhaps before a semicolon
+pub loose_step : (word : List ℕ) (d : List ℕ × List ℕ) (rest whole : List (List ℕ × List ℕ)) (found now : Bool) (front : List ℕ)
+    → is_loosely_among word whole ≡ (found || is_loosely_among word (d ∷ rest)) → lowercase front ≡ before_semicolon d.0
+    → now ≡ (found || bytes_eq (lowercase front) word) → is_loosely_among word whole ≡ (now || is_loosely_among word rest)
+loose_step word d rest whole found now front h s e =
+    h ∙ or_grouped found (bytes_eq (before_semicolon d.0) word) (is_loosely_among word rest)
+    ∙ ap (λ (b : Bool). b || is_loosely_among word rest) (ap (λ (n : List ℕ). found || bytes_eq n word) (sym s) ∙ sym e)
+
+-- one more directive, which hasn't the name, is looked at for it
+pub loose_kept : (word : List ℕ) (d : List ℕ × List ℕ) (rest whole : List (List ℕ × List ℕ)) (found : Bool)
+    → is_loosely_among word whole ≡ (found || is_loosely_among word (d ∷ rest)) → bytes_eq (before_semicolon d.0) word ≡ false
+    → is_loosely_among word whole ≡ (found || is_loosely_among word rest)
+loose_kept word d rest whole found h e = h ∙ ap (λ (b : Bool). found || (b || is_loosely_among word rest)) e
+
+any-map : {X Y : Type 0} (p : Y → Bool) (f : X → Y) (xs : List X) → list_any p (map f xs) ≡ list_any (λ x. p (f x)) xs
+any-map p f [] = refl
+any-map p f (x ∷ xs) = ap (λ (b : Bool). p (f x) || b) (any-map p f xs)
+
+-- a head forbids by its directives
+loosely : (word : List ℕ) (values : List (List ℕ)) → is_loosely_among word (flat_map directives_in values) ≡ list_any (forbids_in word) values
+loosely word [] = refl
+loosely word (v ∷ vs) =
+    list_any-append (λ (d : List ℕ × List ℕ). bytes_eq (before_semicolon d.0) word) (directives_in v) (flat_map directives_in vs)
+    ∙ ap (λ (b : Bool). b || is_loosely_among word (flat_map directives_in vs)) (any-map (λ (d : List ℕ × List ℕ). bytes_eq (before_semicolon d.0) word) directive_of (elements_from Plain v))
+    ∙ ap (λ (b : Bool). forbids_in word v || b) (loosely word vs)
+
+pub whole_loose : (word : List ℕ) (fields : List Field) (found : Bool)
+    → is_loosely_among word (directives fields) ≡ (found || is_loosely_among word []) → found ≡ forbids word fields
+whole_loose word fields found h = sym (h ∙ or_nothing found) ∙ loosely word (values_of (codes "cache-control") fields)
 
 -- with no rest, what was found is the whole
 pub whole_flag : (word : List ℕ) (whole : List (List ℕ × List ℕ)) (found : Bool) → is_among word whole ≡ (found || is_among word []) → found ≡ is_among word whole

@@ -11,6 +11,7 @@ pub mod Numerals
 pub mod Lengths
 pub mod PlainHeads
 pub mod Pseudonyms
+pub mod Semicolons
 pub mod StoredDirectives
 pub mod StoredValues
 pub mod TagElements

@@ -9,6 +9,7 @@ use Rattle.http_rules.specs.declared.conditions.StoredAnswer.{StoredAnswer}
 use Rattle.http_rules.specs.declared.conditions.StoredAnswer.TheVariants.{Whole, NotModified}
 use Rattle.http_rules.specs.Fields.{Field, values_of, has_field}
 use Rattle.http_rules.specs.Directives.{directives_in, first_argument, asks, is_unclosed, has_unclosed}
+use Rattle.http_rules.specs.Forbidding.{forbids, forbids_in}
 use Rattle.http_rules.specs.Requests.{mode_of}
 use Rattle.http_rules.specs.Reuse.{may_have_no_cache, asks_by_pragma}
 use Rattle.http_rules.specs.Choice.{is_own, alone, chosen}
@@ -113,6 +114,9 @@ values_none name fields h = by (values_of name fields) h
 asks_none : (name : List ℕ) (fields : List Field) → values_of (codes "cache-control") fields ≡ [] → asks name fields ≡ false
 asks_none name fields e = ap (λ (vs : List (List ℕ)). is_some (first_argument name (flat_map directives_in vs))) e
 
+forbids_none : (name : List ℕ) (fields : List Field) → values_of (codes "cache-control") fields ≡ [] → forbids name fields ≡ false
+forbids_none name fields e = ap (list_any (forbids_in name)) e
+
 unclosed_none : (fields : List Field) → values_of (codes "cache-control") fields ≡ [] → has_unclosed fields ≡ false
 unclosed_none fields e = ap (list_any is_unclosed) e
 
@@ -147,10 +151,10 @@ own_none : (fields : List Field) → is_plain_request fields ≡ true → is_own
 own_none fields h =
     let n : HasNone fields = has_none fields h in
     let e = values_none (codes "cache-control") fields n.cache_control in
-    by (has_field (codes "authorization") fields) (has_field (codes "cookie") fields) (asks (codes "no-store") fields)
-    (asks (codes "no-cache") fields) (has_unclosed fields) (asks_by_pragma fields) (has_field (codes "if-match") fields)
-    (has_field (codes "if-unmodified-since") fields) n.authorization n.cookie (asks_none (codes "no-store") fields e)
-    (asks_none (codes "no-cache") fields e) (unclosed_none fields e)
+    by (has_field (codes "authorization") fields) (has_field (codes "cookie") fields) (forbids (codes "no-store") fields)
+    (forbids (codes "no-cache") fields) (has_unclosed fields) (asks_by_pragma fields) (has_field (codes "if-match") fields)
+    (has_field (codes "if-unmodified-since") fields) n.authorization n.cookie (forbids_none (codes "no-store") fields e)
+    (forbids_none (codes "no-cache") fields e) (unclosed_none fields e)
     (pragma_none fields (values_none (codes "pragma") fields n.pragma)) n.if_match n.if_unmodified_since
   where
     by : (a c s n u p m t : Bool) → a ≡ false → c ≡ false → s ≡ false → n ≡ false → u ≡ false → p ≡ false → m ≡ false → t ≡ false

@@ -4,9 +4,9 @@ use Rattle.node_terms.specs.declared.mode.Mode.{Mode}
 use Rattle.node_terms.specs.declared.mode.Mode.TheVariants.{Shared, Cached, Private}
 use Rattle.http_rules.specs.declared.choice.Stored.{Stored}
 use Rattle.http_rules.specs.Fields.{Field, has_field}
-use Rattle.http_rules.specs.Directives.{asks}
+use Rattle.http_rules.specs.Directives.{asks, has_unclosed}
+use Rattle.http_rules.specs.Forbidding.{forbids}
 use Rattle.http_rules.specs.Ranges.{range_of}
-use Rattle.http_rules.specs.Requests.{may_ask_no_cache}
 use Rattle.http_rules.specs.Reuse.{accepts, asks_by_pragma}
 use Rattle.http_rules.specs.Conditions.{is_for_origin}
 use Rattle.http_rules.specs.Validators.{only_value}
@@ -15,7 +15,8 @@ use Rattle.http_rules.specs.Validators.{only_value}
 abbrev pub is_own : List Field → Bool
 is_own fields =
     has_field (codes "authorization") fields || has_field (codes "cookie") fields
-    || asks (codes "no-store") fields || may_ask_no_cache fields || asks_by_pragma fields || is_for_origin fields
+    || forbids (codes "no-store") fields || (forbids (codes "no-cache") fields || has_unclosed fields)
+    || asks_by_pragma fields || is_for_origin fields
 
 -- whether what is stored is there, and accepted
 abbrev pub has_accepted : List Field → Option Stored → Bool

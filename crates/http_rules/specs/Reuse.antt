@@ -1,12 +1,13 @@
 -- What a request says about the use of stored responses (RFC 9111, section 5.2.1; Pragma by RFC 7234, section 5.4).
-use Rattle.std.specs.Prelude.{ℕ, List, codes, nat_le, nat_lt, not, ◌&&◌, ◌||◌, Bool, true, false, Option, Some, None, is_some, option_map, unwrap_or}
+use Rattle.std.specs.Prelude.{ℕ, List, codes, nat_le, nat_lt, not, ◌&&◌, ◌||◌, Bool, true, false, Option, Some, None, option_map, unwrap_or}
 use Rattle.std.specs.List.{list_any}
 use Rattle.http_rules.specs.Fields.{Field, values_of, has_field}
-use Rattle.http_rules.specs.Directives.{argument, argument_seconds, directives_in, first_argument, is_unclosed}
+use Rattle.http_rules.specs.Directives.{argument, argument_seconds, is_unclosed}
+use Rattle.http_rules.specs.Forbidding.{forbids_in}
 
 -- whether a Pragma value has no-cache, or may have it behind an unclosed double quote
 abbrev pub may_have_no_cache : List ℕ → Bool
-may_have_no_cache value = is_some (first_argument (codes "no-cache") (directives_in value)) || is_unclosed value
+may_have_no_cache value = forbids_in (codes "no-cache") value || is_unclosed value
 
 -- Pragma: no-cache counts in a request without a Cache-Control field (RFC 7234, section 5.4, which RFC 9111 leaves to caches)
 abbrev pub asks_by_pragma : List Field → Bool

@@ -3,9 +3,10 @@
 use Rattle.std.specs.Prelude.{ℕ, List, [], ◌∷◌, ◌++◌, codes, not, ◌==◌, ◌&&◌, ◌||◌, Bool, false, Option, Some, None, is_some, option_and_then, if◌then◌else◌}
 use Rattle.httpdate.specs.Date.{parse_secs}
 use Rattle.http_rules.specs.Conditions.{is_for_origin}
-use Rattle.http_rules.specs.Directives.{asks, has_unclosed}
+use Rattle.http_rules.specs.Directives.{has_unclosed}
 use Rattle.http_rules.specs.EntityTags.{is_weak, match_strongly, match_weakly}
 use Rattle.http_rules.specs.Fields.{Field, has_field}
+use Rattle.http_rules.specs.Forbidding.{forbids}
 use Rattle.http_rules.specs.Validators.{only_value, only_date, entity_tag_of}
 
 -- a text that is a date
@@ -44,7 +45,7 @@ has_conditions request =
 abbrev pub may_validate : List Field → Bool
 may_validate request =
     not (has_field (codes "authorization") request || has_field (codes "cookie") request
-    || asks (codes "no-store") request || has_unclosed request
+    || forbids (codes "no-store") request || has_unclosed request
     || has_field (codes "range") request || has_conditions request)
 
 -- two dates are there, and the same

@@ -1,6 +1,6 @@
 //! How a request is answered in the profile `rfc9111`.
-ghost use Rattle.std.specs.Prelude.{◌≡◌};
-ghost use Rattle.http_rules.specs.Fields.{fields_of};
+ghost use Rattle.std.specs.Prelude.{◌≡◌, List};
+ghost use Rattle.http_rules.specs.Fields.{Field, fields_of};
 ghost use Rattle.http_rules.specs.Elements.{Finds};
 ghost use Rattle.http_rules.specs.Choice.{is_own, has_accepted, alone, shared, chosen, is_for_a_part, has_single_range};
 
@@ -8,8 +8,7 @@ use crate::conditions::is_for_origin;
 use crate::directives::Directives;
 use crate::fields::has_field;
 use crate::ranges::range_of;
-use crate::request::may_ask_no_cache;
-use crate::reuse::{accepts, asks_by_pragma};
+use crate::reuse::{asks_by_pragma, is_accepted};
 use crate::validators::only_value;
 use http_header::HeaderMap;
 use node_terms::Mode;
@@ -29,7 +28,7 @@ pub struct Stored {
 /// `answer_to` says of it. A GET for which nothing is stored shares a fetch, unless it has a range; a HEAD is not fetched. Requests
 /// with Authorization, Cookie, `no-store`, `no-cache` (RFC 9111, section 5.2.1), `Pragma: no-cache` without Cache-Control (RFC 7234,
 /// section 5.4), a directive behind an unclosed quote, If-Match or If-Unmodified-Since are never answered from the store. `stored` makes no
-/// difference to a GET without Range and Cache-Control.
+/// difference to a GET without Range and Cache-Control. `no-store` and `no-cache` count before a semicolon, too.
 ///
 /// Errors: the status code of the refusal. 501 for a method other than GET and HEAD, and for a HEAD that is not answered from the
 /// store; 504 for a request with `only-if-cached` that is not.
@@ -43,7 +42,7 @@ pub fn choose(method: &str, head: &HeaderMap, stored: Option<Stored>) -> Result<
     let directives = Directives::of(head);
     let is_own = is_own(head, &directives);
     if directives.only_if_cached {
-        return if is_own || !has_accepted(head, stored) {
+        return if is_own || !has_accepted(&directives, stored) {
             Err(504)
         } else {
             Ok(Mode::Cached)
@@ -52,7 +51,7 @@ pub fn choose(method: &str, head: &HeaderMap, stored: Option<Stored>) -> Result<
     if is_own {
         alone(is_get)
     } else {
-        shared(is_get, head, stored)
+        shared(is_get, head, &directives, stored)
     }
 }
 
@@ -85,18 +84,18 @@ fn is_own(head: &HeaderMap, directives: &Directives) -> bool
 {
     has_field(head, "authorization")
         || has_field(head, "cookie")
-        || directives.no_store
-        || may_ask_no_cache(directives)
+        || directives.loose_no_store
+        || (directives.loose_no_cache || directives.unclosed)
         || asks_by_pragma(head)
         || is_for_origin(head)
 }
 
-// Whether what is stored is accepted by a request.
-fn has_accepted(head: &HeaderMap, stored: Option<Stored>) -> bool
-    ensures { result ≡ has_accepted (fields_of head.now) stored }
+// Whether what is stored is accepted by a request with these directives.
+fn has_accepted(directives: &Directives, stored: Option<Stored>) -> bool
+    ensures { (fields : List Field) → Finds directives.now fields → result ≡ has_accepted fields stored }
 {
     match stored {
-        Some(stored) => accepts(head, stored.age, stored.life),
+        Some(stored) => is_accepted(directives, stored.age, stored.life),
         None => false,
     }
 }
@@ -108,12 +107,18 @@ fn alone(is_get: bool) -> Result<Mode, u16>
     if is_get { Ok(Mode::Private) } else { Err(501) }
 }
 
-// How a request is answered that others may share.
-fn shared(is_get: bool, head: &HeaderMap, stored: Option<Stored>) -> Result<Mode, u16>
+// How a request with these directives is answered that others may share.
+fn shared(
+    is_get: bool,
+    head: &HeaderMap,
+    directives: &Directives,
+    stored: Option<Stored>,
+) -> Result<Mode, u16>
+    requires { Finds directives.now (fields_of head.now) }
     ensures { result ≡ shared is_get (fields_of head.now) stored }
 {
     let is_shared = match stored {
-        Some(stored) => accepts(head, stored.age, stored.life),
+        Some(stored) => is_accepted(directives, stored.age, stored.life),
         None => is_get && !has_field(head, "range"),
     };
     if is_shared {

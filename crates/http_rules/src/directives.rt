@@ -6,6 +6,7 @@ ghost use Rattle.http_header.specs.Token.{lowercase};
 ghost use Rattle.http_rules.specs.Fields.{fields_of};
 ghost use Rattle.http_rules.specs.Directives.{place_after, is_separator, ends_name, directive_of, directives_in, elements_from, first_argument, argument_seconds, is_quoted, is_unclosed};
 ghost use Rattle.http_rules.specs.Elements.{element_len, elements_left, octets_left, Completes, Finds};
+ghost use Rattle.http_rules.specs.Forbidding.{before_semicolon};
 ghost use Rattle.http_rules.specs.Loops.{is_blank};
 
 use crate::fields::values_of;
@@ -137,6 +138,9 @@ fn name_len(text: &[u8]) -> usize
     text.len()
 }
 
+// No directive that the rules ask for has a shorter name.
+const SHORTEST_NAME: usize = 7;
+
 /// The directives of the Cache-Control fields of a head that the rules ask for.
 #[derive(Clone, Copy, Debug)]
 pub(crate) struct Directives {
@@ -148,10 +152,16 @@ pub(crate) struct Directives {
     pub(crate) no_store: bool,
     /// Whether there is `private`.
     pub(crate) private: bool,
+    /// Whether there is `no-cache`, perhaps before a semicolon.
+    pub(crate) loose_no_cache: bool,
+    /// Whether there is `no-store`, perhaps before a semicolon.
+    pub(crate) loose_no_store: bool,
     /// The seconds of the first `s-maxage`, `Some(None)` if its argument is no number.
     pub(crate) s_maxage: Option<Option<u32>>,
     /// The seconds of the first `max-age`, `Some(None)` if its argument is no number.
     pub(crate) max_age: Option<Option<u32>>,
+    /// The seconds of the first `min-fresh`, `Some(None)` if its argument is no number.
+    pub(crate) min_fresh: Option<Option<u32>>,
     /// Whether some value has an unclosed double quote, so that directives after the quote cannot be recognized.
     pub(crate) unclosed: bool,
 }
@@ -178,8 +188,11 @@ impl Directives {
             no_cache: false,
             no_store: false,
             private: false,
+            loose_no_cache: false,
+            loose_no_store: false,
             s_maxage: None,
             max_age: None,
+            min_fresh: None,
             unclosed: false,
         }
     }
@@ -215,32 +228,53 @@ impl Directives {
         ensures { (rest whole : List (List ℕ × List ℕ)) → Completes self (directive_of element.now ∷ rest) whole → Completes result rest whole }
     {
         let (name, argument) = split_directive(element);
-        if !is_asked_for(name.len()) {
+        if name.len() < SHORTEST_NAME {
             return self;
         }
+        let front = before_semicolon(name);
         let only_if_cached = or_named(self.only_if_cached, name, b"only-if-cached");
         let no_cache = or_named(self.no_cache, name, b"no-cache");
         let no_store = or_named(self.no_store, name, b"no-store");
         let private = or_named(self.private, name, b"private");
+        let loose_no_cache = or_named(self.loose_no_cache, front, b"no-cache");
+        let loose_no_store = or_named(self.loose_no_store, front, b"no-store");
         let s_maxage = or_seconds(self.s_maxage, name, argument, b"s-maxage");
         let max_age = or_seconds(self.max_age, name, argument, b"max-age");
+        let min_fresh = or_seconds(self.min_fresh, name, argument, b"min-fresh");
         Directives {
             only_if_cached,
             no_cache,
             no_store,
             private,
+            loose_no_cache,
+            loose_no_store,
             s_maxage,
             max_age,
+            min_fresh,
             unclosed: self.unclosed,
         }
     }
 }
 
-// Whether some directive that the rules ask for has a name of this length.
-fn is_asked_for(length: usize) -> bool
-    ensures { result ≡ ((length == 7) || ((length == 8) || (length == 14))) }
+/// The name of a directive up to its first semicolon.
+pub(crate) fn before_semicolon(name: &[u8]) -> &[u8]
+    ensures value { lowercase result.now ≡ before_semicolon (lowercase name.now) }
+    ensures bound { length result.now ≤ length name.now }
 {
-    length == 7 || (length == 8 || length == 14)
+    &name[..semicolon(name)]
+}
+
+// The place of the first semicolon, or the length.
+fn semicolon(text: &[u8]) -> usize
+    ensures value { result ≡ position_or_len (λ c. c == 59) text.now }
+    ensures bound { result ≤ length text.now }
+{
+    for i in 0..text.len() {
+        if text[i] == b';' {
+            return i;
+        }
+    }
+    text.len()
 }
 
 /// The name of the directive in a list element, and its argument.

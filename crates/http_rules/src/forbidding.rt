@@ -1,12 +1,11 @@
 //! Directives that forbid storing or reuse (RFC 9111, section 5.2), as the profile `rfc9111` reads them.
-ghost use Rattle.std.specs.Prelude.{◌≡◌, ◌≤◌, ◌==◌, ◌∷◌, [], length};
-ghost use Rattle.std.specs.List.{position_or_len};
+ghost use Rattle.std.specs.Prelude.{◌≡◌, ◌∷◌, []};
 ghost use Rattle.http_header.specs.Token.{lowercase};
 ghost use Rattle.http_rules.specs.Fields.{fields_of};
 ghost use Rattle.http_rules.specs.Forbidding.{forbids, forbids_in, is_forbidding};
 ghost use Rattle.http_rules.specs.Validators.{stored_fields};
 
-use crate::directives::{split_directive, split_element};
+use crate::directives::{before_semicolon, split_directive, split_element};
 use crate::fields::values_of;
 use crate::text::is_name;
 use http_header::HeaderMap;
@@ -61,24 +60,11 @@ pub(crate) fn forbids_in(value: &[u8], name: &[u8]) -> bool
     false
 }
 
-// Whether a list element is the directive with this name, or begins with it and a semicolon. `name` is in lower case.
+// Whether a list element is the directive with this name, or one whose name begins with it and a semicolon. `name` is in lower case.
 fn is_forbidding(element: &[u8], name: &[u8]) -> bool
     requires { lowercase name.now ≡ name.now }
     ensures { result ≡ is_forbidding name.now element.now }
 {
-    let (found, _) = split_directive(&element[..semicolon(element)]);
-    is_name(found, name)
-}
-
-// The place of the first semicolon, or the length.
-fn semicolon(text: &[u8]) -> usize
-    ensures value { result ≡ position_or_len (λ c. c == 59) text.now }
-    ensures bound { result ≤ length text.now }
-{
-    for i in 0..text.len() {
-        if text[i] == b';' {
-            return i;
-        }
-    }
-    text.len()
+    let (found, _) = split_directive(element);
+    is_name(before_semicolon(found), name)
 }

@@ -25,8 +25,8 @@ pub(crate) fn argument_of<'a>(head: &'a HeaderMap, name: &[u8]) -> Option<&'a [u
     None
 }
 
-/// The argument of the first directive of one value with this name. `name` is in lower case.
-pub(crate) fn argument_in<'a>(value: &'a [u8], name: &[u8]) -> Option<&'a [u8]>
+// The argument of the first directive of one value with this name. `name` is in lower case.
+fn argument_in<'a>(value: &'a [u8], name: &[u8]) -> Option<&'a [u8]>
     requires { lowercase name.now ≡ name.now }
     ensures { option_copied result ≡ first_argument name.now (directives_in value.now) }
 {

@@ -37,8 +37,8 @@ pub fn classify(method: &str, head: &HeaderMap) -> Result<Mode, u16>
     })
 }
 
-/// Whether a request with these directives has `no-cache`, or may have it behind an unclosed quote.
-pub(crate) fn may_ask_no_cache(directives: &Directives) -> bool
+// Whether a request with these directives has `no-cache`, or may have it behind an unclosed quote.
+fn may_ask_no_cache(directives: &Directives) -> bool
     ensures { result ≡ (directives.now.no_cache || directives.now.unclosed) }
 {
     directives.no_cache || directives.unclosed

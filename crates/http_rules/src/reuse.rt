@@ -1,13 +1,13 @@
 //! What a request says about the use of stored responses.
-ghost use Rattle.std.specs.Prelude.{◌≡◌, option_map};
-ghost use Rattle.http_header.specs.Token.{lowercase};
-ghost use Rattle.http_rules.specs.Fields.{fields_of};
+ghost use Rattle.std.specs.Prelude.{◌≡◌, List, codes, option_map};
+ghost use Rattle.http_rules.specs.Fields.{Field, fields_of};
 ghost use Rattle.http_rules.specs.Directives.{argument, argument_seconds};
+ghost use Rattle.http_rules.specs.Elements.{Finds};
 ghost use Rattle.http_rules.specs.Reuse.{may_have_no_cache, asks_by_pragma, is_young_enough, is_fresh_enough, accepts};
 
-use crate::directives::{argument_seconds, is_unclosed};
+use crate::directives::{Directives, is_unclosed};
 use crate::fields::{has_field, values_of};
-use crate::named_directive::{argument_in, argument_of};
+use crate::forbidding::forbids_in;
 use http_header::HeaderMap;
 
 /// Whether a Pragma field counts and has `no-cache`, or may have it behind an unclosed quote.
@@ -29,7 +29,7 @@ pub(crate) fn asks_by_pragma(head: &HeaderMap) -> bool
 fn may_have_no_cache(value: &[u8]) -> bool
     ensures { result ≡ may_have_no_cache value.now }
 {
-    argument_in(value, b"no-cache").is_some() || is_unclosed(value)
+    forbids_in(value, b"no-cache") || is_unclosed(value)
 }
 
 /// Whether a request with these fields accepts a stored response that has this age and stays fresh for `life` seconds: its
@@ -39,14 +39,22 @@ fn may_have_no_cache(value: &[u8]) -> bool
 pub fn accepts(head: &HeaderMap, age: u32, life: u32) -> bool
     ensures { result ≡ accepts age life (fields_of head.now) }
 {
-    0 < life && (is_young_enough(head, age) && is_fresh_enough(head, life))
+    is_accepted(&Directives::of(head), age, life)
+}
+
+/// Whether a request with these directives accepts a stored response, as `accepts` says.
+pub(crate) fn is_accepted(directives: &Directives, age: u32, life: u32) -> bool
+    ensures { (fields : List Field) → Finds directives.now fields → result ≡ accepts age life fields }
+{
+    0 < life
+        && (is_young_enough(directives.max_age, age) && is_fresh_enough(directives.min_fresh, life))
 }
 
 // Whether an age is at most the `max-age` of a request, if it has one.
-fn is_young_enough(head: &HeaderMap, age: u32) -> bool
-    ensures { result ≡ is_young_enough age (fields_of head.now) }
+fn is_young_enough(max_age: Option<Option<u32>>, age: u32) -> bool
+    ensures { (fields : List Field) → max_age ≡ option_map argument_seconds (argument (codes "max-age") fields) → result ≡ is_young_enough age fields }
 {
-    match limit(head, b"max-age") {
+    match max_age {
         None => true,
         Some(None) => false,
         Some(Some(most)) => age <= most,
@@ -54,23 +62,12 @@ fn is_young_enough(head: &HeaderMap, age: u32) -> bool
 }
 
 // Whether a remaining life is at least the `min-fresh` of a request, if it has one.
-fn is_fresh_enough(head: &HeaderMap, life: u32) -> bool
-    ensures { result ≡ is_fresh_enough life (fields_of head.now) }
+fn is_fresh_enough(min_fresh: Option<Option<u32>>, life: u32) -> bool
+    ensures { (fields : List Field) → min_fresh ≡ option_map argument_seconds (argument (codes "min-fresh") fields) → result ≡ is_fresh_enough life fields }
 {
-    match limit(head, b"min-fresh") {
+    match min_fresh {
         None => true,
         Some(None) => false,
         Some(Some(least)) => least <= life,
-    }
-}
-
-// The seconds of the first directive with this name, `Some(None)` if its argument is no number. `name` is in lower case.
-fn limit(head: &HeaderMap, name: &[u8]) -> Option<Option<u32>>
-    requires { lowercase name.now ≡ name.now }
-    ensures { result ≡ option_map argument_seconds (argument name.now (fields_of head.now)) }
-{
-    match argument_of(head, name) {
-        Some(argument) => Some(argument_seconds(argument)),
-        None => None,
     }
 }

@@ -5,7 +5,7 @@ ghost use Rattle.http_rules.specs.Fields.{fields_of};
 ghost use Rattle.http_rules.specs.Validators.{stored_fields};
 ghost use Rattle.http_rules.specs.Stale.{is_error, supersedes, prohibits_stale, window, operators_window, is_within, permits, may_serve_stale, has_stale_use, takes_stale, accepted_by, stale_use};
 
-use crate::directives::argument_seconds;
+use crate::directives::{Directives, argument_seconds};
 use crate::forbidding::stored_forbids;
 use crate::named_directive::{argument_of, has_stored_unclosed, stored_argument};
 use http_header::HeaderMap;
@@ -72,7 +72,8 @@ pub fn has_stale_use(object: &[(Vec<u8>, Vec<u8>)], operators: u32) -> bool
 pub fn takes_stale(head: &HeaderMap) -> bool
     ensures { result ≡ takes_stale (fields_of head.now) }
 {
-    !(argument_of(head, b"max-age").is_some() || argument_of(head, b"min-fresh").is_some())
+    let directives = Directives::of(head);
+    !(directives.max_age.is_some() || directives.min_fresh.is_some())
 }
 
 /// How a request takes what is stale, without waiting for a response that is not: not at all with `max-age` or `min-fresh`; as its

@@ -52,14 +52,15 @@ fn modified_text(object: &[(Vec<u8>, Vec<u8>)]) -> Option<&[u8]>
 }
 
 /// Whether the fetch for one GET alone may carry the conditions of a stored object, so that a 304 gives that object to the client:
-/// the request has no Authorization, Cookie, Range or conditions, and no `no-store`, not even behind an unclosed quote.
+/// the request has no Authorization, Cookie, Range or conditions, and no `no-store`, not even before a semicolon or behind an unclosed
+/// quote.
 pub fn may_validate(head: &HeaderMap) -> bool
     ensures { result ≡ may_validate (fields_of head.now) }
 {
     let directives = Directives::of(head);
     !(has_field(head, "authorization")
         || has_field(head, "cookie")
-        || directives.no_store
+        || directives.loose_no_store
         || directives.unclosed
         || has_field(head, "range")
         || has_conditions(head))

@@ -422,7 +422,7 @@ fn refresh_rules(rt: HostRuntime) {
 // A method and the fields of a request, and how it is answered where nothing is stored.
 type Chosen = (&'static str, &'static str, Result<Mode, u16>);
 
-const PRAGMAS: [Chosen; 12] = [
+const PRAGMAS: [Chosen; 18] = [
     ("GET", "Pragma: no-cache", Ok(Mode::Private)),
     ("GET", "Pragma: x, No-Cache", Ok(Mode::Private)),
     ("GET", "Pragma: x\nPragma: no-cache", Ok(Mode::Private)),
@@ -437,8 +437,22 @@ const PRAGMAS: [Chosen; 12] = [
     ("GET", "Cache-Control: no-cache, only-if-cached", Err(504)),
     ("GET", "Host: a", Ok(Mode::Shared)),
     ("POST", "Pragma: no-cache", Err(501)),
-    ("GET", "Pragma: no-cache; x", Ok(Mode::Shared)),
-    ("GET", "Cache-Control: no-store;", Ok(Mode::Shared)),
+    ("GET", "Pragma: no-cache; x", Ok(Mode::Private)),
+    ("GET", "Pragma: x; no-cache", Ok(Mode::Shared)),
+    ("GET", "Cache-Control: no-store;", Ok(Mode::Private)),
+    (
+        "GET",
+        "Cache-Control: max-age=9, No-Store; max-age=0",
+        Ok(Mode::Private),
+    ),
+    (
+        "GET",
+        "Cache-Control: no-cache;a=\"b, c\"",
+        Ok(Mode::Private),
+    ),
+    ("GET", "Cache-Control: no-stores;", Ok(Mode::Shared)),
+    ("GET", "Cache-Control: x=\"no-store;\"", Ok(Mode::Shared)),
+    ("GET", "Cache-Control: no-cache;, only-if-cached", Err(504)),
 ];
 
 struct ChosenOf;

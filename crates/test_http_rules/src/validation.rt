@@ -303,7 +303,7 @@ fn names_in_connection(rt: HostRuntime) {
 // Requests, and whether the fetch for one may validate.
 type Validating = (&'static str, bool);
 
-const VALIDATING: [Validating; 16] = [
+const VALIDATING: [Validating; 17] = [
     ("", true),
     ("Cache-Control: max-age=0", true),
     ("Cache-Control: no-cache", true),
@@ -320,6 +320,7 @@ const VALIDATING: [Validating; 16] = [
     ("If-Modified-Since: Sat, 29 Oct 1994 19:43:31 GMT", false),
     ("If-Match: \"a\"", false),
     ("If-Unmodified-Since: Sat, 29 Oct 1994 19:43:31 GMT", false),
+    ("Cache-Control: no-cache, no-store;", false),
 ];
 
 struct MayValidate;

@@ -8,8 +8,11 @@ returns-then-self-clause-found c = λ rest whole h.
       no_cache = k.no_cache;
       no_store = k.no_store;
       private = k.private;
+      loose_no_cache = k.loose_no_cache;
+      loose_no_store = k.loose_no_store;
       s_maxage = k.s_maxage;
       max_age = k.max_age;
+      min_fresh = k.min_fresh;
     }
 
 pub returns-else-self-clause-found : goal.returns-else-self-clause-found
@@ -20,6 +23,9 @@ returns-else-self-clause-found c = λ rest whole h.
       no_cache = k.no_cache;
       no_store = k.no_store;
       private = k.private;
+      loose_no_cache = k.loose_no_cache;
+      loose_no_store = k.loose_no_store;
       s_maxage = k.s_maxage;
       max_age = k.max_age;
+      min_fresh = k.min_fresh;
     }

@@ -1,6 +1,6 @@
 use Rattle.std.proofs.Common.{◌≡◌, ◌+◌, ◌==◌, drop}
 use Rattle.std.specs.List.{position_or_len}
-use Rattle.http_rules.proofs.forbidding.semicolon.Given as goal
+use Rattle.http_rules.proofs.directives.semicolon.Given as goal
 
 abbrev pub invariant-loop-i : goal.invariant-loop-i
 invariant-loop-i l = position_or_len (λ c. c == 59) l.text ≡ l.i + position_or_len (λ c. c == 59) (drop l.i l.text)
