@@ -58,8 +58,8 @@ struct Doing {
     is_sending: Cell<bool>,
     // Whether a read failed because the peer was silent for too long.
     has_timed_out: Cell<bool>,
-    // How far the line of the request whose head was begun last has come.
-    line: Cell<RequestLine>,
+    // How far the line of the next request has come, `None` if nothing of its head has.
+    line: Cell<Option<RequestLine>>,
 }
 
 /// The stage of a connection, set by its HTTP service and read by its socket. Reference-counted within one thread.
@@ -75,7 +75,7 @@ impl SharedStage {
             is_anew: Cell::new(false),
             is_sending: Cell::new(false),
             has_timed_out: Cell::new(false),
-            line: Cell::new(RequestLine::Other),
+            line: Cell::new(None),
         };
         Ok(SharedStage(Rc::new(alloc, doing)?))
     }
@@ -126,17 +126,19 @@ impl SharedStage {
     /// tell from one with the path `/`. It is known unless the request line began behind another request in one read. Asked once for each
     /// request.
     pub fn take_no_path(&self) -> bool {
-        self.0.line.replace(RequestLine::Other).has_no_path()
+        match self.0.line.replace(None) {
+            Some(line) => line.has_no_path(),
+            None => false,
+        }
     }
 
-    // Notes the first octets of a head.
-    fn note_first(&self, octets: &[u8]) {
-        self.0.line.set(RequestLine::BEGIN.behind(octets));
-    }
-
-    // Notes further octets of a head.
-    fn note_more(&self, octets: &[u8]) {
-        self.0.line.set(self.0.line.get().behind(octets));
+    // Notes octets of the next request's head.
+    fn note_head(&self, octets: &[u8]) {
+        let line = match self.0.line.get() {
+            Some(line) => line,
+            None => RequestLine::BEGIN,
+        };
+        self.0.line.set(Some(line.behind(octets)));
     }
 
     // Notes that a read fails because the peer was silent for too long.
@@ -253,13 +255,17 @@ impl<R: Clock + Drop> Patient<R> {
         ensures { self.new.socket ≡ self.old.socket }
     {
         match self.stage.get() {
-            Stage::Head => self.stage.note_more(octets),
+            Stage::Head => self.stage.note_head(octets),
             Stage::Content | Stage::Tunnel => {}
             Stage::Idle => {
                 self.stage.set(Stage::Head);
-                self.stage.note_first(octets);
+                self.stage.note_head(octets);
             }
-            Stage::Asked => self.coming.begin_anew(),
+            Stage::Asked => {
+                // The request has come whole, so this begins the next one.
+                self.stage.note_head(octets);
+                self.coming.begin_anew();
+            }
         }
     }
 
