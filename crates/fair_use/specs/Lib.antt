@@ -1,0 +1,9 @@
+pub mod Descriptors
+pub mod IdleConnections
+pub mod Leaving
+pub mod Race
+pub mod Remembered
+pub mod Turns
+pub mod Unanswered
+pub mod Unjoined
+pub mod WaitingLine
