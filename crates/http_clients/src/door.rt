@@ -79,9 +79,10 @@ impl<H: Serves<K>, K: KeepTunnel> Door<H, K> {
 
     // The method and the target of a request. Returns `None` if out of memory.
     fn line(&self, parts: &http::request::Parts) -> Option<(String, String)> {
+        let has_no_path = self.stage.take_no_path();
         let method = String::from_str(self.alloc, parts.method.as_str()).ok()?;
         let mut target = target_of(self.alloc, &parts.uri).ok()?;
-        if self.stage.take_no_path() && target.ends_with('/') {
+        if has_no_path && is_about_a_root(parts) {
             // The library has put the path `/` there.
             let _ = target.pop();
         }
@@ -498,6 +499,11 @@ fn target_of(alloc: Global, uri: &Uri) -> Result<String, AllocError> {
     write_origin(&mut text, uri)?;
     write_path(&mut text, uri)?;
     Ok(text)
+}
+
+// Whether a request is an OPTIONS with the path `/` and no query.
+fn is_about_a_root(parts: &http::request::Parts) -> bool {
+    parts.method.as_str() == "OPTIONS" && parts.uri.path() == "/" && parts.uri.query().is_none()
 }
 
 // Writes the scheme and the authority of a target, as far as it has them. Errors: out of memory.
