@@ -35,7 +35,7 @@ CONFIG ?= examples/serve.json
 PREFIX ?= /usr/local
 DESTDIR ?=
 
-.PHONY: serve group feed fresh build install deb package systemd page test format cases documents loopback attacks open steady hostile slow interop clients load large fuzz limits early kept six edits bench sweep storm
+.PHONY: serve group feed fresh build install deb package systemd page test format cases documents loopback attacks open steady hostile slow interop clients load large fuzz limits early kept descriptors addresses six edits bench sweep storm
 
 feed:
 	@tools/feed $(SCRIPT)
@@ -124,6 +124,14 @@ early:
 # Which connections to servers are kept.
 kept:
 	@tests/serve_kept $(PROGRAM)
+
+# At which of a name's addresses a server is reached.
+addresses:
+	@tests/serve_addresses $(PROGRAM)
+
+# What there is where the program may open few files.
+descriptors:
+	@tests/serve_descriptors $(PROGRAM)
 
 # Servers with an address of IPv6.
 six:

@@ -375,8 +375,8 @@ class Proxy:
             self.process.kill()
         self.process.wait()
 
-    def connect(self, seconds=10):
-        return socket.create_connection((self.address, self.ports["http_port"]), timeout=seconds)
+    def connect(self, seconds=10, source=None):
+        return socket.create_connection((self.address, self.ports["http_port"]), seconds, source and (source, 0))
 
     def raw(self, octets, seconds=10):
         with self.connect(seconds) as s:
@@ -721,6 +721,36 @@ def silent_names():
     s.bind(("127.0.0.1", 53))
     s.settimeout(10)
     return s
+
+
+class Names:
+    """A name server that tells 127.0.0.1 for every name, after some time; nothing for names that begin with 'silent', and that there is no
+    such name for those that are `gone`. It counts the questions for addresses of each."""
+
+    def __init__(self, delay=0.0):
+        self.delay, self.asked, self.gone, self.is_silent = delay, [], set(), False
+        self.socket = socket.socket(socket.AF_INET, socket.SOCK_DGRAM)
+        self.socket.bind(("127.0.0.1", 53))
+        threading.Thread(target=self.run, daemon=True).start()
+
+    def run(self):
+        while True:
+            octets, sender = self.socket.recvfrom(4096)
+            name, end = octets[13:13 + octets[12]].decode(), octets.index(b"\0", 12) + 5
+            is_address = octets[end - 4:end - 2] == b"\0\1"
+            if is_address:
+                self.asked.append(name)
+            if self.is_silent or name.startswith("silent"):
+                continue
+            is_told = is_address and name not in self.gone
+            told = b"\xc0\x0c\0\1\0\1\0\0\0\0\0\4\x7f\0\0\1" if is_told else b""
+            flags = b"\x81\x83" if name in self.gone else b"\x81\x80"
+            reply = octets[:2] + flags + b"\0\1" + (b"\0\1" if is_told else b"\0\0") + bytes(4) + octets[12:end] + told
+            threading.Timer(self.delay, self.socket.sendto, (reply, sender)).start()
+
+    def names(self):
+        """The names that were asked for."""
+        return set(self.asked)
 
 
 def ask_for_names(proxy, names, seconds=10):

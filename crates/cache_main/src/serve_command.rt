@@ -2,7 +2,7 @@
 ghost use Rattle.std.specs.Prelude.{◌≡◌};
 
 use crate::version::VERSION;
-use cache_serve::{ProxyLimits, start};
+use cache_serve::{ProxyLimits, few_files, start};
 use commands::{StartFacts, equipment_of, tell_end, tell_finish, tell_listening, tell_start};
 use proxy_site::SEATS;
 use serve_config::Settings;
@@ -45,7 +45,8 @@ where
         drop(settings);
         return false;
     };
-    let facts = StartFacts::of(&settings, VERSION);
+    let few = few_files(&rt, &settings, ProxyLimits::usual());
+    let facts = StartFacts::of(&settings, VERSION, few);
     match start::<L, R>(rt, blank, settings, equipment, ProxyLimits::usual()) {
         Ok(site) => {
             tell_listening(rt, &facts, site.addresses(), site.clients.len());

@@ -1,6 +1,9 @@
 //! What the threads of a proxy need of its settings.
-use crate::descriptors::{connections_within, most_files};
-use crate::limits::{ADDRESS_CONNECTIONS, FETCH_OCTETS, ProxyLimits, USUAL_CLIENT_THREADS};
+use crate::descriptors::most_files;
+use crate::limits::{
+    ADDRESS_CONNECTIONS, FETCH_OCTETS, ProxyLimits, USUAL_CLIENT_THREADS, USUAL_LOOKUP_THREADS,
+};
+use fair_use::{Division, FewFiles, division_of, is_told};
 use filter_slots::End;
 use proxy_site::MOST_CLIENT_THREADS;
 use serve_config::Settings;
@@ -21,12 +24,16 @@ pub struct ThreadConfig {
     pub six: Option<Ipv6Addr>,
     /// How many threads serve clients: 1 to 16.
     pub client_threads: usize,
+    /// How many threads look up names at most: 1 to 256.
+    pub lookup_threads: usize,
     pub admin_port: u16,
     pub body_limit: usize,
     pub fetch_octets: usize,
     pub streams: u32,
     pub stop_after: u64,
     pub limits: ProxyLimits,
+    /// How the files that the program may open are divided, if that is known.
+    pub division: Option<Division>,
 }
 
 /// What the threads need of the settings.
@@ -40,13 +47,18 @@ pub(crate) fn thread_config<R: Threads + Files + AllocGlobal>(
     let an_address = settings.address_connections.unwrap_or(ADDRESS_CONNECTIONS);
     limits.clients.connections.an_address = an_address as usize;
     let client_threads = client_threads(rt, settings);
-    if let Some(files) = most_files(rt) {
-        let most = limits.clients.connections.most;
-        let files = files.saturating_sub(six_files(settings, client_threads));
-        limits.clients.connections.most = connections_within(files, client_threads, most);
+    let division = division_in(
+        rt,
+        settings,
+        client_threads,
+        limits.clients.connections.most,
+    );
+    if let Some(division) = division {
+        limits.clients.connections.most = division.seats;
     }
     limits.fetching = Duration::from_secs(u64::from(settings.fetch_seconds));
     limits.idle = idle_of(settings.fetch_idle);
+    limits.speed = speed_of(settings.fetch_speed);
     limits.keep = keep_of(settings.keep_alive);
     ThreadConfig {
         icp: settings.node.icp,
@@ -54,13 +66,43 @@ pub(crate) fn thread_config<R: Threads + Files + AllocGlobal>(
         clients: SocketAddr::V4(SocketAddrV4::new(address, settings.http_port)),
         six: six_address(settings),
         client_threads,
+        lookup_threads: settings.lookup_threads.unwrap_or(USUAL_LOOKUP_THREADS) as usize,
         admin_port: settings.admin_port,
         body_limit: settings.body_limit as usize,
         fetch_octets: settings.fetch_octets.unwrap_or(FETCH_OCTETS) as usize,
         streams: settings.streams,
         stop_after: settings.stop_after,
         limits,
+        division,
     }
+}
+
+/// What a start tells of the files that the program may open: how they are divided, if they are few. `None` also if it isn't known how many
+/// there are.
+pub fn few_files<R: Threads + Files + AllocGlobal>(
+    rt: &R,
+    settings: &Settings,
+    limits: ProxyLimits,
+) -> Option<FewFiles> {
+    let files = most_files(rt)?;
+    if !is_told(files) {
+        return None;
+    }
+    let threads = client_threads(rt, settings);
+    let division = division_in(rt, settings, threads, limits.clients.connections.most)?;
+    Some(FewFiles { files, division })
+}
+
+/// How the files that the program may open are divided, of which so many threads serve at most so many clients. `None` if it isn't known how
+/// many there are.
+fn division_in<R: Files + AllocGlobal>(
+    rt: &R,
+    settings: &Settings,
+    threads: usize,
+    most: usize,
+) -> Option<Division> {
+    let files = most_files(rt)?.saturating_sub(six_files(settings, threads));
+    Some(division_of(files, threads, most))
 }
 
 /// How many threads serve clients: as many as the settings say, or one for each processor, at most 4.
@@ -94,6 +136,14 @@ fn idle_of(seconds: Option<u32>) -> Option<Duration> {
     match seconds {
         Some(seconds) => Some(Duration::from_secs(u64::from(seconds))),
         None => None,
+    }
+}
+
+/// The least octets a second of a fetch's content, if there is a least speed.
+fn speed_of(octets: u32) -> Option<u32> {
+    match octets {
+        0 => None,
+        _ => Some(octets),
     }
 }
 

@@ -1,7 +1,4 @@
-//! How many clients there may be by the files that the program may open.
-ghost use Rattle.std.specs.Prelude.{◌≤◌};
-
-use crate::limits::{OWN_FILES, SERVER_FILES, THREAD_FILES};
+//! The files that the program may open.
 use std::alloc::AllocGlobal;
 use std::fs;
 use std::fs::Files;
@@ -40,16 +37,4 @@ fn first_number(text: &str) -> Option<usize> {
         }
     }
     None
-}
-
-/// How many connections of clients there may be, of at most `most`, where the program may open so many files and so many threads serve
-/// clients: what is left beside the program's own and those to servers, but at least half of what is left beside its own; 0 where nothing is.
-pub fn connections_within(files: usize, threads: usize, most: usize) -> usize
-    ensures { result ≤ most }
-{
-    let left = files
-        .saturating_sub(OWN_FILES)
-        .saturating_sub(threads.saturating_mul(THREAD_FILES));
-    let beside_servers = left.saturating_sub(SERVER_FILES);
-    beside_servers.max(left.saturating_sub(left / 2)).min(most)
 }

@@ -13,6 +13,7 @@ use proxy_node::{AtDesk, NodeHandle, ThreadSeat};
 use proxy_results::Results;
 use proxy_site::{Ending, ServeFault};
 use proxy_state::{Origins, Shared, TakeEvents};
+use server_connections::KeptShare;
 use std::alloc::{AllocGlobal, Global};
 use std::io;
 use std::net::Net;
@@ -58,6 +59,8 @@ pub struct FetchShares<S> {
     /// The lock by which changes of what is stored wait for the results of fetches.
     pub changes: Arc<RwLock<()>>,
     pub budget: Arc<Budget>,
+    /// The thread's part in the connections that are kept.
+    pub kept: KeptShare,
 }
 
 impl<R, S, L> Work<R, L> for FetchTask<S, L>
@@ -90,6 +93,7 @@ fn fetch_limits(config: ThreadConfig) -> FetchLimits
         free: FREE_OCTETS,
         connecting: config.limits.connecting,
         idle: config.limits.idle,
+        speed: config.limits.speed,
         keep: config.limits.keep,
         at_once: at_once(config.streams),
     }
@@ -114,6 +118,7 @@ where
         judged,
         changes,
         budget,
+        kept,
     } = shares;
     let mut results = Results {
         rt,
@@ -127,6 +132,7 @@ where
     };
     let rules = FetchRules {
         budget,
+        kept,
         admit: Origins { rt, proxy: judged },
     };
     let ran = run_fetches(rt, jobs, &mut results, rules, fetch_limits(config));

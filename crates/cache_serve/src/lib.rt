@@ -20,5 +20,6 @@ mod queries;
 mod starting;
 mod tasks;
 
+pub use config::few_files;
 pub use limits::ProxyLimits;
 pub use starting::start;

@@ -3,8 +3,8 @@ use client_streams::{ClientLimits, StreamTimeouts};
 use http_clients::ServeLimits;
 use std::time::Duration;
 
-/// Threads that look up names.
-pub const LOOK_UPS: usize = 4;
+/// The most threads that look up names of servers, if the configuration does not say how many.
+pub const USUAL_LOOKUP_THREADS: u32 = 64;
 
 /// The most octets of bodies under way, if the configuration does not say it. The first `FREE_OCTETS` of each don't count.
 pub const FETCH_OCTETS: u32 = 268_435_456;
@@ -18,17 +18,11 @@ pub const USUAL_CLIENT_THREADS: usize = 4;
 /// The most datagrams of other threads that the query thread sends before it receives again.
 pub const SENDS_A_TURN: u32 = 64;
 
+/// How often the query thread looks at most for fetches that have no client, in milliseconds.
+pub const LOOK_MILLIS: u64 = 100;
+
 /// The most connections of clients of one address, unless the configuration says another number.
 pub const ADDRESS_CONNECTIONS: u32 = 256;
-
-/// Open files of the program itself: its sockets, event loops and logs, and some connections of administrators.
-pub const OWN_FILES: usize = 36;
-
-/// Open files of each thread that serves clients: its event loop, and a client that waits for a seat.
-pub const THREAD_FILES: usize = 6;
-
-/// Open files that are left for connections to servers where there are enough: those of all fetches, and a quarter as many.
-pub const SERVER_FILES: usize = 320;
 
 /// The most octets of the content of a client's request.
 const CLIENT_CONTENT: usize = 65_536;
@@ -49,6 +43,8 @@ pub struct ProxyLimits {
     pub fetching: Duration,
     /// How long a fetch's connection may be without an octet, if that is limited.
     pub idle: Option<Duration>,
+    /// The least octets a second of a fetch's content, if there is a least speed.
+    pub speed: Option<u32>,
     /// How long a fetch's connection is kept for further ones. None is if it is left out.
     pub keep: Option<Duration>,
 }
@@ -63,6 +59,7 @@ impl ProxyLimits {
             connecting: Duration::from_secs(5),
             fetching: Duration::from_secs(30),
             idle: None,
+            speed: None,
             keep: None,
         }
     }

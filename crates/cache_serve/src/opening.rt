@@ -34,7 +34,7 @@ pub(crate) type Begun<L> = Result<JoinHandle<Ending<L>>, ServeFault>;
 pub(crate) struct Opening<R, S, L: Ledger> {
     rt: R,
     pub(crate) alloc: Global,
-    config: ThreadConfig,
+    pub(crate) config: ThreadConfig,
     pub(crate) site: Site<S, L>,
 }
 

@@ -1,5 +1,5 @@
 //! The thread that owns the query sockets.
-use crate::limits::SENDS_A_TURN;
+use crate::limits::{LOOK_MILLIS, SENDS_A_TURN};
 use crate::tasks::Work;
 use crossbeam_channel::{Receiver, Sender};
 use filter_slots::{End, Socket};
@@ -16,7 +16,7 @@ use std::sync::atomic::{AtomicBool, Ordering};
 use std::sync::ledger::Ledger;
 use std::sync::{Arc, Wait};
 use std::thread;
-use std::time::{Clock, Duration};
+use std::time::{Clock, Duration, Instant};
 
 /// The work of the query thread, which owns both UDP sockets and sends every datagram. `S` is the state that all threads share.
 pub struct QueryTask<S, L: Ledger> {
@@ -67,13 +67,29 @@ impl Drop for QueryLine {
 
 /// A handle to the node that is looked after between datagrams. What is generic over this has nothing of the handle in it.
 trait Tended {
-    /// Reports the fetches that no thread could start, and has `watch` look at the node's counters.
-    fn tend<H: Wait + Clock>(&mut self, rt: &H, alloc: Global, watch: &mut MalformedWatch);
+    /// Reports the fetches that no thread could start, ends those that have no client and are to end if that `is_time`, and has `watch` look
+    /// at the node's counters.
+    fn tend<H: Wait + Clock>(
+        &mut self,
+        rt: &H,
+        alloc: Global,
+        watch: &mut MalformedWatch,
+        is_time: bool,
+    );
 }
 
 impl<R: Wait + Clock + Drop, S: AtDesk<L> + Overseen, L: Ledger> Tended for NodeHandle<R, S, L> {
-    fn tend<H: Wait + Clock>(&mut self, rt: &H, alloc: Global, watch: &mut MalformedWatch) {
+    fn tend<H: Wait + Clock>(
+        &mut self,
+        rt: &H,
+        alloc: Global,
+        watch: &mut MalformedWatch,
+        is_time: bool,
+    ) {
         self.report_failures();
+        if is_time {
+            self.proxy().mail().end_unwanted(rt);
+        }
         watch.look(rt, alloc, self.proxy());
     }
 }
@@ -86,6 +102,24 @@ struct Rounds {
     // Wakes the wire.
     bell: Bell,
     watch: MalformedWatch,
+    // When it was last looked for fetches that have no client.
+    looked: Option<Instant>,
+}
+
+impl Rounds {
+    // Whether it is time to look for fetches that have no client: as often as the thread wakes by itself, however many datagrams come.
+    fn is_time<R: Clock>(&mut self, rt: &R) -> bool {
+        let Ok(now) = Instant::now(rt) else {
+            return true;
+        };
+        if let Some(looked) = self.looked
+            && now.saturating_duration_since(looked) < Duration::from_millis(LOOK_MILLIS)
+        {
+            return false;
+        }
+        self.looked = Some(now);
+        true
+    }
 }
 
 /// What the query thread has, with this handle that wakes its wire. Errors: there is none, or out of memory.
@@ -96,6 +130,7 @@ fn rounds_of(alloc: Global, bell: Result<Bell, AllocError>) -> Result<Rounds, Al
             out,
             bell,
             watch: MalformedWatch::new(),
+            looked: None,
         }),
         Err(fault) => {
             drop(bell);
@@ -261,7 +296,8 @@ where
         if send_some(rt, wire, &line.outgoing) {
             rounds.bell.ring();
         }
-        node.tend(rt, alloc, &mut rounds.watch);
+        let is_time = rounds.is_time(rt);
+        node.tend(rt, alloc, &mut rounds.watch, is_time);
         rounds.out.clear();
         match pump_with(alloc, wire, node, &mut rounds.out, 1) {
             Ok(_) => failures = 0,

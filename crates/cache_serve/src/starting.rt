@@ -2,17 +2,17 @@
 ghost use Rattle.std.specs.Prelude.{◌≡◌};
 
 use crate::config::thread_config;
-use crate::limits::{LOOK_UPS, ProxyLimits};
+use crate::limits::ProxyLimits;
 use crate::opening::{Begun, Opening, opening_of};
 use crate::tasks::Work;
 use crossbeam_channel::{Receiver, Sender, bounded};
 use log_writer::{LogTask, run_log};
-use name_lookup::{NameClerk, NameDesk, NameLimits, look_up, open_names};
+use name_lookup::{NameDesk, NameLimits, NameWatch, open_names, watch_names};
 use proxy_node::{AtDesk, ProxyState};
 use proxy_panel::Overseen;
 use proxy_setup::{LogTasks, Orders, equipped, server_orders, site_of};
 use proxy_site::{Equipment, SEATS, ServeFault, Site, Writing, Writings};
-use proxy_state::Shared;
+use proxy_state::{Passes, Shared};
 use serve_config::Settings;
 use std::alloc::{AllocError, AllocGlobal, Global};
 use std::fs::Files;
@@ -151,7 +151,10 @@ where
     R::Dir: Send + 'static,
 {
     match open_logs(rt, opening.alloc, &mut opening.site.writings, logs) {
-        Ok(()) => open_look_ups(rt, opening.alloc, &*opening.site.proxy),
+        Ok(()) => {
+            let passes = opening.site.proxy.passes();
+            open_look_ups(rt, opening.alloc, opening.config.lookup_threads, passes)
+        }
         Err(fault) => Err(fault),
     }
 }
@@ -301,44 +304,41 @@ fn writing_of<E: Drop>(
     }
 }
 
-// Starts the threads that look up names. They are not joined, since the system's resolver may hold each for as long as it
-// likes: a thread that is idle ends when the desk is dropped, and one that is held ends with the process. None of
-// them has a seat or a part of the shared state.
-fn open_look_ups<R, S>(rt: R, alloc: Global, proxy: &S) -> Result<NameDesk, ServeFault>
+// Starts the thread that starts those that look up names, as they are needed. It is not joined, as they are not: it ends when the desk is
+// dropped. None of them has a seat or a part of the shared state.
+fn open_look_ups<R>(
+    rt: R,
+    alloc: Global,
+    threads: usize,
+    passes: &Passes,
+) -> Result<NameDesk, ServeFault>
 where
     R: Threads + Wait + Net + Clock + Copy + Send + 'static,
     R::Stream: Send + 'static,
     R::Listener: Send + 'static,
-    S: Shared,
 {
-    match open_names(alloc, NameLimits::usual(), proxy.passes().has_six) {
-        Ok((desk, clerk)) => {
-            let begun = begin_look_ups(rt, &clerk);
-            drop(clerk);
-            after(begun, desk)
-        }
+    let limits = NameLimits::usual(threads);
+    match open_names(alloc, limits, passes.has_six, &passes.servers) {
+        Ok((desk, watch)) => after(begin_look_ups(rt, watch), desk),
         Err(_) => Err(ServeFault::NoMemory),
     }
 }
 
-// Starts threads that look up names.
-fn begin_look_ups<R>(rt: R, clerk: &NameClerk) -> Result<(), ServeFault>
+// Starts the thread that starts those that look up names.
+fn begin_look_ups<R>(rt: R, watch: NameWatch) -> Result<(), ServeFault>
 where
     R: Threads + Wait + Net + Clock + Copy + Send + 'static,
     R::Stream: Send + 'static,
     R::Listener: Send + 'static,
 {
-    for _ in 0..LOOK_UPS {
-        let Ok(clerk) = clerk.share() else {
-            return Err(ServeFault::NoMemory);
-        };
-        match thread::spawn(&rt, move || look_up(&rt, &clerk)) {
-            Ok(thread) => drop(thread),
-            Err(refused) => {
-                drop(refused);
-                return Err(ServeFault::NoMemory);
-            }
+    match thread::spawn(&rt, move || watch_names(rt, watch)) {
+        Ok(thread) => {
+            drop(thread);
+            Ok(())
+        }
+        Err(refused) => {
+            drop(refused);
+            Err(ServeFault::NoMemory)
         }
     }
-    Ok(())
 }

@@ -1,5 +1,6 @@
 //! What `serve` tells of the start of a proxy, and of a failure.
 use crate::patience::tell;
+use fair_use::FewFiles;
 use filter_slots::End;
 use proxy_site::{Addresses, Port, ServeFault};
 use serve_config::Settings;
@@ -18,6 +19,7 @@ pub struct StartFacts {
     six: Option<Ipv6Addr>,
     entries: u32,
     octets: u32,
+    few: Option<FewFiles>,
 }
 
 /// The ports that a configuration asks for.
@@ -30,8 +32,8 @@ struct AskedPorts {
 }
 
 impl StartFacts {
-    /// Those of these settings, for a program of this version.
-    pub fn of(settings: &Settings, version: &'static str) -> StartFacts {
+    /// Those of these settings, for a program of this version, which may open these few files, if they are few.
+    pub fn of(settings: &Settings, version: &'static str, few: Option<FewFiles>) -> StartFacts {
         StartFacts {
             version,
             asked: AskedPorts {
@@ -46,6 +48,7 @@ impl StartFacts {
             },
             entries: settings.node.entries,
             octets: settings.node.octets,
+            few,
         }
     }
 }
@@ -77,7 +80,10 @@ fn start_lines(
     addresses: Addresses,
     client_threads: usize,
 ) -> Result<String, AllocError> {
-    let mut lines = start_line(alloc, facts, addresses, client_threads)?;
+    let mut lines = few_line(alloc, facts.few)?;
+    let line = start_line(alloc, facts, addresses, client_threads)?;
+    lines.push_str(line.as_str())?;
+    drop(line);
     let (asked, clients) = (facts.asked, addresses.clients.port());
     add_port(alloc, &mut lines, "icp_port", asked.icp, addresses.icp.port)?;
     add_port(
@@ -97,6 +103,20 @@ fn start_lines(
         administration,
     )?;
     Ok(lines)
+}
+
+/// The line about the files that the program may open, with its line break; nothing where they are not few. Errors: out of memory.
+fn few_line(alloc: Global, few: Option<FewFiles>) -> Result<String, AllocError> {
+    let Some(FewFiles { files, division }) = few else {
+        return Ok(String::new(alloc));
+    };
+    let (seats, servers) = (
+        division.seats,
+        division.together.saturating_sub(division.seats),
+    );
+    format!(in alloc;
+        "{files} open files: {seats} clients at most, and {servers} connections to servers beside as many (LimitNOFILE)\n"
+    )
 }
 
 /// Adds the line of a port that was asked for as 0. Errors: out of memory.

@@ -1,8 +1,8 @@
 -- How a table of open files is divided between clients and servers, and when there is room for one more connection to a server.
 use Rattle.std.specs.Prelude.{◌≡◌, ℕ, ◌+◌, ◌-◌, ◌*◌, ◌/◌, ◌<◌, ◌⊎◌, max, min}
 use Rattle.fair_use.specs.declared.descriptors.Division.{Division}
-use Rattle.fair_use.specs.declared.descriptors.Room.{Room}
-use Rattle.fair_use.specs.declared.descriptors.Room.TheVariants.{Free, InPlaceOfIdle, Nothing}
+use Rattle.fair_use.specs.declared.descriptors.FileRoom.{FileRoom}
+use Rattle.fair_use.specs.declared.descriptors.FileRoom.TheVariants.{Free, InPlaceOfIdle, Nothing}
 
 -- what is left beside the program itself: its 36 files, and 6 of each thread that serves clients
 abbrev pub left_of : ℕ → ℕ → ℕ
@@ -33,7 +33,7 @@ abbrev pub IsLeft : Division → ℕ → ℕ → Type 0
 IsLeft d clients busy = (busy < d.servers) × (busy + clients < d.together)
 
 -- idle ones go first
-abbrev pub IsRoom : Division → ℕ → ℕ → ℕ → Room → Type 0
+abbrev pub IsRoom : Division → ℕ → ℕ → ℕ → FileRoom → Type 0
 IsRoom d clients busy idle Free = IsBesideSeats d busy idle ⊎ ((idle ≡ 0) × IsLeft d clients busy)
 IsRoom d clients busy idle InPlaceOfIdle = (IsBesideSeats d busy idle → ⊥) × (0 < idle)
 IsRoom d clients busy idle Nothing = (IsBesideSeats d busy idle → ⊥) × ((idle ≡ 0) × (IsLeft d clients busy → ⊥))

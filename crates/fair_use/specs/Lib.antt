@@ -1,9 +1,11 @@
+pub mod Race
+pub mod Turns
+pub mod Remembered
+pub mod WaitingLine
 pub mod Descriptors
 pub mod IdleConnections
-pub mod Leaving
-pub mod Race
-pub mod Remembered
-pub mod Turns
-pub mod Unanswered
 pub mod Unjoined
-pub mod WaitingLine
+pub mod Room
+pub mod Speed
+pub mod Leaving
+pub mod Unanswered

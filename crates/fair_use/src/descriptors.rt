@@ -62,7 +62,7 @@ pub fn division_of(files: usize, threads: usize, most: usize) -> Division
 
 /// What becomes of one more connection to a server.
 #[derive(Clone, Copy, Debug, PartialEq, Eq)]
-pub enum Room {
+pub enum FileRoom {
     /// There is room for it.
     Free,
     /// It takes the place of an idle one, which is closed for it.
@@ -81,18 +81,18 @@ pub fn may_stay_idle(division: Division, busy: usize, idle: usize) -> bool
 
 /// What becomes of one more connection to a server, where so many clients are connected, so many connections to servers carry something, and
 /// so many are idle.
-pub fn room_for(division: Division, clients: usize, busy: usize, idle: usize) -> Room
+pub fn room_for(division: Division, clients: usize, busy: usize, idle: usize) -> FileRoom
     ensures { IsRoom division clients busy idle result }
 {
     if may_stay_idle(division, busy, idle) {
-        return Room::Free;
+        return FileRoom::Free;
     }
     if 0 < idle {
-        return Room::InPlaceOfIdle;
+        return FileRoom::InPlaceOfIdle;
     }
     if busy < division.servers && busy.saturating_add(clients) < division.together {
-        Room::Free
+        FileRoom::Free
     } else {
-        Room::Nothing
+        FileRoom::Nothing
     }
 }

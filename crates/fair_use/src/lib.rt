@@ -9,13 +9,15 @@ mod laws;
 mod leaving;
 mod race;
 mod remembered;
+mod room;
+mod speed;
 mod turns;
 mod unanswered;
 mod unjoined;
 mod waiting_line;
 
 pub use descriptors::{
-    Division, FEW_FILES, FewFiles, OWN_FILES, Room, SERVER_FILES, THREAD_FILES, division_of,
+    Division, FEW_FILES, FewFiles, FileRoom, OWN_FILES, SERVER_FILES, THREAD_FILES, division_of,
     is_told, may_stay_idle, room_for,
 };
 pub use keeping::{GivesWay, MOST_IDLE, MOST_TO_A_SERVER, gives_way};
@@ -23,6 +25,8 @@ pub use laws::{first_law, free_law, none_law, passing_law};
 pub use leaving::{ends_unwanted, is_alone_too_long};
 pub use race::{Move, Race};
 pub use remembered::{Known, Spans, Use, Waited, patience};
+pub use room::{EnterFault, Holder, Room, Taken};
+pub use speed::{WINDOW_SECONDS, is_too_slow};
 pub use turns::{chosen, forward, in_turn};
 pub use unanswered::{Upload, may_have_changed};
 pub use unjoined::{MOST_UNJOINED, SharedEnd, is_recent, is_remembered};

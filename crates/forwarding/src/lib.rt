@@ -6,6 +6,8 @@
 #![tactic(auto)]
 
 mod addressing;
+mod attendance;
+mod in_flight;
 mod keeping;
 mod known_keys;
 mod mailbox;
@@ -13,8 +15,9 @@ mod objects;
 mod validating;
 
 pub use addressing::{Destination, Peer, origin_of, peer_of, server_in_digits};
+pub use in_flight::{Flight, Unwanted};
 pub use keeping::{Exchange, Life, Profile};
 pub use known_keys::KnownKeys;
-pub use mailbox::{Field, Flight, Landed, Led, Mailbox, Waiting};
+pub use mailbox::{Field, Landed, Led, Mailbox, Service, Waiting};
 pub use objects::{add_ours, object_of, refusal, stale_object, unkept_object, via};
 pub use validating::{confirmed, has_other_rules, hides_rules};

@@ -87,7 +87,7 @@ impl<K: Drop> Facts<K> {
             } => self.how = How::Hit,
             Outcome::Got { supplier, .. } => self.supplier = *supplier,
             Outcome::Early { supplier, .. } => self.supplier = Some(*supplier),
-            Outcome::Fail(_) => {}
+            Outcome::Fail(_) | Outcome::Again => {}
         }
     }
 

@@ -98,6 +98,10 @@ pub(crate) fn given_of(
             drop(shape);
             Err(status)
         }
+        Outcome::Again => {
+            drop(shape);
+            Err(502)
+        }
     }
 }
 

@@ -285,8 +285,9 @@ fn early_response<B: ResponseBody>(
         fields,
         length,
         pieces,
+        reading,
     } = Box::into_inner(early);
-    let reply = B::of_passed(alloc, pieces, Some(length), None);
+    let reply = B::of_passed(alloc, pieces, Some(length), reading);
     let response = response_with(alloc, 200, reply, fields.as_slice());
     with_own_fields(alloc, response, None, told)
 }

@@ -29,6 +29,20 @@ use std::sync::atomic::AtomicUsize;
 use std::sync::{Arc, Wait};
 use std::time::Clock;
 
+// The status of a request whose answer never comes, until it is handed in anew.
+const FIRST_STATUS: u16 = 503;
+
+// What is done with the answer of the node to a request.
+#[derive(Clone, Copy)]
+enum Step {
+    // It is given.
+    Give,
+    // The request is handed in anew.
+    AskAnew,
+    // The request is passed on.
+    PassOn,
+}
+
 // State shared by all connections.
 #[derive(Drop)]
 struct ClientContext<F> {
@@ -264,7 +278,7 @@ impl<F: Front + FollowUp + PassOn, K: KeepTunnel> Serves<K> for FrontAnswers<F> 
             return waiting_for_passage(&self.context, facts, None);
         }
         match submit(&self.context, &facts, false) {
-            Ok(waits) => waiting_for_answer(&self.context, facts, 503, Some(waits)),
+            Ok(waits) => waiting_for_answer(&self.context, facts, FIRST_STATUS, Some(waits)),
             // What was stored when the front was first asked is gone.
             Err(501) => waiting_for_passage(&self.context, facts, None),
             Err(status) => waiting_for_answer(&self.context, facts, status, None),
@@ -454,7 +468,9 @@ impl<F: Front + FollowUp + PassOn> Waits<F> {
         let object = match answer {
             Outcome::Hit { object, .. } => object,
             Outcome::Got { object, .. } if self.forward != Forward::Bypass => object,
-            Outcome::Got { .. } | Outcome::Early { .. } | Outcome::Fail(_) => return Shape::Whole,
+            Outcome::Got { .. } | Outcome::Early { .. } | Outcome::Fail(_) | Outcome::Again => {
+                return Shape::Whole;
+            }
         };
         let Ok(mut front) = self.guard.context.front.try_borrow_mut() else {
             return Shape::Whole;
@@ -497,7 +513,7 @@ impl<F: Front + FollowUp + PassOn> Passes<F> {
 struct Waiting<F: Front + FollowUp + PassOn, K> {
     alloc: Global,
     facts: SharedFacts<K>,
-    // The status if the request was refused or its answer never comes.
+    // The status if the request was refused or its answer never comes: 503, and 502 once it was handed in anew.
     status: u16,
     waits: Option<Waits<F>>,
     // Once the request is passed on.
@@ -514,9 +530,41 @@ impl<F: Front + FollowUp + PassOn, K: Drop> Drop for Waiting<F, K> {
             waits,
             passes,
         } = self;
-        drop(facts);
         drop(waits);
-        drop(passes);
+        if let Some(passes) = passes {
+            note_unread(&facts, passes);
+        }
+        drop(facts);
+    }
+}
+
+// Has what an answer says was changed taken out that has come and that nobody reads any more, since its client has gone.
+fn note_unread<F: Front + FollowUp + PassOn, K: Drop>(
+    facts: &SharedFacts<K>,
+    passes: Box<Passes<F>>,
+) {
+    let mut passes = passes;
+    // (what is sent from now on goes back to its sender)
+    passes.passing.head.close();
+    let come = passes.passing.head.try_recv();
+    if let Ok(Some(Ok(head))) = &come {
+        note_passed(facts, &passes.context, head);
+    }
+    drop(come);
+    drop(passes);
+}
+
+// Tells the front the head of an answer that was passed on.
+fn note_passed<F: Front + FollowUp + PassOn, K: Drop>(
+    facts: &SharedFacts<K>,
+    context: &Rc<ClientContext<F>>,
+    head: &PassedHead,
+) {
+    if let Ok(facts) = facts.0.try_borrow_mut()
+        && let Some(asked) = &facts.asked
+        && let Ok(mut front) = context.front.try_borrow_mut()
+    {
+        front.passed(asked, head.status, &head.head);
     }
 }
 
@@ -540,12 +588,12 @@ impl<F: Front + FollowUp + PassOn, K: Drop> Waiting<F, K> {
         }
     }
 
-    // Replaces the answered request by the same one with a private fetch.
-    fn ask_alone(&mut self) {
+    // Replaces the answered request by the same one, with a private fetch if it is to have one alone.
+    fn ask_once_more(&mut self, is_alone: bool) {
         let Some(waits) = &self.waits else {
             return;
         };
-        let accepted = submit(&waits.guard.context, &self.facts, true);
+        let accepted = submit(&waits.guard.context, &self.facts, is_alone);
         match accepted {
             Ok(waits) => drop(self.waits.replace(waits)),
             Err(status) => {
@@ -564,18 +612,27 @@ impl<F: Front + FollowUp + PassOn, K: Drop> Waiting<F, K> {
         if !self.is_for_another(&answer) {
             return Poll::Ready(answer);
         }
-        self.ask_alone();
+        self.ask_once_more(true);
         let own = self.poll_front(cx);
         drop(answer);
         own
     }
 
-    // Whether the answer is that there is none, and that because it is too long to be stored.
-    fn is_too_long(&self, answer: &Option<Outcome>) -> bool {
+    // What is done with the answer of the node: where there is none since it is too long to be stored, the request is passed on, and where
+    // there is none since its fetch was ended for want of clients, it is handed in anew, once.
+    fn next_step(&self, answer: &Option<Outcome>) -> Step {
         match (&self.waits, answer) {
-            (Some(waits), Some(Outcome::Fail(502))) => is_large(&waits.guard.context, &self.facts),
-            _ => false,
+            (Some(waits), Some(Outcome::Fail(502)))
+                if is_large(&waits.guard.context, &self.facts) => { Step::PassOn }
+            (Some(_), Some(Outcome::Again)) if self.status == FIRST_STATUS => Step::AskAnew,
+            _ => Step::Give,
         }
+    }
+
+    // Hands the answered request in anew.
+    fn ask_anew(&mut self) {
+        self.status = 502;
+        self.ask_once_more(false);
     }
 
     // Passes on the answered request.
@@ -634,11 +691,18 @@ impl<F: Front + FollowUp + PassOn, K: Drop> Future for Waiting<F, K> {
     fn poll(&mut self, cx: &mut Context<'_>) -> Poll<Given> {
         if self.passes.is_none() {
             let answer = ready!(self.poll_answer(cx));
-            if !self.is_too_long(&answer) {
-                return Poll::Ready(self.given(answer));
+            match self.next_step(&answer) {
+                Step::Give => return Poll::Ready(self.given(answer)),
+                Step::AskAnew => {
+                    self.ask_anew();
+                    drop(answer);
+                    return cx.yield_now();
+                }
+                Step::PassOn => {
+                    self.pass_on();
+                    drop(answer);
+                }
             }
-            self.pass_on();
-            drop(answer);
         }
         match ready!(self.poll_head(cx)) {
             Ok(head) => Poll::Ready(self.given_head(head)),

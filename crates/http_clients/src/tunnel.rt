@@ -5,17 +5,19 @@ ghost use Rattle.futures.specs.Task.{Covers, Keeps};
 use crate::requests::Answers;
 use bytes::BytesMut;
 use client_streams::Patience;
+use dialing::{Connected, DialFault, Dialing};
 use futures::channel::oneshot;
 use futures::task::{Context, Poll};
 use futures::{Future, ready};
-use http_traffic::{Addresses, Server, Ticket, TunnelEnd};
+use http_traffic::{Addresses, AdmitFault, Server, Ticket, TunnelEnd};
 use paced_stream::Paced;
 use std::alloc::{AllocError, Global};
+use std::mem;
 use std::net::{Net, SocketAddr};
+use std::sync::Wait;
 use std::time::{Clock, Duration, Instant};
-use std::{io, mem};
 use tokio::io::{poll_read_buf, poll_write_buf};
-use tokio::net::{ConnectFuture, TcpStream};
+use tokio::net::TcpStream;
 use tokio::runtime::Handle;
 use tokio::time::Timeout;
 use tokio::time::error::Elapsed;
@@ -145,7 +147,10 @@ impl<R: Clock + Copy> Dialer<R> {
 
     // Waits for the addresses of this server, with a timeout. Returns `None` if out of memory.
     fn seek(&self, server: Server, limit: Duration) -> Option<Timeout<Seeking>> {
-        let seeking = Seeking { server };
+        let seeking = Seeking {
+            alloc: self.alloc,
+            server,
+        };
         self.handle.time().timeout(&self.rt, limit, seeking).ok()
     }
 
@@ -167,17 +172,23 @@ impl<R: Clock + Copy> Dialer<R> {
 }
 
 // Apart, since only what connects a socket names `Net` here: the prover lays out a bound anew in each function that has it.
-impl<R: Net + Clock> Dialer<R> {
-    // Connects to this address, with a timeout. Returns `None` if out of memory.
-    fn connect(&self, server: SocketAddr, limit: Duration) -> Option<Timeout<ConnectFuture>> {
-        let connecting = TcpStream::connect(&self.rt, server, self.handle.reactor());
-        self.handle.time().timeout(&self.rt, limit, connecting).ok()
+impl<R: Net + Wait + Clock + Copy> Dialer<R> {
+    // Connects to one of these addresses, with a timeout. Returns `None` if out of memory.
+    fn connect(&self, servers: Addresses, limit: Duration) -> Option<Dialing<R>> {
+        match self.handle.clone() {
+            Ok(handle) => Some(Dialing::new(self.rt, self.alloc, handle, servers, limit)),
+            Err(_) => {
+                drop(servers);
+                None
+            }
+        }
     }
 }
 
-// Waits for the addresses of a server. `None` if its name has none.
+// Waits for the addresses of a server. `None` if its name has none, or if out of memory.
 #[derive(Drop)]
 struct Seeking {
+    alloc: Global,
     server: Server,
 }
 
@@ -186,7 +197,7 @@ impl Future for Seeking {
 
     fn poll(&mut self, cx: &mut Context<'_>) -> Poll<Option<Addresses>> {
         match &mut self.server {
-            Server::At(server) => Poll::Ready(Some(Addresses::one(*server))),
+            Server::At(server) => Poll::Ready(Addresses::one(self.alloc, *server).ok()),
             Server::Sought(sought) => Poll::Ready(ready!(sought.poll(cx)).ok()),
         }
     }
@@ -328,8 +339,8 @@ fn agrees(head: &[u8]) -> bool {
         && matches!(head.get(12), Some(b' ' | b'\r'))
 }
 
-/// The way to the server of a tunnel: its addresses are awaited, admitted if they have to be, and connected, the second where the first
-/// cannot be; a parent is greeted. Each of these has the time to connect, which two addresses share. Errors: the status to answer: 403 if
+/// The way to the server of a tunnel: its addresses are awaited, admitted if they have to be, and connected side by side; a parent is greeted.
+/// Each of these has the time to connect. Errors: the status to answer: 403 if
 /// no address is admitted, 504 if time runs out, 503 without memory, 502 if there is no way otherwise.
 pub(crate) struct Opening<R, H> {
     dialer: Dialer<R>,
@@ -341,10 +352,7 @@ pub(crate) struct Opening<R, H> {
     ticket: Option<Ticket>,
     // Each until it is ready.
     seeking: Option<Timeout<Seeking>>,
-    reaching: Option<Timeout<ConnectFuture>>,
-    // The address that has its turn where the one that is being connected cannot be, and the time of each of both.
-    other: Option<SocketAddr>,
-    share: Duration,
+    reaching: Option<Dialing<R>>,
     greeted: Option<Timeout<Greeting>>,
 }
 
@@ -361,8 +369,6 @@ impl<R: Drop, H: Drop> Drop for Opening<R, H> {
             ticket,
             seeking,
             reaching,
-            other: _,
-            share: _,
             greeted,
         } = self;
         drop(dialer);
@@ -397,22 +403,31 @@ impl<R: Clock + Copy, H: Answers> Opening<R, H> {
             ticket: Some(ticket),
             seeking,
             reaching: None,
-            other: None,
-            share: connecting,
             greeted: None,
         }
     }
 
-    // Those of these addresses that a tunnel may lead to. `None` if there is none.
-    fn admitted(&self, servers: Addresses) -> Option<Addresses> {
-        if !self.is_origin {
-            return Some(servers);
+    // Each of these addresses, and whether a tunnel may lead to it. Errors: out of memory.
+    fn judged(&self, servers: &Addresses) -> Result<Vec<(SocketAddr, bool)>, AllocError> {
+        let mut judged = Vec::new(self.dialer.alloc);
+        for server in servers.as_slice() {
+            let admits = !self.is_origin || self.answers.admits(*server);
+            judged.push((*server, admits))?;
         }
-        let is_other = match servers.other {
-            Some(other) => self.answers.admits(other),
-            None => false,
+        Ok(judged)
+    }
+
+    // Those of these addresses that a tunnel may lead to. Errors: the status to answer.
+    fn admitted(&self, servers: Addresses) -> Result<Addresses, u16> {
+        let Ok(judged) = self.judged(&servers) else {
+            drop(servers);
+            return Err(503);
         };
-        servers.admitted(self.answers.admits(servers.first), is_other)
+        match servers.admitted(self.dialer.alloc, judged) {
+            Ok(servers) => Ok(servers),
+            Err(AdmitFault::Refused) => Err(403),
+            Err(AdmitFault::NoMemory) => Err(503),
+        }
     }
 
     // Begins to greet what this connection leads to.
@@ -457,8 +472,8 @@ impl<R: Clock + Copy, H: Answers> Opening<R, H> {
     }
 }
 
-impl<R: Net + Clock + Copy, H: Answers> Opening<R, H> {
-    // Waits for the addresses of the server, and begins to connect the first. Errors: the status to answer.
+impl<R: Net + Wait + Clock + Copy, H: Answers> Opening<R, H> {
+    // Waits for the addresses of the server, and begins to connect them. Errors: the status to answer.
     fn poll_address(&mut self, cx: &mut Context<'_>) -> Poll<Result<(), u16>>
         ensures registered { OnPending result (Covers cx.new (λ _. ⊥)) }
         ensures kept { Keeps cx.old cx.new }
@@ -469,38 +484,17 @@ impl<R: Net + Clock + Copy, H: Answers> Opening<R, H> {
         let sought = ready!(seeking.poll(cx));
         drop(self.seeking.take());
         match servers_of(sought) {
-            Ok(servers) => Poll::Ready(self.connect_first(servers)),
+            Ok(servers) => Poll::Ready(self.connect(servers)),
             Err(status) => Poll::Ready(Err(status)),
         }
     }
 
-    // Begins to connect the first of these addresses that are admitted. Errors: the status to answer.
-    fn connect_first(&mut self, servers: Addresses) -> Result<(), u16> {
-        let Some(servers) = self.admitted(servers) else {
-            return Err(403);
-        };
-        self.share = servers.share(self.connecting);
-        self.other = servers.other;
-        self.connect(servers.first);
+    // Begins to connect those of these addresses that are admitted. Errors: the status to answer.
+    fn connect(&mut self, servers: Addresses) -> Result<(), u16> {
+        let servers = self.admitted(servers)?;
+        let reaching = self.dialer.connect(servers, self.connecting);
+        drop(mem::replace(&mut self.reaching, reaching));
         Ok(())
-    }
-
-    // Begins to connect this address.
-    fn connect(&mut self, server: SocketAddr) {
-        let connecting = self.dialer.connect(server, self.share);
-        drop(mem::replace(&mut self.reaching, connecting));
-    }
-
-    // Begins to connect the other address, if there is one that has not had its turn. Errors: there is none, and so this status to answer.
-    fn connect_other(&mut self, status: u16, cx: &mut Context<'_>) -> Poll<Result<(), u16>>
-        ensures registered { OnPending result (Covers cx.new (λ _. ⊥)) }
-        ensures kept { Keeps cx.old cx.new }
-    {
-        let Some(other) = self.other.take() else {
-            return Poll::Ready(Err(status));
-        };
-        self.connect(other);
-        cx.yield_now()
     }
 
     // Waits for the connection, and begins to greet what it leads to. Errors: the status to answer.
@@ -518,7 +512,7 @@ impl<R: Net + Clock + Copy, H: Answers> Opening<R, H> {
                 self.greet(socket);
                 Poll::Ready(Ok(()))
             }
-            Err(status) => self.connect_other(status, cx),
+            Err(status) => Poll::Ready(Err(status)),
         }
     }
 }
@@ -532,12 +526,13 @@ fn servers_of(sought: Result<Option<Addresses>, Elapsed>) -> Result<Addresses, u
     }
 }
 
-// The connection that was awaited for so long as there was. Errors: the status to answer.
-fn socket_of(reached: Result<io::Result<TcpStream>, Elapsed>) -> Result<TcpStream, u16> {
+// The connection that was awaited. Errors: the status to answer.
+fn socket_of(reached: Result<Connected, DialFault>) -> Result<TcpStream, u16> {
     match reached {
-        Ok(Ok(socket)) => Ok(socket),
-        Ok(Err(_)) => Err(502),
-        Err(_elapsed) => Err(504),
+        Ok(Connected { socket, server: _ }) => Ok(socket),
+        Err(DialFault::Failed) => Err(502),
+        Err(DialFault::Late) => Err(504),
+        Err(DialFault::NoMemory) => Err(503),
     }
 }
 
@@ -549,7 +544,7 @@ pub(crate) trait Reach: Drop {
         ensures kept { Keeps cx.old cx.new };
 }
 
-impl<R: Net + Clock + Copy, H: Answers> Reach for Opening<R, H> {
+impl<R: Net + Wait + Clock + Copy, H: Answers> Reach for Opening<R, H> {
     fn poll_reached(&mut self, cx: &mut Context<'_>) -> Poll<Result<Box<Opened>, u16>> {
         if let Err(status) = ready!(self.poll_address(cx)) {
             return Poll::Ready(Err(status));

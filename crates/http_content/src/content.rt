@@ -29,6 +29,10 @@ pub enum ReadFault {
 
 /// Pays for the octets of a content.
 pub trait Purse: Drop {
+    /// Is told, before anything is taken, how many octets are taken at most, and whether that is their announced number and not the limit of
+    /// all contents. Errors: there can never be so many as are announced.
+    fn expect(&mut self, octets: usize, is_announced: bool) -> Result<(), ReadFault>;
+
     /// Takes so many octets more. Errors: there can never be so many, or out of memory.
     fn poll_take(&mut self, cx: &mut Context<'_>, octets: usize) -> Poll<Result<(), ReadFault>>
         ensures registered { OnPending result (Covers cx.new (λ _. ⊥)) }
@@ -41,8 +45,10 @@ pub trait Follow: Drop {
     fn follow(&mut self, cx: &mut Context<'_>, octets: &[u8])
         ensures kept { Keeps cx.old cx.new };
 
-    /// The content is complete, and these are its octets.
-    fn finish(&mut self, octets: &[u8]);
+    /// The content is complete, and these are its octets. Ready once it needs them no more.
+    fn poll_finish(&mut self, cx: &mut Context<'_>, octets: &[u8]) -> Poll<()>
+        ensures registered { OnPending result (Covers cx.new (λ _. ⊥)) }
+        ensures kept { Keeps cx.old cx.new };
 }
 
 /// How the reading of a content ended that is not paid for.
@@ -201,9 +207,9 @@ pub struct Content<P> {
     pub purse: P,
 }
 
-/// The future of a content: gathers the octets of a body in one vector. What a body has beyond its first `free` octets is paid for:
-/// of an announced length before the first octet is read, and otherwise as octets come. The vector has room for an announced length
-/// once the first octet has come. It is shown to `W` as it comes.
+/// The future of a content: gathers the octets of a body in one vector. What a body has beyond its first `free` octets is paid for as it
+/// comes, piece by piece; nothing more is read until a piece is paid for. The vector grows with what has come, and never beyond an announced
+/// length. It is shown to `W` as it comes.
 #[derive(Drop)]
 pub struct Gathered<B, P, W> {
     body: B,
@@ -212,14 +218,18 @@ pub struct Gathered<B, P, W> {
     octets: Vec<u8>,
     // What pays, until the content is complete.
     purse: Option<P>,
-    // The announced length, or less.
+    // The announced length, or that of what has come if none is.
     announced: usize,
+    // Why it is not read at all.
+    fault: Option<ReadFault>,
     // Octets that are paid for, or free.
     paid: usize,
     // Octets to be paid for before anything else is read.
     due: usize,
     // Octets that came, and are added once they are paid for.
     piece: Option<Bytes>,
+    // Whether all have come.
+    has_ended: bool,
     follower: W,
 }
 
@@ -234,17 +244,24 @@ impl<I: Drop, P: Purse, W: Follow> Gathered<Incoming<I>, P, W> {
         purse: Option<P>,
         follower: W,
     ) -> Gathered<Incoming<I>, P, W> {
-        let announced = usize::try_from(body.size_hint().lower()).unwrap_or(usize::MAX);
+        let announced = announced_of(&body);
         let free = limit.min(free);
+        let mut purse = purse;
+        let fault = match &mut purse {
+            Some(purse) => expect(purse, limit, free, announced).err(),
+            None => Some(ReadFault::NoMemory),
+        };
         Gathered {
             body,
             limit,
             octets: Vec::new(alloc),
             purse,
-            announced,
+            announced: announced.unwrap_or(0),
+            fault,
             paid: free,
-            due: announced.saturating_sub(free),
+            due: 0,
             piece: None,
+            has_ended: false,
             follower,
         }
     }
@@ -278,8 +295,14 @@ impl<I: Drop, P: Purse, W: Follow> Gathered<Incoming<I>, P, W> {
         let Some(piece) = self.piece.take() else {
             return Some(());
         };
-        if self.octets.is_empty() {
-            self.octets.reserve_exact(self.announced).ok()?;
+        let more = more_for(
+            self.octets.len(),
+            self.octets.capacity(),
+            piece.len(),
+            self.announced,
+        );
+        if 0 < more {
+            self.octets.reserve_exact(more).ok()?;
         }
         self.octets.extend_from_slice(&piece).ok()
     }
@@ -297,11 +320,19 @@ impl<I: Drop, P: Purse, W: Follow> Gathered<Incoming<I>, P, W> {
     // The complete content. Returns `None` if it has been given before.
     fn finish(&mut self) -> Option<Content<P>> {
         let purse = self.purse.take()?;
-        self.follower.finish(self.octets.as_slice());
         let alloc = *self.octets.allocator();
         let mut octets = std::mem::replace(&mut self.octets, Vec::new(alloc));
         octets.shrink_to_fit();
         Some(Content { octets, purse })
+    }
+
+    // The complete content, once it was shown whole. Errors: it has been given before.
+    fn poll_end(&mut self, cx: &mut Context<'_>) -> Poll<Result<Content<P>, ReadFault>>
+        ensures registered { OnPending result (Covers cx.new (λ _. ⊥)) }
+        ensures kept { Keeps cx.old cx.new }
+    {
+        ready!(self.follower.poll_finish(cx, self.octets.as_slice()));
+        Poll::Ready(self.finish().ok_or(ReadFault::NoMemory))
     }
 }
 
@@ -309,7 +340,13 @@ impl<I: Drop, P: Purse, W: Follow> Future for Gathered<Incoming<I>, P, W> {
     type Output = Result<Content<P>, ReadFault>;
 
     fn poll(&mut self, cx: &mut Context<'_>) -> Poll<Result<Content<P>, ReadFault>> {
+        if let Some(fault) = self.fault {
+            return Poll::Ready(Err(fault));
+        }
         for _ in 0..FRAMES_A_TURN {
+            if self.has_ended {
+                return self.poll_end(cx);
+            }
             if self.is_too_long() {
                 return Poll::Ready(Err(ReadFault::TooLong));
             }
@@ -323,11 +360,48 @@ impl<I: Drop, P: Purse, W: Follow> Future for Gathered<Incoming<I>, P, W> {
             match ready!(self.body.poll_frame(cx)) {
                 Some(Ok(frame)) => self.keep(frame),
                 Some(Err(error)) => return Poll::Ready(Err(fault_of(&error))),
-                None => return Poll::Ready(self.finish().ok_or(ReadFault::NoMemory)),
+                None => self.has_ended = true,
             }
         }
         cx.yield_now()
     }
+}
+
+// The announced length of a body, if one is.
+fn announced_of<I: Drop>(body: &Incoming<I>) -> Option<usize> {
+    let octets = body.size_hint().exact()?;
+    Some(usize::try_from(octets).unwrap_or(usize::MAX))
+}
+
+// Tells a purse what is taken at most: what is announced, or else what the limit leaves, beyond the octets that are free. Errors: that of the
+// purse, or what is announced is over the limit.
+fn expect<P: Purse>(
+    purse: &mut P,
+    limit: usize,
+    free: usize,
+    announced: Option<usize>,
+) -> Result<(), ReadFault> {
+    match announced {
+        Some(octets) if limit < octets => Err(ReadFault::TooLong),
+        Some(octets) => purse.expect(octets.saturating_sub(free), true),
+        None => purse.expect(limit.saturating_sub(free), false),
+    }
+}
+
+// For how many octets beyond its length a vector of this length and capacity gets room before a piece of so many is added: twice what it has,
+// so that what has come is rarely moved, but no more than is announced. 0 where there is room.
+fn more_for(len: usize, capacity: usize, piece: usize, announced: usize) -> usize {
+    let needed = len.saturating_add(piece);
+    if needed <= capacity {
+        return 0;
+    }
+    let doubled = needed.max(len.saturating_mul(2));
+    let wanted = if needed <= announced {
+        doubled.min(announced)
+    } else {
+        doubled
+    };
+    wanted.saturating_sub(len)
 }
 
 // Why a body was not read to its end.

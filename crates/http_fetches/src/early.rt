@@ -11,10 +11,12 @@ use futures::task::{Context, Poll};
 use http_content::Follow;
 use http_rules::end_to_end;
 use http_traffic as traffic;
-use http_traffic::{Admit, Piece};
+use http_traffic::{Admit, Piece, Progress};
 use hyper::HeaderMap;
 use std::alloc::{AllocError, Global};
+use std::mem;
 use std::rc::Rc;
+use std::sync::Arc;
 
 // The fewest octets of an answer that is given while it is collected.
 const FEWEST_OCTETS: u64 = 128 * 1024;
@@ -27,6 +29,9 @@ const WAITING_PIECES: usize = 3;
 
 // The most pieces that are handed over at a time.
 const PIECES_A_TURN: u32 = 16;
+
+// The most octets that are copied at a time of what a client has not taken once its answer is whole.
+const COPIED_A_TURN: usize = 1024 * 1024;
 
 // The most answers that are given to clients at a time.
 const ANSWERS_A_TURN: u32 = 64;
@@ -107,11 +112,14 @@ pub trait Offers: Follow {
 }
 
 /// Gives the answer of a fetch to the client that began it, while it is collected: that of status 200 with an announced length of 128 KiB
-/// or more, from its first octets on. Collecting never waits for the client: what it is behind is handed over at once when the answer is
-/// whole. An answer that does not become whole is cut for it.
+/// or more, from its first octets on. Collecting never waits for the client: what it is behind is handed over in one piece when the answer is
+/// whole, which is copied a mebibyte at a time, so that other fetches of the thread have their turn. An answer that does not become whole is cut for it. Of each answer is noted how
+/// much has come.
 pub struct Early {
     alloc: Global,
     fetch: u32,
+    // None where nobody looks at that.
+    progress: Option<Arc<Progress>>,
     // None where no client may have it.
     gate: Option<UnboundedSender<Offered>>,
     // What may be given of an answer, until its first octets have come.
@@ -124,10 +132,12 @@ impl Drop for Early {
         let Self {
             alloc: _,
             fetch: _,
+            progress,
             gate,
             offer,
             reader,
         } = self;
+        drop(progress);
         drop(gate);
         drop(offer);
         drop(reader);
@@ -150,11 +160,17 @@ impl Drop for Offer {
 }
 
 impl Early {
-    /// Offers the answer of this fetch at this gate, if there is one.
-    pub fn new(alloc: Global, gate: Option<UnboundedSender<Offered>>, fetch: u32) -> Early {
+    /// Offers the answer of this fetch at this gate, if there is one, and notes in `progress` how much of it has come.
+    pub fn new(
+        alloc: Global,
+        gate: Option<UnboundedSender<Offered>>,
+        fetch: u32,
+        progress: Option<Arc<Progress>>,
+    ) -> Early {
         Early {
             alloc,
             fetch,
+            progress,
             gate,
             offer: None,
             reader: None,
@@ -190,6 +206,7 @@ impl Offer {
             fields,
             length,
             pieces,
+            reading: None,
         };
         Some((reader, Offered { fetch, early }))
     }
@@ -204,6 +221,10 @@ fn offer_of(alloc: Global, fields: &HeaderMap, length: u64) -> Option<Offer> {
 impl Offers for Early {
     fn of_answer(&mut self, status: u16, fields: &HeaderMap, length: Option<u64>) -> Early {
         let gate = self.gate.take();
+        let progress = self.progress.take();
+        if let Some(progress) = &progress {
+            progress.begin(length);
+        }
         let offer = match length {
             Some(length) if gate.is_some() && status == 200 && FEWEST_OCTETS <= length => {
                 offer_of(self.alloc, fields, length)
@@ -213,6 +234,7 @@ impl Offers for Early {
         Early {
             alloc: self.alloc,
             fetch: self.fetch,
+            progress,
             gate,
             offer,
             reader: None,
@@ -222,6 +244,9 @@ impl Offers for Early {
 
 impl Follow for Early {
     fn follow(&mut self, cx: &mut Context<'_>, octets: &[u8]) {
+        if let Some(progress) = &self.progress {
+            progress.note(octets.len());
+        }
         if self.offer.is_some() && !octets.is_empty() {
             let reader = self.begin();
             put(&mut self.reader, reader);
@@ -235,10 +260,17 @@ impl Follow for Early {
         }
     }
 
-    fn finish(&mut self, octets: &[u8]) {
-        if let Some(reader) = self.reader.take() {
-            reader.finish(self.alloc, octets);
+    fn poll_finish(&mut self, cx: &mut Context<'_>, octets: &[u8]) -> Poll<()> {
+        let Some(reader) = &mut self.reader else {
+            return Poll::Ready(());
+        };
+        if octets.len() as u64 == reader.length && reader.copies_on(octets) {
+            return cx.yield_now();
         }
+        if let Some(reader) = self.reader.take() {
+            reader.finish(octets);
+        }
+        Poll::Ready(())
     }
 }
 
@@ -252,6 +284,8 @@ struct Reader {
     length: u64,
     // How many octets were handed over.
     given: usize,
+    // Those behind them, as far as they are copied, once all have come.
+    rest: Vec<u8>,
 }
 
 impl Drop for Reader {
@@ -262,6 +296,7 @@ impl Drop for Reader {
             end: _,
             length: _,
             given: _,
+            rest: _,
         } = self;
     }
 }
@@ -276,6 +311,7 @@ impl Reader {
             pieces,
             length,
             given: 0,
+            rest: Vec::new(alloc),
         };
         Ok((reader, coming))
     }
@@ -307,25 +343,42 @@ impl Reader {
         true
     }
 
-    // Hands over what is left of these octets, which are all, and that they are. Where memory is short, they are cut.
-    fn finish(self, alloc: Global, octets: &[u8]) {
+    // Copies some more of what is left of these octets, which are all. Returns whether there is more to copy: `false` also if out of memory.
+    fn copies_on(&mut self, octets: &[u8]) -> bool {
+        let begin = self.given.saturating_add(self.rest.len());
+        let left = octets.len().saturating_sub(begin);
+        if left == 0 || (self.rest.is_empty() && self.rest.reserve_exact(left).is_err()) {
+            return false;
+        }
+        let end = begin.saturating_add(left.min(COPIED_A_TURN));
+        match octets.get(begin..end) {
+            Some(some) => self.rest.extend_from_slice(some).is_ok(),
+            None => false,
+        }
+    }
+
+    // Hands over what is left of these octets, if that was copied, and that they are all. Where they are not, or memory is short, they are cut.
+    fn finish(self, octets: &[u8]) {
         let mut reader = self;
-        if octets.len() as u64 == reader.length && reader.hand_over_rest(alloc, octets) {
+        if octets.len() as u64 == reader.length && reader.hand_over_rest(octets) {
             let _ = reader.end.try_send(Piece::End);
         }
         drop(reader);
     }
 
     // Hands over what is left of these octets, however many it is. Returns whether the client has all of them then: `false` if it reads
-    // no more, or if out of memory.
-    fn hand_over_rest(&mut self, alloc: Global, octets: &[u8]) -> bool {
+    // no more, or if they weren't copied.
+    fn hand_over_rest(&mut self, octets: &[u8]) -> bool {
         if octets.len() <= self.given {
             return true;
         }
-        match piece_of(alloc, octets, self.given, octets.len()) {
-            Some(piece) => self.last.try_send(piece).is_ok(),
-            None => false,
+        let alloc = *self.rest.allocator();
+        let rest = mem::replace(&mut self.rest, Vec::new(alloc));
+        if octets.len().saturating_sub(self.given) != rest.len() {
+            drop(rest);
+            return false;
         }
+        self.last.try_send(Piece::Octets(rest)).is_ok()
     }
 }
 

@@ -3,10 +3,10 @@ ghost use Rattle.std.specs.Prelude.{◌≡◌, IfOk, IfSome};
 ghost use Rattle.futures.specs.Poll.{IfReady, OnPending};
 ghost use Rattle.futures.specs.Task.{Covers, Keeps};
 
-use crate::dialing::Connect;
+use crate::dialer::{Connect, Reached};
 use crate::fetching::put;
 use crate::kept::Kept;
-use crate::moves::{Moves, Noted, Patience, Stillness};
+use crate::moves::{Moves, Noted, Patience, Speed, Stillness};
 use crate::reply::{Answer, Reply};
 use futures::Future;
 use futures::task::{Context, Poll};
@@ -16,6 +16,7 @@ use hyper::client::conn::http1::Parts;
 use paced_stream::Paced;
 use std::alloc::Global;
 use std::net::SocketAddr;
+use std::sync::Wait;
 use std::time::Clock;
 
 /// A page, and the share of the budget that its body takes.
@@ -86,8 +87,8 @@ pub trait Talk: Drop {
     /// The future of the page.
     type Talking: Future<Output = Result<Self::Page, FetchFault>>;
 
-    /// Starts the exchange over a new connection. Returns `None` if the request cannot be made.
-    fn talk(&mut self, socket: Paced) -> Option<Self::Talking>
+    /// Starts the exchange over a new connection to this server. Returns `None` if the request cannot be made.
+    fn talk(&mut self, server: SocketAddr, socket: Paced) -> Option<Self::Talking>
         ensures { IfSome result Self.Talking.can_poll };
 
     /// Starts the exchange over a connection to this server that was kept. Returns `None` if there is none, or if the request cannot be
@@ -98,13 +99,29 @@ pub trait Talk: Drop {
     /// Whether the exchange, which has failed, may be started once more over a new connection.
     fn may_retry(&self, fault: FetchFault) -> bool;
 
+    /// Whether the exchange, which has failed over a new connection, may be started once more at another address of the server.
+    fn may_go_on(&self, fault: FetchFault) -> bool;
+
     /// Keeps the connection to this server that brought the page, if it may carry another request.
     fn keep(&mut self, server: SocketAddr, page: &mut Self::Page);
 }
 
+// Starts an exchange over a connection to the first of these addresses to which one was kept. `None` if there is none.
+fn resumed_at<T: Talk>(servers: &[SocketAddr], talk: &mut T) -> Option<(SocketAddr, T::Talking)>
+    ensures { IfSome result (λ it. T.Talking.can_poll it.1) }
+{
+    for server in servers {
+        if let Some(talking) = talk.resume(*server) {
+            return Some((*server, talking));
+        }
+    }
+    None
+}
+
 /// Connects, then runs the exchange.
 pub struct Call<C, T: Talk> {
-    server: SocketAddr,
+    // The address that is connected, once one is.
+    server: Option<SocketAddr>,
     connecting: Option<C>,
     talk: T,
     talking: Option<T::Talking>,
@@ -125,25 +142,26 @@ impl<C: Drop, T: Talk> Drop for Call<C, T> {
 }
 
 impl<C: Connect, T: Talk> Call<C, T> {
-    /// A call to this server over this connection attempt; `None` fails, as out of memory.
-    pub fn new(server: SocketAddr, connecting: Option<C>, talk: T) -> Call<C, T>
+    /// A call over this connection that is being made; `None` fails, as out of memory.
+    pub fn new(connecting: Option<C>, talk: T) -> Call<C, T>
         ensures { IfSome result.talking T.Talking.can_poll }
     {
         Call {
-            server,
+            server: None,
             connecting,
             talk,
             talking: None,
         }
     }
 
-    /// A call to this server that has begun, over a connection that was kept. Errors: the exchange, if that cannot be.
-    pub fn over_kept(server: SocketAddr, talk: T) -> Result<Call<C, T>, T>
+    /// A call that has begun, over a connection to the first of these addresses to which one was kept. Errors: the exchange, if there is
+    /// none.
+    pub fn over_kept(servers: &[SocketAddr], talk: T) -> Result<Call<C, T>, T>
         ensures { IfOk result (λ c. IfSome c.talking T.Talking.can_poll) }
     {
         let mut talk = talk;
-        match talk.resume(server) {
-            Some(talking) => Ok(Call::resumed(server, talk, talking)),
+        match resumed_at(servers, &mut talk) {
+            Some((server, talking)) => Ok(Call::resumed(server, talk, talking)),
             None => Err(talk),
         }
     }
@@ -154,7 +172,7 @@ impl<C: Connect, T: Talk> Call<C, T> {
         ensures { IfSome result.talking T.Talking.can_poll }
     {
         Call {
-            server,
+            server: Some(server),
             connecting: None,
             talk,
             talking: Some(talking),
@@ -178,12 +196,13 @@ impl<C: Connect, T: Talk> Call<C, T> {
     }
 
     // Begins the exchange over this connection. Errors: there is none.
-    fn begin(&mut self, connected: Result<Paced, FetchFault>) -> Result<(), FetchFault>
+    fn begin(&mut self, connected: Result<Reached, FetchFault>) -> Result<(), FetchFault>
         ensures { IfOk result (λ _. IfSome self.new.talking T.Talking.can_poll) }
     {
         match connected {
-            Ok(socket) => {
-                let talking = self.talk.talk(socket);
+            Ok(Reached { socket, server }) => {
+                self.server = Some(server);
+                let talking = self.talk.talk(server, socket);
                 put(&mut self.talking, talking);
                 Ok(())
             }
@@ -191,8 +210,8 @@ impl<C: Connect, T: Talk> Call<C, T> {
         }
     }
 
-    /// The server of this call.
-    pub fn server(&self) -> SocketAddr {
+    /// The address that is connected. `None` if none is.
+    pub fn server(&self) -> Option<SocketAddr> {
         self.server
     }
 
@@ -214,11 +233,18 @@ impl<C: Connect, T: Talk> Call<C, T> {
         self.talk.may_retry(fault)
     }
 
+    /// Whether this call, which has failed so over a new connection, may be made at another address.
+    pub fn may_go_on(&self, fault: FetchFault) -> bool {
+        self.talk.may_go_on(fault)
+    }
+
     /// Keeps the connection of this call, which brought this page.
     pub fn keep(&mut self, page: &mut T::Page)
         ensures { self.new.talking ≡ self.old.talking }
     {
-        self.talk.keep(self.server, page);
+        if let Some(server) = self.server {
+            self.talk.keep(server, page);
+        }
     }
 }
 
@@ -290,10 +316,11 @@ pub trait Ask: Drop {
     /// The connection, which gives what is left of it.
     type Connection: Future<Output = hyper::Result<Parts<Noted>>>;
 
-    /// Sends the request. What pays for the answer's content notes that in `moves`. Returns `None` if a part of the request is no valid
-    /// HTTP, or if out of memory.
+    /// Sends the request to this server. What pays for the answer's content notes that in `moves`. Returns `None` if a part of the request is
+    /// no valid HTTP, or if out of memory.
     fn ask(
         &self,
+        server: SocketAddr,
         noted: Noted,
         asked: &Asked,
         moves: &Moves,
@@ -312,6 +339,8 @@ pub struct Get<R, X> {
     pub kept: Option<Kept<R>>,
     /// What is noted of the connection that was kept and that the exchange has begun on.
     pub used: Option<Moves>,
+    /// What is noted of the new connection that it has begun on.
+    pub fresh: Option<Moves>,
 }
 
 impl<R: Drop, X: Drop> Drop for Get<R, X> {
@@ -323,16 +352,18 @@ impl<R: Drop, X: Drop> Drop for Get<R, X> {
             stillness,
             kept,
             used,
+            fresh,
         } = self;
         drop(http);
         drop(asked);
         drop(stillness);
         drop(kept);
         drop(used);
+        drop(fresh);
     }
 }
 
-impl<R: Clock + Copy, X: Ask> Get<R, X> {
+impl<R: Wait + Clock + Copy, X: Ask> Get<R, X> {
     // Whether its connection may be kept: connections are, and the request has no credentials. There are servers that take those for
     // the credentials of all requests on their connection (RFC 9110, section 3.3), so that another client would be taken for this one.
     fn may_last(&self) -> bool {
@@ -347,28 +378,36 @@ impl<R: Clock + Copy, X: Ask> Get<R, X> {
         }
     }
 
-    // Starts the exchange over this connection. Returns `None` if the request cannot be made.
-    fn begin(&self, noted: Noted, moves: &Moves) -> Option<Borne<R, X::Answer, X::Connection>>
+    // Starts the exchange over this connection to this server. Returns `None` if the request cannot be made.
+    fn begin(
+        &self,
+        server: SocketAddr,
+        noted: Noted,
+        moves: &Moves,
+    ) -> Option<Borne<R, X::Answer, X::Connection>>
         ensures { IfSome result (λ b. IfSome b.conn X.Connection.can_poll) }
     {
-        let (answer, conn) = self.http.ask(noted, &self.asked, moves)?;
+        let (answer, conn) = self.http.ask(server, noted, &self.asked, moves)?;
         let reply = Reply::new(self.alloc, answer, self.may_last());
-        Some(Borne::new(reply, conn, self.stillness.patience(moves)))
+        let (patience, speed) = (self.stillness.patience(moves), self.stillness.speed(moves));
+        Some(Borne::new(reply, conn, patience, speed))
     }
 }
 
-impl<R: Clock + Copy, P: Drop, X: Ask<Purse = P>> Talk for Get<R, X> {
+impl<R: Wait + Clock + Copy, P: Drop, X: Ask<Purse = P>> Talk for Get<R, X> {
     type Page = Paid<P>;
 
     type Talking = Borne<R, X::Answer, X::Connection>;
 
-    fn talk(&mut self, socket: Paced) -> Option<Self::Talking> {
+    fn talk(&mut self, server: SocketAddr, socket: Paced) -> Option<Self::Talking> {
         put(&mut self.used, None);
         let Some((moves, other)) = Moves::pair(self.alloc) else {
             drop(socket);
             return None;
         };
-        self.begin(Noted::new(socket, other), &moves)
+        let begun = self.begin(server, Noted::new(socket, other), &moves);
+        put(&mut self.fresh, Some(moves));
+        begun
     }
 
     fn resume(&mut self, server: SocketAddr) -> Option<Self::Talking> {
@@ -377,13 +416,20 @@ impl<R: Clock + Copy, P: Drop, X: Ask<Purse = P>> Talk for Get<R, X> {
             drop(socket);
             return None;
         };
-        let begun = self.begin(Noted::used(socket, other), &moves);
+        let begun = self.begin(server, Noted::used(socket, other), &moves);
         put(&mut self.used, Some(moves));
         begun
     }
 
     fn may_retry(&self, fault: FetchFault) -> bool {
         match &self.used {
+            Some(moves) => fault == FetchFault::Cut && may_retry("GET", true, moves.has_answer()),
+            None => false,
+        }
+    }
+
+    fn may_go_on(&self, fault: FetchFault) -> bool {
+        match &self.fresh {
             Some(moves) => fault == FetchFault::Cut && may_retry("GET", true, moves.has_answer()),
             None => false,
         }
@@ -400,7 +446,7 @@ impl<R: Clock + Copy, P: Drop, X: Ask<Purse = P>> Talk for Get<R, X> {
 }
 
 /// A reply beside the connection that brings it, which is given back with the page once nothing of it is left unread. Ends with a fault
-/// where nothing has moved on the connection for too long.
+/// where nothing has moved on the connection for too long, or the content comes too slowly.
 pub struct Borne<R, A, C> {
     reply: Reply<A>,
     conn: Option<C>,
@@ -408,6 +454,8 @@ pub struct Borne<R, A, C> {
     left: Option<Parts<Noted>>,
     // None if it is not limited how long no octet may come.
     patience: Option<Patience<R>>,
+    // None if the content may come as slowly as it likes.
+    speed: Option<Speed<R>>,
 }
 
 impl<R: Drop, A: Drop, C: Drop> Drop for Borne<R, A, C> {
@@ -417,17 +465,24 @@ impl<R: Drop, A: Drop, C: Drop> Drop for Borne<R, A, C> {
             conn,
             left,
             patience,
+            speed,
         } = self;
         drop(reply);
         drop(conn);
         drop(left);
         drop(patience);
+        drop(speed);
     }
 }
 
 impl<R: Drop, A: Drop, C: Future> Borne<R, A, C> {
-    /// Both, of which neither has ended, with this patience.
-    pub fn new(reply: Reply<A>, conn: C, patience: Option<Patience<R>>) -> Borne<R, A, C>
+    /// Both, of which neither has ended, with this patience and this least speed.
+    pub fn new(
+        reply: Reply<A>,
+        conn: C,
+        patience: Option<Patience<R>>,
+        speed: Option<Speed<R>>,
+    ) -> Borne<R, A, C>
         requires { C.can_poll conn }
         ensures { IfSome result.conn C.can_poll }
     {
@@ -436,6 +491,7 @@ impl<R: Drop, A: Drop, C: Future> Borne<R, A, C> {
             conn: Some(conn),
             left: None,
             patience,
+            speed,
         }
     }
 }
@@ -465,6 +521,20 @@ impl<R: Clock + Drop, A: Drop, C: Drop> Borne<R, A, C> {
     {
         match &mut self.patience {
             Some(patience) => patience.is_over(cx),
+            None => false,
+        }
+    }
+
+    // Whether the content comes too slowly, once there is a head.
+    fn is_slow(&mut self, cx: &mut Context<'_>) -> bool
+        ensures kept { Keeps cx.old cx.new }
+        ensures same { self.new.conn ≡ self.old.conn }
+    {
+        if !self.reply.has_head() {
+            return false;
+        }
+        match &mut self.speed {
+            Some(speed) => speed.is_over(cx),
             None => false,
         }
     }
@@ -499,6 +569,7 @@ impl<
             Poll::Ready(Ok(paid)) => Poll::Ready(Ok(paid.with(unspent(self.left.take())))),
             Poll::Ready(Err(fault)) => Poll::Ready(Err(fault)),
             Poll::Pending if self.is_over(cx) => Poll::Ready(Err(FetchFault::Time)),
+            Poll::Pending if self.is_slow(cx) => Poll::Ready(Err(FetchFault::Slow)),
             Poll::Pending => Poll::Pending,
         }
     }

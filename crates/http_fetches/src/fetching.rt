@@ -4,12 +4,12 @@ ghost use Rattle.futures.specs.Task.{Keeps};
 ghost use Rattle.futures.specs.declared.future.either.Either.TheVariants.{Left, Right};
 ghost use Rattle.tokio.specs.Timers.{timeout_future};
 
-use crate::budget::{Budget, Share};
-use crate::dialing::{Dial, Dialer};
+use crate::budget::{Budget, Party, Share};
+use crate::dialer::{Dial, Dialer};
 use crate::early::{Doorman, Early, Offered, gate};
 use crate::exchange::{Asked, Get, Paid, Talk};
 use crate::kept::{Keeper, Kept};
-use crate::moves::{Moves, Stillness};
+use crate::moves::{Delay, Moves, Stillness};
 use crate::passing::{Pass, Plan, Post, Sent, Watch, Watching, plan_of};
 use crate::speaking::{Asker, Deliverer, Meter, Metered};
 use crate::visit::{Visit, Visited};
@@ -19,13 +19,17 @@ use futures::channel::mpsc::{UnboundedReceiver, UnboundedSender};
 use futures::channel::oneshot;
 use futures::future::Either;
 use futures::task::{Context, Poll};
-use http_traffic::{Admit, FetchEnd, FetchFault, Fetched, Job, Order, Passage, Server, Work};
+use http_traffic::{
+    Admit, Ended, FetchEnd, FetchFault, Fetched, Job, LeftChange, Order, Passage, Progress, Server,
+    Work,
+};
 use hyper::Request;
 use hyper::client::conn::http1;
+use server_connections::{KeptShare, ServerPlace};
 use std::alloc::{AllocGlobal, Global};
 use std::hash::RandomState;
 use std::io;
-use std::net::Net;
+use std::net::{IpAddr, Net, SocketAddr};
 use std::random::RandomSource;
 use std::rc::Rc;
 use std::sync::{Arc, Wait};
@@ -46,6 +50,8 @@ pub struct FetchLimits {
     pub connecting: Duration,
     /// How long a fetch's connection may be without an octet, if that is limited.
     pub idle: Option<Duration>,
+    /// The least octets a second of a content, if there is a least speed.
+    pub speed: Option<u32>,
     /// How long a connection is kept for further fetches after an answer. None are if it is left out.
     pub keep: Option<Duration>,
     /// The most jobs at a time: fetches, and requests that are passed on. Further ones wait in the channel.
@@ -56,6 +62,8 @@ pub struct FetchLimits {
 pub struct FetchRules<A> {
     /// How many octets of bodies may be under way.
     pub budget: Arc<Budget>,
+    /// The thread's part in the connections that are kept.
+    pub kept: KeptShare,
     /// Which servers may be fetched from as origins.
     pub admit: A,
 }
@@ -65,6 +73,7 @@ impl<A: Drop> Drop for FetchRules<A> {
     fn drop(self) {
         let Self {
             budget: _,
+            kept: _,
             admit: _,
         } = self;
     }
@@ -100,6 +109,29 @@ fn timed<F: Drop>(
     }
 }
 
+// What is told of a fetch as it begins.
+#[derive(Drop)]
+struct Begun {
+    fetch: u32,
+    // Whether the client that began it may have the answer while it is collected.
+    is_early: bool,
+    // The address of that client, if a client began it.
+    asker: Option<IpAddr>,
+    // Told whether it waits for room. None if out of memory.
+    delay: Option<Delay>,
+    // Where is noted how much of its answer has come, if anybody looks at that.
+    progress: Option<Arc<Progress>>,
+}
+
+// Two handles to whether a fetch waits for room: it doesn't. None if out of memory.
+fn delays(alloc: Global) -> (Option<Delay>, Option<Delay>) {
+    let Ok(delay) = Delay::new(alloc) else {
+        return (None, None);
+    };
+    let told = delay.share().ok();
+    (Some(delay), told)
+}
+
 // Makes what jobs are done with. What starts jobs is generic over this, and with it over each of these types: the prover does not look
 // behind a type parameter, and lays out what is in a connection anew for each function that names it (docs/GATE.md).
 trait Means: Drop {
@@ -121,11 +153,14 @@ trait Means: Drop {
     // What connects one job. Returns `None` if out of memory.
     fn dialer(&self, is_origin: bool) -> Option<Self::Dialer>;
 
-    // The exchange of this fetch. The client that began it may have the answer while it is collected if `is_early`.
-    fn get(&self, fetch: u32, asked: Asked, is_early: bool) -> Self::Get;
+    // The exchange of this fetch.
+    fn get(&self, begun: Begun, asked: Asked) -> Self::Get;
 
     // How this request is passed on.
     fn plan(&self, passage: Passage) -> Plan<Self::Watch, Self::Post>;
+
+    // The place of one more connection to a server. Returns `None` if no file is left for it.
+    fn place(&self) -> Option<ServerPlace>;
 
     // The timers of the thread.
     fn timers(&self) -> &time::Handle;
@@ -176,21 +211,33 @@ impl<M: Means> Starter<M> {
             fields,
             is_origin,
             is_early,
+            asker,
             deadline,
             wanted,
+            progress,
         } = order;
+        let (delay, told) = delays(self.alloc);
+        let begun = Begun {
+            fetch,
+            is_early,
+            asker,
+            delay: told,
+            progress,
+        };
         let asked = Asked {
             host,
             target,
             fields,
         };
-        let get = self.means.get(fetch, asked, is_early);
-        let visit = Visit::new(server, self.means.dialer(is_origin), get);
+        let get = self.means.get(begun, asked);
+        let visit = Visit::new(self.alloc, server, self.means.dialer(is_origin), get);
         Fetch {
             fetch,
             attempt,
             wanted,
+            delay,
             visit: timed(self.means.timers(), self.alloc, deadline, visit),
+            place: self.means.place(),
         }
     }
 
@@ -232,7 +279,7 @@ impl<P: Drop, W: Watch, D: Dial, T: Talk<Page = Paid<P>>, U: Talk<Page = ()>> Fu
         match &mut self.doing {
             Either::Left(fetch) => fetch.poll(cx),
             Either::Right(pass) => match pass.poll(cx) {
-                Poll::Ready(()) => Poll::Ready(ended()),
+                Poll::Ready(left) => Poll::Ready(ended(left)),
                 Poll::Pending => Poll::Pending,
             },
         }
@@ -289,6 +336,7 @@ impl<R: Wait + Net + Clock + Copy, A: Admit> Means for Getter<R, A> {
         match self.handle.clone() {
             Ok(handle) => Some(Dialer {
                 rt: self.rt,
+                alloc: self.alloc,
                 handle,
                 connecting: self.limits.connecting,
                 rules,
@@ -301,18 +349,19 @@ impl<R: Wait + Net + Clock + Copy, A: Admit> Means for Getter<R, A> {
         }
     }
 
-    fn get(&self, fetch: u32, asked: Asked, is_early: bool) -> Get<R, Asker<Allowance<R>>> {
+    fn get(&self, begun: Begun, asked: Asked) -> Get<R, Asker<Allowance<R>>> {
         Get {
             alloc: self.alloc,
             http: Asker {
                 alloc: self.alloc,
                 http: self.http,
-                meter: self.allowance(fetch, is_early),
+                meter: self.allowance(begun),
             },
             asked,
             stillness: self.stillness(),
             kept: self.kept(),
             used: None,
+            fresh: None,
         }
     }
 
@@ -321,22 +370,29 @@ impl<R: Wait + Net + Clock + Copy, A: Admit> Means for Getter<R, A> {
         plan_of(self.rt, self.alloc, self.http, timers, passage)
     }
 
+    fn place(&self) -> Option<ServerPlace> {
+        self.rules.kept.all().take(&self.rt)
+    }
+
     fn timers(&self) -> &time::Handle {
         self.handle.time()
     }
 }
 
 impl<R: Copy, A: Drop> Getter<R, A> {
-    // How long the connection of a fetch may be without an octet. It has no timers where that is not limited, and if there are too many
-    // handles.
+    // How long the connection of a fetch may be without an octet, and how fast its content has to come. It has no timers where neither is
+    // limited, and if there are too many handles.
     fn stillness(&self) -> Stillness<R> {
-        let timers = match self.limits.idle {
-            Some(_) => self.handle.time().clone().ok(),
-            None => None,
+        let is_limited = self.limits.idle.is_some() || self.limits.speed.is_some();
+        let timers = if is_limited {
+            self.handle.time().clone().ok()
+        } else {
+            None
         };
         Stillness {
             rt: self.rt,
             idle: self.limits.idle,
+            speed: self.limits.speed,
             timers,
         }
     }
@@ -367,7 +423,14 @@ impl<R: Copy, A: Drop> Getter<R, A> {
     }
 
     // What may be read of the answer of this fetch.
-    fn allowance(&self, fetch: u32, is_early: bool) -> Allowance<R> {
+    fn allowance(&self, begun: Begun) -> Allowance<R> {
+        let Begun {
+            fetch,
+            is_early,
+            asker,
+            delay,
+            progress,
+        } = begun;
         Allowance {
             rt: self.rt,
             alloc: self.alloc,
@@ -375,6 +438,9 @@ impl<R: Copy, A: Drop> Getter<R, A> {
             free: self.limits.free,
             budget: Arc::try_clone(&self.rules.budget).ok(),
             fetch,
+            asker,
+            delay,
+            progress,
             gate: self.gate(is_early),
         }
     }
@@ -392,6 +458,12 @@ struct Allowance<R> {
     budget: Option<Arc<Budget>>,
     // The number of the fetch.
     fetch: u32,
+    // The address of the client that began it, if a client did.
+    asker: Option<IpAddr>,
+    // Told whether it waits for room. None if out of memory.
+    delay: Option<Delay>,
+    // Where is noted how much of the answer has come, if anybody looks at that.
+    progress: Option<Arc<Progress>>,
     // Where the answer is offered to the client that began the fetch, while it is collected. None where no client may have it.
     gate: Option<UnboundedSender<Offered>>,
 }
@@ -405,23 +477,37 @@ impl<R: Drop> Drop for Allowance<R> {
             free: _,
             budget,
             fetch: _,
+            asker: _,
+            delay,
+            progress,
             gate,
         } = self;
         drop(rt);
         drop(budget);
+        drop(delay);
+        drop(progress);
         drop(gate);
     }
 }
 
 impl<R: Wait + Copy> Allowance<R> {
-    // What pays for the content. Returns `None` if out of memory.
-    fn share(&self, moves: &Moves) -> Option<Share<R>> {
-        match &self.budget {
-            Some(budget) => Some(
-                Share::new(self.rt, self.alloc, budget)
-                    .ok()?
-                    .told(moves.share().ok()?),
-            ),
+    // What pays for the content of an answer of this server. Returns `None` if out of memory.
+    fn share(&self, server: SocketAddr, moves: &Moves) -> Option<Share<R>> {
+        let Some(budget) = &self.budget else {
+            return None;
+        };
+        let party = Party {
+            asker: self.asker,
+            server,
+        };
+        let share = Share::new(self.rt, self.alloc, budget, party).ok()?;
+        Some(share.told(moves.share().ok()?, self.told()))
+    }
+
+    // Told whether the fetch waits for room. None if there are too many handles.
+    fn told(&self) -> Option<Delay> {
+        match &self.delay {
+            Some(delay) => delay.share().ok(),
             None => None,
         }
     }
@@ -432,7 +518,15 @@ impl<R: Wait + Copy> Allowance<R> {
             Some(gate) => gate.clone().ok(),
             None => None,
         };
-        Early::new(self.alloc, gate, self.fetch)
+        Early::new(self.alloc, gate, self.fetch, self.progress())
+    }
+
+    // Where is noted how much has come. None also if there are too many handles.
+    fn progress(&self) -> Option<Arc<Progress>> {
+        match &self.progress {
+            Some(progress) => Arc::try_clone(progress).ok(),
+            None => None,
+        }
     }
 }
 
@@ -441,12 +535,12 @@ impl<R: Wait + Copy> Meter for Allowance<R> {
 
     type Follower = Early;
 
-    fn metered(&self, moves: &Moves) -> Metered<Share<R>, Early> {
+    fn metered(&self, server: SocketAddr, moves: &Moves) -> Metered<Share<R>, Early> {
         Metered {
             alloc: self.alloc,
             limit: self.limit,
             free: self.free,
-            purse: self.share(moves),
+            purse: self.share(server, moves),
             follower: self.early(),
         }
     }
@@ -457,7 +551,11 @@ struct Fetch<D: Dial, T: Talk> {
     fetch: u32,
     attempt: u16,
     wanted: oneshot::Receiver<()>,
+    // Whether it waits for room. None if out of memory.
+    delay: Option<Delay>,
     visit: Option<Box<Timeout<Visit<D, T>>>>,
+    // The place of its connection. None if no file is left for it. The last to be dropped.
+    place: Option<ServerPlace>,
 }
 
 impl<D: Dial, T: Talk> Drop for Fetch<D, T> {
@@ -466,10 +564,14 @@ impl<D: Dial, T: Talk> Drop for Fetch<D, T> {
             fetch: _,
             attempt: _,
             wanted,
+            delay,
             visit,
+            place,
         } = self;
         drop(wanted);
+        drop(delay);
         drop(visit);
+        drop(place);
     }
 }
 
@@ -481,6 +583,9 @@ impl<P: Drop, D: Dial, T: Talk<Page = Paid<P>>> Future for Fetch<D, T> {
     fn poll(&mut self, cx: &mut Context<'_>) -> Poll<Done<P>> {
         if self.wanted.poll(cx).is_ready() {
             return Poll::Ready(self.failed(FetchFault::Cancelled));
+        }
+        if self.place.is_none() {
+            return Poll::Ready(self.failed(FetchFault::NoFile));
         }
         let Some(visit) = &mut self.visit else {
             return Poll::Ready(self.failed(FetchFault::NoMemory));
@@ -497,7 +602,15 @@ impl<D: Dial, T: Talk> Fetch<D, T> {
     fn ended<P: Drop>(&self, visited: Result<Visited<Paid<P>>, Elapsed>) -> Done<P> {
         match visited {
             Ok(visited) => done_of(self.fetch, self.attempt, visited),
-            Err(_elapsed) => self.failed(FetchFault::Time),
+            Err(_elapsed) => self.failed(self.late()),
+        }
+    }
+
+    // Why the fetch is not complete by its deadline.
+    fn late(&self) -> FetchFault {
+        match &self.delay {
+            Some(delay) if delay.waits() => FetchFault::Room,
+            _ => FetchFault::Time,
         }
     }
 
@@ -507,11 +620,11 @@ impl<D: Dial, T: Talk> Fetch<D, T> {
     }
 }
 
-/// The result of a job: that of a fetch, and what its body takes of the budget.
+/// The result of a job, and what the body of a fetch takes of the budget.
 #[derive(Drop)]
 pub struct Done<P> {
-    /// `None` if the job was no fetch.
-    pub fetched: Option<Fetched>,
+    /// `None` if there is nothing to be handed in of it.
+    pub ended: Option<Ended>,
     pub purse: Option<P>,
 }
 
@@ -529,18 +642,24 @@ fn done_of<P: Drop>(fetch: u32, attempt: u16, visited: Visited<Paid<P>>) -> Done
 
 // The result of a fetch that has ended so, and what its body takes of the budget.
 fn finished<P: Drop>(fetch: u32, attempt: u16, end: FetchEnd, purse: Option<P>) -> Done<P> {
-    let fetched = Some(Fetched {
+    let fetched = Fetched {
         fetch,
         attempt,
         end,
-    });
-    Done { fetched, purse }
+    };
+    Done {
+        ended: Some(Ended::Fetched(fetched)),
+        purse,
+    }
 }
 
-// The result of a request that was passed on: its client has it.
-fn ended<P: Drop>() -> Done<P> {
+// The result of a request that was passed on: its client has it, unless it has gone, which matters where the request may change something.
+fn ended<P: Drop>(left: Option<Box<LeftChange>>) -> Done<P> {
     Done {
-        fetched: None,
+        ended: match left {
+            Some(left) => Some(Ended::Left(left)),
+            None => None,
+        },
         purse: None,
     }
 }
@@ -551,24 +670,29 @@ struct PassOn<'a, S> {
     seat: &'a mut S,
 }
 
-impl<P: Drop, S: Submit<Fetched>> Submit<Done<P>> for PassOn<'_, S> {
+impl<P: Drop, S: Submit<Ended>> Submit<Done<P>> for PassOn<'_, S> {
     fn opened(&mut self) {
         self.seat.opened();
     }
 
     fn submit(&mut self, done: Done<P>) {
-        let Done { fetched, purse } = done;
-        if let Some(fetched) = fetched {
-            self.seat.submit(fetched);
+        let Done { ended, purse } = done;
+        if let Some(ended) = ended {
+            self.seat.submit(ended);
         }
         drop(purse);
     }
 }
 
-// Where connections are kept for so long. `None` where none is. Errors: out of memory.
-fn kept_of<R: Copy>(rt: R, alloc: Global, keep: Option<Duration>) -> io::Result<Option<Kept<R>>> {
+// Where connections are kept for so long, by a thread with this part in them. `None` where none is. Errors: out of memory.
+fn kept_of<R: Copy>(
+    rt: R,
+    alloc: Global,
+    keep: Option<Duration>,
+    share: &KeptShare,
+) -> io::Result<Option<Kept<R>>> {
     match keep {
-        Some(keep) => Ok(Some(Kept::new(rt, alloc, keep)?)),
+        Some(keep) => Ok(Some(Kept::new(rt, alloc, keep, share)?)),
         None => Ok(None),
     }
 }
@@ -606,7 +730,7 @@ fn getter_beside<R: RandomSource + Copy, A: Drop>(
     limits: FetchLimits,
     doorman: Doorman<A>,
 ) -> io::Result<(Getter<R, A>, Doorman<A>)> {
-    match parts_of(rt, alloc, runtime, limits.keep) {
+    match parts_of(rt, alloc, runtime, limits.keep, &rules.kept) {
         Ok((http, handle, kept)) => {
             let getter = Getter {
                 rt,
@@ -635,9 +759,10 @@ fn parts_of<R: RandomSource + Copy>(
     alloc: Global,
     runtime: &LocalRuntime,
     keep: Option<Duration>,
+    share: &KeptShare,
 ) -> io::Result<(http1::Builder, Handle, Option<Kept<R>>)> {
     let http = http1::Builder::new(alloc, RandomState::new(&rt)?);
-    let kept = kept_of(rt, alloc, keep)?;
+    let kept = kept_of(rt, alloc, keep, share)?;
     match runtime.handle().clone() {
         Ok(handle) => Ok((http, handle, kept)),
         Err(error) => {
@@ -662,7 +787,7 @@ impl<R: Drop, A: Drop> Drop for Tending<R, A> {
     }
 }
 
-impl<R: Clock + Copy + Drop, A: Admit> Tend for Tending<R, A> {
+impl<R: Wait + Clock + Copy + Drop, A: Admit> Tend for Tending<R, A> {
     fn poll_tend(&mut self, cx: &mut Context<'_>)
         ensures { Keeps cx.old cx.new }
     {
@@ -683,7 +808,7 @@ pub fn run_fetches<R, S, A>(
 ) -> io::Result<()>
 where
     R: Wait + Clock + RandomSource + AllocGlobal + Net + Copy,
-    S: Submit<Fetched>,
+    S: Submit<Ended>,
     A: Admit,
     requires { 0 < limits.at_once }
 {
@@ -713,7 +838,7 @@ fn run_on<R, S, A>(
 ) -> io::Result<()>
 where
     R: Wait + Clock + RandomSource + AllocGlobal + Net + Copy,
-    S: Submit<Fetched>,
+    S: Submit<Ended>,
     A: Admit,
     requires { 0 < limits.at_once }
 {
@@ -742,7 +867,7 @@ fn run_with<R, S, M, T>(
 ) -> io::Result<()>
 where
     R: Wait + Clock + RandomSource + AllocGlobal + Copy,
-    S: Submit<Fetched>,
+    S: Submit<Ended>,
     M: Means,
     T: Tend,
     requires { 0 < at_once }

@@ -6,49 +6,41 @@ use fetch_chain::Tend;
 use futures::Future;
 use futures::task::{Context, Poll};
 use paced_stream::Paced;
+use server_connections::{IdlePlace, KeptShare};
 use std::alloc::{AllocError, Global};
 use std::cell::RefCell;
 use std::net::SocketAddr;
 use std::rc::Rc;
+use std::sync::Wait;
 use std::time::{Clock, Duration, Instant};
 use tokio::time::{Handle, Sleep};
-
-/// The most idle connections of a thread to one server under one name: eight over all four threads.
-const MOST_EACH: usize = 2;
-
-/// The most idle connections of a thread: 256 over all four threads.
-const MOST: usize = 64;
 
 /// After how many seconds they are looked at again.
 const LOOK: u64 = 1;
 
 // A connection that carries no request.
 struct Idle {
-    server: SocketAddr,
-    host: String,
     socket: Paced,
     // When it is closed.
     until: Instant,
+    // Where it leads, and its place among those of all threads. The last to be dropped.
+    place: IdlePlace,
 }
 
 // Written by hand, as other drops of this file, so that what lets it go is one call for the prover (docs/GATE.md).
 impl Drop for Idle {
     fn drop(self) {
         let Self {
-            server: _,
-            host: _,
-            socket: _,
+            socket,
             until: _,
+            place,
         } = self;
+        drop(socket);
+        drop(place);
     }
 }
 
 impl Idle {
-    // Whether it leads to this server under this name.
-    fn is_for(&self, server: SocketAddr, host: &str) -> bool {
-        self.server == server && self.host.as_str() == host
-    }
-
     // Whether it may still carry a request: its time is not over, and nothing has come on it since its last answer.
     fn is_good(&self, now: Instant) -> bool {
         now < self.until && self.socket.is_silent()
@@ -61,11 +53,11 @@ impl Idle {
             return None;
         }
         let Self {
-            server: _server,
-            host: _host,
             socket,
             until: _until,
+            place,
         } = self;
+        drop(place);
         Some(socket)
     }
 }
@@ -74,6 +66,8 @@ impl Idle {
 #[derive(Drop)]
 struct Bench {
     idle: Vec<Idle>,
+    // The thread's part in those of all threads.
+    share: KeptShare,
 }
 
 impl Bench {
@@ -81,7 +75,7 @@ impl Bench {
     // closed on the way.
     fn take(&mut self, server: SocketAddr, host: &str, now: Instant) -> Option<Paced> {
         for place in (0..self.idle.len()).rev() {
-            if place < self.idle.len() && self.idle[place].is_for(server, host) {
+            if place < self.idle.len() && self.idle[place].place.is_for(server, host) {
                 let found = self.idle.remove(place).into_good(now);
                 if found.is_some() {
                     return found;
@@ -92,35 +86,16 @@ impl Bench {
         None
     }
 
-    // How many connections to this server under this name there are.
-    fn count(&self, server: SocketAddr, host: &str) -> usize {
-        let mut count = 0usize;
-        for idle in self.idle.iter() {
-            if idle.is_for(server, host) {
-                count = count.saturating_add(1);
-            }
-        }
-        count
-    }
-
-    // Adds a connection. It is closed if there are as many to this server under this name as there may be; where there are as many in
-    // all, the one that was kept first is closed for it. Errors: out of memory.
-    fn add(&mut self, idle: Idle) -> Result<(), AllocError> {
-        if self.count(idle.server, idle.host.as_str()) >= MOST_EACH {
-            drop(idle);
-            return Ok(());
-        }
-        if self.idle.len() >= MOST {
-            drop(self.idle.remove(0));
-        }
-        self.idle.push(idle)?;
-        Ok(())
+    // Closes those that give way to others.
+    fn close_asked(&mut self) {
+        self.idle.retain(|it| !it.place.gives_way());
     }
 }
 
 /// The idle connections of a thread. Reference-counted within it.
 pub struct Kept<R> {
     rt: R,
+    alloc: Global,
     // How long one may be idle.
     keep: Duration,
     bench: Rc<RefCell<Bench>>,
@@ -130,6 +105,7 @@ impl<R: Drop> Drop for Kept<R> {
     fn drop(self) {
         let Self {
             rt: _,
+            alloc: _,
             keep: _,
             bench: _,
         } = self;
@@ -137,13 +113,20 @@ impl<R: Drop> Drop for Kept<R> {
 }
 
 impl<R: Copy> Kept<R> {
-    /// None as yet, each to be closed after so long. Errors: out of memory.
-    pub fn new(rt: R, alloc: Global, keep: Duration) -> Result<Kept<R>, AllocError> {
+    /// None as yet, each to be closed after so long; the thread has this part in those of all threads. Errors: out of memory.
+    pub fn new(
+        rt: R,
+        alloc: Global,
+        keep: Duration,
+        share: &KeptShare,
+    ) -> Result<Kept<R>, AllocError> {
         let bench = Bench {
             idle: Vec::new(alloc),
+            share: share.share()?,
         };
         Ok(Kept {
             rt,
+            alloc,
             keep,
             bench: Rc::new(alloc, RefCell::new(bench))?,
         })
@@ -153,13 +136,14 @@ impl<R: Copy> Kept<R> {
     pub fn share(&self) -> Result<Kept<R>, AllocError> {
         Ok(Kept {
             rt: self.rt,
+            alloc: self.alloc,
             keep: self.keep,
             bench: self.bench.clone()?,
         })
     }
 }
 
-impl<R: Clock + Copy> Kept<R> {
+impl<R: Wait + Clock + Copy> Kept<R> {
     /// Takes a connection to this server under this name on which nothing has come since its last answer. `None` if there is none, or if
     /// the clock cannot be read.
     pub fn take(&self, server: SocketAddr, host: &str) -> Option<Paced> {
@@ -171,24 +155,26 @@ impl<R: Clock + Copy> Kept<R> {
         bench.take(server, host, now)
     }
 
-    /// Keeps a connection to this server under this name whose last answer has been read whole. It is closed where there are too many,
-    /// and for lack of memory.
+    /// Keeps a connection to this server under this name whose last answer has been read whole. It is closed for lack of memory.
     pub fn keep(&self, server: SocketAddr, host: String, socket: Paced) {
         let Some(until) = self.until() else {
             drop(socket);
             return;
         };
-        let idle = Idle {
-            server,
-            host,
-            socket,
-            until,
-        };
         match self.bench.try_borrow_mut() {
             Ok(mut bench) => {
-                let _ = bench.add(idle);
+                let entered = bench.share.enter(&self.rt, self.alloc, server, host);
+                let Some(place) = entered else {
+                    drop(socket);
+                    return;
+                };
+                let _ = bench.idle.push(Idle {
+                    socket,
+                    until,
+                    place,
+                });
             }
-            Err(_) => drop(idle),
+            Err(_) => drop(socket),
         }
     }
 
@@ -215,6 +201,21 @@ impl<R: Clock + Copy> Kept<R> {
             Err(_) => bench.idle.clear(),
         }
     }
+
+    // Closes those that give way to connections of any thread, and has this task woken when further ones are to. Nothing is done where
+    // the task `listens` already and none is to.
+    fn heed(&self, listens: bool, cx: &mut Context<'_>)
+        ensures { Keeps cx.old cx.new }
+    {
+        let Ok(mut bench) = self.bench.try_borrow_mut() else {
+            return;
+        };
+        if listens && !bench.share.is_asked() {
+            return;
+        }
+        bench.share.listen(&self.rt, cx);
+        bench.close_asked();
+    }
 }
 
 /// Closes the idle connections of a thread once their time is over, or their server has ended them.
@@ -226,6 +227,8 @@ pub struct Keeper<R> {
     timers: Option<Handle>,
     // Runs while there are some.
     sleep: Option<Sleep>,
+    // Whether the task is woken when one is to give way.
+    listens: bool,
 }
 
 impl<R: Drop> Drop for Keeper<R> {
@@ -235,6 +238,7 @@ impl<R: Drop> Drop for Keeper<R> {
             kept,
             timers,
             sleep,
+            listens: _,
         } = self;
         drop(rt);
         drop(kept);
@@ -243,7 +247,7 @@ impl<R: Drop> Drop for Keeper<R> {
     }
 }
 
-impl<R: Clock + Copy> Keeper<R> {
+impl<R: Wait + Clock + Copy> Keeper<R> {
     /// Looks after these.
     pub fn new(rt: R, kept: Option<Kept<R>>, timers: Option<Handle>) -> Keeper<R> {
         Keeper {
@@ -251,6 +255,7 @@ impl<R: Clock + Copy> Keeper<R> {
             kept,
             timers,
             sleep: None,
+            listens: false,
         }
     }
 
@@ -290,12 +295,26 @@ impl<R: Clock + Copy> Keeper<R> {
             kept.look();
         }
     }
+
+    // Closes those that give way to others.
+    fn heed(&mut self, cx: &mut Context<'_>)
+        ensures { Keeps cx.old cx.new }
+    {
+        if let Some(kept) = &self.kept {
+            kept.heed(self.listens, cx);
+        }
+        self.listens = true;
+    }
 }
 
-impl<R: Clock + Copy + Drop> Tend for Keeper<R> {
+impl<R: Wait + Clock + Copy + Drop> Tend for Keeper<R> {
     fn poll_tend(&mut self, cx: &mut Context<'_>)
         ensures { Keeps cx.old cx.new }
     {
+        if !self.has_some() {
+            return;
+        }
+        self.heed(cx);
         if !self.has_some() || !self.is_due(cx) {
             return;
         }

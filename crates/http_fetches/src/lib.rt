@@ -8,7 +8,7 @@
 #![tactic(auto)]
 
 mod budget;
-mod dialing;
+mod dialer;
 mod early;
 mod exchange;
 mod fetching;
@@ -19,5 +19,5 @@ mod reply;
 mod speaking;
 mod visit;
 
-pub use budget::{Budget, Share};
+pub use budget::{Budget, Party, Share};
 pub use fetching::{FetchLimits, FetchRules, run_fetches};

@@ -4,6 +4,7 @@ ghost use Rattle.futures.specs.Task.{Keeps};
 ghost use Rattle.tokio.specs.Net.{stream_readable, stream_writable};
 
 use crate::fetching::put;
+use fair_use::{WINDOW_SECONDS, is_too_slow};
 use futures::Future;
 use futures::task::{Context, Poll};
 use paced_stream::Paced;
@@ -23,6 +24,10 @@ struct Marks {
     has_moved: Cell<bool>,
     // Whether octets of an answer have come.
     has_answer: Cell<bool>,
+    // How many octets have come.
+    octets: Cell<u64>,
+    // Whether nothing is read, since what came last waits for room.
+    is_waiting: Cell<bool>,
 }
 
 /// Notes what moves on a connection. Reference-counted within one thread.
@@ -35,6 +40,8 @@ impl Moves {
         let marks = Marks {
             has_moved: Cell::new(false),
             has_answer: Cell::new(false),
+            octets: Cell::new(0),
+            is_waiting: Cell::new(false),
         };
         Ok(Moves(Rc::new(alloc, marks)?))
     }
@@ -56,9 +63,26 @@ impl Moves {
         self.0.has_moved.set(true);
     }
 
-    // Notes that octets of an answer came.
-    fn note_answer(&self) {
+    // Notes that so many octets of an answer came.
+    fn note_answer(&self, octets: usize) {
         self.0.has_answer.set(true);
+        let before = self.0.octets.get();
+        self.0.octets.set(before.saturating_add(octets as u64));
+    }
+
+    // How many octets have come.
+    fn octets(&self) -> u64 {
+        self.0.octets.get()
+    }
+
+    /// Sets whether nothing is read, since what came last waits for room.
+    pub fn set_waiting(&self, is_waiting: bool) {
+        self.0.is_waiting.set(is_waiting);
+    }
+
+    // Whether nothing is read, since what came last waits for room.
+    fn is_waiting(&self) -> bool {
+        self.0.is_waiting.get()
     }
 
     /// Whether octets of an answer have come.
@@ -127,8 +151,10 @@ impl Noted {
             return;
         };
         self.moves.note();
-        if matches!(read, Ok(count) if *count > 0) {
-            self.moves.note_answer();
+        if let Ok(count) = read
+            && *count > 0
+        {
+            self.moves.note_answer(*count);
         }
     }
 }
@@ -186,6 +212,32 @@ impl AsyncWrite for Noted {
 
     fn poll_shutdown(&mut self, cx: &mut Context<'_>) -> Poll<io::Result<()>> {
         self.socket.poll_shutdown(cx)
+    }
+}
+
+/// Whether a fetch waits for room. Reference-counted within one thread.
+#[derive(Drop)]
+pub struct Delay(Rc<Cell<bool>>);
+
+impl Delay {
+    /// It does not wait. Errors: out of memory.
+    pub fn new(alloc: Global) -> Result<Delay, AllocError> {
+        Ok(Delay(Rc::new(alloc, Cell::new(false))?))
+    }
+
+    /// Another handle to the same. Errors: there are too many.
+    pub fn share(&self) -> Result<Delay, AllocError> {
+        Ok(Delay(self.0.clone()?))
+    }
+
+    /// Sets whether it waits.
+    pub fn set(&self, waits: bool) {
+        self.0.set(waits);
+    }
+
+    /// Whether it waits.
+    pub fn waits(&self) -> bool {
+        self.0.get()
     }
 }
 
@@ -280,10 +332,161 @@ impl<R: Clock + Drop> Patience<R> {
     }
 }
 
-/// How long the connection of an exchange may be without an octet, if that is limited.
+/// How fast the content of an answer has to come: so many octets a second, in each window of time in which it is read. The first one begins
+/// with the first look at it; while nothing is read, since what came last waits for room, the time stands still.
+pub struct Speed<R> {
+    rt: R,
+    // None if out of memory: then it is too slow at once.
+    timers: Option<Handle>,
+    moves: Option<Moves>,
+    // Octets a second.
+    least: u32,
+    window: Option<Window>,
+    // The timer. It is reset only when it fires too early.
+    sleep: Option<Sleep>,
+}
+
+// A window of time.
+#[derive(Clone, Copy)]
+struct Window {
+    // When it ends.
+    end: Instant,
+    // How many octets had come when it began.
+    octets: u64,
+    // Since when the time stands still, if it does.
+    still: Option<Instant>,
+}
+
+impl<R: Drop> Drop for Speed<R> {
+    fn drop(self) {
+        let Self {
+            rt,
+            timers,
+            moves,
+            least: _,
+            window: _,
+            sleep,
+        } = self;
+        drop(rt);
+        drop(timers);
+        drop(moves);
+        drop(sleep);
+    }
+}
+
+impl<R: Clock + Drop> Speed<R> {
+    // Whether nothing is read.
+    fn is_still(&self) -> bool {
+        match &self.moves {
+            Some(moves) => moves.is_waiting(),
+            None => false,
+        }
+    }
+
+    // How many octets have come.
+    fn octets(&self) -> u64 {
+        match &self.moves {
+            Some(moves) => moves.octets(),
+            None => 0,
+        }
+    }
+
+    // Begins a window now. Returns its end: `None` if the clock cannot be read.
+    fn begin(&mut self) -> Option<Instant> {
+        let now = Instant::now(&self.rt).ok()?;
+        let end = now.checked_add(Duration::from_secs(u64::from(WINDOW_SECONDS)))?;
+        self.window = Some(Window {
+            end,
+            octets: self.octets(),
+            still: None,
+        });
+        Some(end)
+    }
+
+    // Has the time of the window stand still.
+    fn stand_still(&mut self) {
+        if let Some(window) = &mut self.window
+            && window.still.is_none()
+        {
+            window.still = Instant::now(&self.rt).ok();
+        }
+    }
+
+    // When the window ends, whose time goes on. `None` if the clock cannot be read.
+    fn end(&mut self) -> Option<Instant> {
+        let Some(window) = &mut self.window else {
+            return self.begin();
+        };
+        if let Some(still) = window.still {
+            let now = Instant::now(&self.rt).ok()?;
+            window.end = window
+                .end
+                .checked_add(now.saturating_duration_since(still))?;
+            window.still = None;
+        }
+        Some(window.end)
+    }
+
+    // How many octets have come in the window.
+    fn came(&self) -> u64 {
+        match &self.window {
+            Some(window) => self.octets().saturating_sub(window.octets),
+            None => 0,
+        }
+    }
+
+    // Whether the time has come, or no timer can be made. The task is woken then otherwise.
+    fn has_come(&mut self, cx: &mut Context<'_>, end: Instant) -> bool
+        ensures { Keeps cx.old cx.new }
+    {
+        if self.sleep.is_none() {
+            let sleep = self.timer(end);
+            put(&mut self.sleep, sleep);
+        }
+        match &mut self.sleep {
+            Some(sleep) => has_come(sleep, cx, end),
+            None => true,
+        }
+    }
+
+    // The timer until then. `None` if out of memory.
+    fn timer(&self, end: Instant) -> Option<Sleep> {
+        match &self.timers {
+            Some(timers) => timers.sleep_until(end).ok(),
+            None => None,
+        }
+    }
+
+    /// Whether the content comes too slowly. Also true if the clock cannot be read, or if out of memory.
+    pub fn is_over(&mut self, cx: &mut Context<'_>) -> bool
+        ensures { Keeps cx.old cx.new }
+    {
+        if self.is_still() {
+            self.stand_still();
+            return false;
+        }
+        let Some(end) = self.end() else {
+            return true;
+        };
+        if !self.has_come(cx, end) {
+            return false;
+        }
+        if is_too_slow(self.least, self.came()) {
+            return true;
+        }
+        match self.begin() {
+            Some(end) => self.has_come(cx, end),
+            None => true,
+        }
+    }
+}
+
+/// How long the connection of an exchange may be without an octet, if that is limited, and how fast its content has to come, if it has to.
 pub struct Stillness<R> {
     pub rt: R,
     pub idle: Option<Duration>,
+    /// The least octets a second. None if there is no least speed.
+    pub speed: Option<u32>,
     /// None if out of memory, and where nothing is limited.
     pub timers: Option<Handle>,
 }
@@ -293,6 +496,7 @@ impl<R: Drop> Drop for Stillness<R> {
         let Self {
             rt,
             idle: _,
+            speed: _,
             timers,
         } = self;
         drop(rt);
@@ -306,6 +510,18 @@ impl<R: Clock + Copy> Stillness<R> {
         let still = self.idle?;
         let moves = moves.share().ok();
         Some(Patience::new(self.rt, self.timers(), moves, still))
+    }
+
+    /// The least speed of a content whose octets are noted here, if there is one.
+    pub fn speed(&self, moves: &Moves) -> Option<Speed<R>> {
+        Some(Speed {
+            rt: self.rt,
+            least: self.speed?,
+            timers: self.timers(),
+            moves: moves.share().ok(),
+            window: None,
+            sleep: None,
+        })
     }
 
     // The timers of its patience. Returns `None` if out of memory.

@@ -4,7 +4,7 @@ ghost use Rattle.futures.specs.Channel.{readable_source};
 ghost use Rattle.futures.specs.Poll.{OnPending};
 ghost use Rattle.futures.specs.Task.{Covers, Keeps};
 
-use crate::dialing::Dial;
+use crate::dialer::Dial;
 use crate::exchange::{Beside, Talk};
 use crate::fetching::{boxed, put};
 use crate::moves::{Moves, Noted, Patience};
@@ -18,18 +18,54 @@ use futures::task::{Context, Poll};
 use futures::{Future, ready};
 use http_body::{Body, Frame, SizeHint};
 use http_content::{Relayed, add_field, add_fields};
-use http_traffic::{Coming, FetchFault, PassFault, Passage, PassedHead, Piece, Server, Ticket};
+use http_traffic::{
+    Change, Coming, FetchFault, LeftChange, PassFault, Passage, PassedHead, Piece, Server, Ticket,
+};
 use hyper::client::conn::http1;
 use hyper::{HeaderMap, Method, Request, header};
 use paced_stream::Paced;
 use std::alloc::{AllocError, Global};
-use std::cell::RefCell;
+use std::cell::{Cell, RefCell};
 use std::io;
 use std::io::ErrorKind;
 use std::net::SocketAddr;
 use std::rc::Rc;
-use std::time::Clock;
+use std::time::{Clock, Duration};
 use tokio::time::Handle;
+
+// How long the answer to a request with an unsafe method is waited for whose client has gone, in seconds.
+const LEFT_SECONDS: u64 = 5;
+
+// Whether all of a request was sent. Reference-counted within one thread.
+struct Whole(Rc<Cell<bool>>);
+
+impl Drop for Whole {
+    fn drop(self) {
+        let Self(_) = self;
+    }
+}
+
+impl Whole {
+    // Not all was. Errors: out of memory.
+    fn new(alloc: Global) -> Result<Whole, AllocError> {
+        Ok(Whole(Rc::new(alloc, Cell::new(false))?))
+    }
+
+    // Another handle to the same. Errors: there are too many.
+    fn share(&self) -> Result<Whole, AllocError> {
+        Ok(Whole(self.0.clone()?))
+    }
+
+    // Notes that all was.
+    fn note(&self) {
+        self.0.set(true);
+    }
+
+    // Whether all was.
+    fn is_noted(&self) -> bool {
+        self.0.get()
+    }
+}
 
 /// The content of the request, as it comes.
 pub struct Sent {
@@ -39,6 +75,8 @@ pub struct Sent {
     left: Option<u64>,
     // Whether no field says that there is none.
     is_bare: bool,
+    // Where is noted that all was sent. None if out of memory.
+    whole: Option<Whole>,
 }
 
 // Written by hand, as other drops of this file, so that what lets it go is one call for the prover (docs/GATE.md).
@@ -48,25 +86,43 @@ impl Drop for Sent {
             coming,
             left: _,
             is_bare: _,
+            whole,
         } = self;
         drop(coming);
+        drop(whole);
     }
 }
 
 impl Sent {
     // The content of a request with this method, which has none if nothing is coming.
-    fn new(method: &str, content: Option<Coming>) -> Sent {
+    fn new(method: &str, content: Option<Coming>, whole: Option<Whole>) -> Sent {
         match content {
             Some(Coming { length, pieces }) => Sent {
                 coming: Some(pieces),
                 left: length,
                 is_bare: false,
+                whole,
             },
             None => Sent {
                 coming: None,
                 left: Some(0),
                 is_bare: !matches!(method, "POST" | "PUT" | "PATCH"),
+                whole,
             },
+        }
+    }
+
+    /// Notes that its request is given to a connection: that is all of it where nothing is coming.
+    pub(crate) fn note_delivered(&self) {
+        if self.coming.is_none() {
+            self.note_whole();
+        }
+    }
+
+    // Notes that all was sent.
+    fn note_whole(&self) {
+        if let Some(whole) = &self.whole {
+            whole.note();
         }
     }
 }
@@ -95,6 +151,13 @@ impl Body for Sent {
             }
             Some(Piece::End) => {
                 put(&mut self.coming, None);
+                self.note_whole();
+                Poll::Ready(None)
+            }
+            // (a client may go as its last octets have come, of which the number was known)
+            None if self.left == Some(0) => {
+                put(&mut self.coming, None);
+                self.note_whole();
                 Poll::Ready(None)
             }
             None => Poll::Ready(Some(Err(io::Error::from(ErrorKind::UnexpectedEof)))),
@@ -131,6 +194,10 @@ struct Outlet {
     wanted: Option<oneshot::Receiver<()>>,
     // Whether the content waits for who takes it.
     is_full: bool,
+    // The head that nobody has taken.
+    untaken: Option<(u16, HeaderMap)>,
+    // Whether nobody has heard why there is none.
+    is_unheard: bool,
 }
 
 impl Drop for Outlet {
@@ -140,10 +207,13 @@ impl Drop for Outlet {
             pieces,
             wanted,
             is_full: _,
+            untaken,
+            is_unheard: _,
         } = self;
         drop(head);
         drop(pieces);
         drop(wanted);
+        drop(untaken);
     }
 }
 
@@ -179,14 +249,33 @@ impl Outlet {
             drop(passed);
             return None;
         };
-        head.send(Ok(passed)).ok()?;
-        self.pieces.take()
+        match head.send(Ok(passed)) {
+            Ok(()) => self.pieces.take(),
+            Err(back) => {
+                self.keep(back);
+                None
+            }
+        }
+    }
+
+    // Keeps a head that nobody has taken.
+    fn keep(&mut self, back: Result<PassedHead, PassFault>) {
+        if let Ok(PassedHead { status, head, .. }) = back {
+            put(&mut self.untaken, Some((status, head)));
+        }
+    }
+
+    // Whether the head of the answer is awaited, which nobody wants any more.
+    fn is_before_head(&self) -> bool {
+        self.head.is_some()
     }
 
     // Says why there is no head, unless there was one.
     fn fail(&mut self, fault: PassFault) {
         if let Some(head) = self.head.take() {
-            drop(head.send(Err(fault)));
+            let sent = head.send(Err(fault));
+            self.is_unheard = sent.is_err();
+            drop(sent);
         }
     }
 }
@@ -219,6 +308,8 @@ impl SharedOutlet {
             pieces: Some(pieces),
             wanted: None,
             is_full: false,
+            untaken: None,
+            is_unheard: false,
         };
         let shared = Rc::new(alloc, RefCell::new(outlet)).ok()?;
         Some(SharedOutlet(shared))
@@ -254,6 +345,30 @@ impl SharedOutlet {
     fn fail(&self, fault: PassFault) {
         if let Ok(mut outlet) = self.0.try_borrow_mut() {
             outlet.fail(fault);
+        }
+    }
+
+    // As `Outlet::is_before_head`.
+    fn is_before_head(&self) -> bool {
+        match self.0.try_borrow_mut() {
+            Ok(outlet) => outlet.is_before_head(),
+            Err(_) => false,
+        }
+    }
+
+    // Whether nobody has heard why there is no head.
+    fn is_unheard(&self) -> bool {
+        match self.0.try_borrow_mut() {
+            Ok(outlet) => outlet.is_unheard,
+            Err(_) => false,
+        }
+    }
+
+    // The head that nobody has taken.
+    fn untaken(&self) -> Option<(u16, HeaderMap)> {
+        match self.0.try_borrow_mut() {
+            Ok(mut outlet) => outlet.untaken.take(),
+            Err(_) => None,
         }
     }
 
@@ -420,7 +535,7 @@ impl<Q: Drop, Y: Deliver<Q>> Talk for Post<Y, Q> {
 
     type Talking = Beside<Answering<Y::Answer>, Y::Connection>;
 
-    fn talk(&mut self, socket: Paced) -> Option<Self::Talking> {
+    fn talk(&mut self, _server: SocketAddr, socket: Paced) -> Option<Self::Talking> {
         let Some(request) = self.request.take() else {
             drop(socket);
             return None;
@@ -453,6 +568,10 @@ impl<Q: Drop, Y: Deliver<Q>> Talk for Post<Y, Q> {
         false
     }
 
+    fn may_go_on(&self, _fault: FetchFault) -> bool {
+        false
+    }
+
     fn keep(&mut self, _server: SocketAddr, _page: &mut ()) {}
 }
 
@@ -474,17 +593,23 @@ struct Line {
 
 // The request to be sent. A content of unknown length comes in chunks, which its head says, since otherwise the library sends no
 // content with a HEAD. Returns `None` if a part of it is no valid HTTP, or if out of memory.
-fn request_of(alloc: Global, line: &Line, content: Option<Coming>) -> Option<Request<Sent>> {
+fn request_of(
+    alloc: Global,
+    line: &Line,
+    content: Option<Coming>,
+    whole: Option<Whole>,
+) -> Option<Request<Sent>> {
     let is_chunked = matches!(&content, Some(coming) if coming.length.is_none());
     let Ok(method) = Method::from_bytes(alloc, line.method.as_bytes()) else {
         drop(content);
+        drop(whole);
         return None;
     };
     let mut request = Request::builder(alloc)
         .method(method)
         .uri(line.target.as_str())
         .header(header::HOST, line.host.as_str())
-        .body(Sent::new(line.method.as_str(), content))
+        .body(Sent::new(line.method.as_str(), content, whole))
         .ok()?;
     match add_head(alloc, request.headers_mut(), line, is_chunked) {
         Some(()) => Some(request),
@@ -513,20 +638,42 @@ pub trait Watch: Drop {
     /// Whether nobody wants the answer any more, or nothing has moved for too long.
     fn is_over(&mut self, cx: &mut Context<'_>) -> bool
         ensures kept { Keeps cx.old cx.new };
+
+    /// What the request may have changed, once it has ended, if its client has gone before the head of its answer.
+    fn left(&mut self) -> Option<Box<LeftChange>>;
 }
 
 /// Watches over a request that is passed on, with patience.
 pub struct Watching<R> {
+    alloc: Global,
     // None if out of memory.
     outlet: Option<SharedOutlet>,
     patience: Patience<R>,
+    // What the request may change.
+    change: Option<Change>,
+    // Whether all of the request was sent. None if out of memory.
+    whole: Option<Whole>,
+    // How long the answer is waited for once the client has gone.
+    leaving: Patience<R>,
+    has_gone: bool,
 }
 
 impl<R: Drop> Drop for Watching<R> {
     fn drop(self) {
-        let Self { outlet, patience } = self;
+        let Self {
+            alloc: _,
+            outlet,
+            patience,
+            change,
+            whole,
+            leaving,
+            has_gone: _,
+        } = self;
         drop(outlet);
         drop(patience);
+        drop(change);
+        drop(whole);
+        drop(leaving);
     }
 }
 
@@ -536,6 +683,26 @@ impl<R: Clock + Drop> Watching<R> {
         if let Some(outlet) = &self.outlet {
             outlet.fail(fault);
         }
+    }
+
+    // Whether all of the request was sent. Where that is not known, it may have been.
+    fn is_whole(&self) -> bool {
+        match &self.whole {
+            Some(whole) => whole.is_noted(),
+            None => true,
+        }
+    }
+
+    // Whether the answer is waited for no longer, which nobody wants any more: that to a request which may have changed something is, for
+    // some time, until its head comes.
+    fn is_left(&mut self, cx: &mut Context<'_>, is_before_head: bool) -> bool
+        ensures kept { Keeps cx.old cx.new }
+    {
+        if !is_before_head || self.change.is_none() {
+            return true;
+        }
+        self.has_gone = true;
+        self.leaving.is_over(cx)
     }
 }
 
@@ -554,7 +721,8 @@ impl<R: Clock + Drop> Watch for Watching<R> {
             return true;
         };
         if outlet.is_unwanted(cx) {
-            return true;
+            let is_before_head = outlet.is_before_head();
+            return self.is_left(cx, is_before_head);
         }
         if outlet.is_full() {
             self.patience.begin_anew();
@@ -565,6 +733,24 @@ impl<R: Clock + Drop> Watch for Watching<R> {
             return true;
         }
         false
+    }
+
+    fn left(&mut self) -> Option<Box<LeftChange>> {
+        let outlet = self.outlet.as_ref()?;
+        let (head, is_unheard) = (outlet.untaken(), outlet.is_unheard());
+        if !self.has_gone && !is_unheard && head.is_none() {
+            return None;
+        }
+        let Some(change) = self.change.take() else {
+            drop(head);
+            return None;
+        };
+        let left = LeftChange {
+            change,
+            is_whole: self.is_whole(),
+            head,
+        };
+        boxed(self.alloc, left)
     }
 }
 
@@ -591,6 +777,7 @@ pub fn plan_of<R: Clock + Copy>(
         target,
         fields,
         content,
+        change,
         is_origin: _,
         still,
         head,
@@ -605,16 +792,34 @@ pub fn plan_of<R: Clock + Copy>(
     };
     let outlet = SharedOutlet::of(alloc, head, pieces);
     let moves = Moves::new(alloc).ok();
-    let request = request_of(alloc, &line, content);
+    let whole = Whole::new(alloc).ok();
+    let request = request_of(alloc, &line, content, other_of(&whole));
     drop(line);
     let http = Deliverer { alloc, http };
+    let others = match &timers {
+        Some(timers) => timers.clone().ok(),
+        None => None,
+    };
     Plan {
         talk: post_of(alloc, http, request, &outlet, &moves),
         watch: Watching {
+            alloc,
             outlet,
             patience: Patience::new(rt, timers, moves, still),
+            change,
+            whole,
+            leaving: Patience::new(rt, others, None, Duration::from_secs(LEFT_SECONDS)),
+            has_gone: false,
         },
         ticket,
+    }
+}
+
+// Another handle to the same, if there is one.
+fn other_of(whole: &Option<Whole>) -> Option<Whole> {
+    match whole {
+        Some(whole) => whole.share().ok(),
+        None => None,
     }
 }
 
@@ -685,7 +890,7 @@ impl<W: Drop, D: Dial, T: Talk> Pass<W, D, T> {
             ticket,
         } = plan;
         let visit = match talk {
-            Some(talk) => boxed(alloc, Visit::new(server, dialer, talk)),
+            Some(talk) => boxed(alloc, Visit::new(alloc, server, dialer, talk)),
             None => {
                 drop(dialer);
                 drop(server);
@@ -701,20 +906,20 @@ impl<W: Drop, D: Dial, T: Talk> Pass<W, D, T> {
 }
 
 impl<W: Watch, D: Dial, T: Talk<Page = ()>> Future for Pass<W, D, T> {
-    type Output = ();
+    type Output = Option<Box<LeftChange>>;
 
     ghost can_poll = { λ p. IfSome p.visit (λ v. IfSome (box_value v).call (λ c. IfSome c.talking T.Talking.can_poll)) };
 
-    fn poll(&mut self, cx: &mut Context<'_>) -> Poll<()> {
+    fn poll(&mut self, cx: &mut Context<'_>) -> Poll<Option<Box<LeftChange>>> {
         let Some(visit) = &mut self.visit else {
-            return Poll::Ready(());
+            return Poll::Ready(None);
         };
         match visit.poll(cx) {
             Poll::Ready(visited) => {
                 self.watch.end(&visited);
-                Poll::Ready(())
+                Poll::Ready(self.watch.left())
             }
-            Poll::Pending if self.watch.is_over(cx) => Poll::Ready(()),
+            Poll::Pending if self.watch.is_over(cx) => Poll::Ready(self.watch.left()),
             Poll::Pending => Poll::Pending,
         }
     }

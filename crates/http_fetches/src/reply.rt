@@ -107,6 +107,11 @@ impl<A: Drop> Reply<A> {
         }
     }
 
+    /// Whether its head has come, and its content is being read.
+    pub fn has_head(&self) -> bool {
+        self.head.is_some()
+    }
+
     // Keeps the head, which has come.
     fn keep(&mut self, head: Head) {
         self.lasts = self.lasts && head.lasts(self.alloc);

@@ -22,6 +22,7 @@ use hyper::client::conn::http1;
 use hyper::client::conn::http1::{Connection, Parts, ResponseFuture, WithoutShutdown};
 use hyper::{Request, Response, Version, header};
 use std::alloc::Global;
+use std::net::SocketAddr;
 
 // Waits for the head of an answer. Errors: why there is none.
 fn poll_response<I: Drop>(
@@ -76,8 +77,8 @@ pub trait Meter: Drop {
     /// Is shown it.
     type Follower: Offers;
 
-    /// How the content of an answer is to be read. What pays for it notes that in `moves`.
-    fn metered(&self, moves: &Moves) -> Metered<Self::Purse, Self::Follower>;
+    /// How the content of an answer of this server is to be read. What pays for it notes that in `moves`.
+    fn metered(&self, server: SocketAddr, moves: &Moves) -> Metered<Self::Purse, Self::Follower>;
 }
 
 /// How one content is to be read: at most `limit` octets of it. The purse pays for what is beyond the first `free`.
@@ -200,6 +201,7 @@ impl<M: Meter> Ask for Asker<M> {
 
     fn ask(
         &self,
+        server: SocketAddr,
         noted: Noted,
         asked: &Asked,
         moves: &Moves,
@@ -211,7 +213,7 @@ impl<M: Meter> Ask for Asker<M> {
         let (answer, conn) = asked_over(&self.http, noted, request)?;
         let answer = Collecting {
             answer,
-            meter: self.meter.metered(moves),
+            meter: self.meter.metered(server, moves),
             content: None,
         };
         Some((answer, conn))
@@ -362,6 +364,7 @@ impl Deliver<Request<Sent>> for Deliverer {
         match self.http.handshake(noted) {
             Ok((sender, conn)) => {
                 let mut sender = sender;
+                request.body().note_delivered();
                 let answer = Relaying {
                     alloc: self.alloc,
                     answer: sender.send_request(request),

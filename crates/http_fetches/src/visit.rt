@@ -3,12 +3,13 @@ ghost use Rattle.std.specs.Prelude.{◌≡◌, IfSome, true};
 ghost use Rattle.futures.specs.Poll.{OnPending};
 ghost use Rattle.futures.specs.Task.{Covers, Keeps};
 
-use crate::dialing::Dial;
+use crate::dialer::Dial;
 use crate::exchange::{Call, Talk};
 use crate::fetching::put;
 use futures::task::{Context, Poll};
 use futures::{Future, ready};
-use http_traffic::{Addresses, FetchFault, Server};
+use http_traffic::{Addresses, AdmitFault, FetchFault, Server};
+use std::alloc::{AllocError, Global};
 use std::net::SocketAddr;
 
 /// How a visit ended.
@@ -22,14 +23,15 @@ pub enum Visited<P> {
     Failed(FetchFault),
 }
 
-/// Waits for the addresses of the server, then makes the call. Where the server cannot be connected to at the first, the other has its
-/// turn.
+/// Waits for the addresses of the server, then makes the call to one of them. Where a connection ends without an octet of an answer to a
+/// request that may be sent twice, the call is made once more at those that are left.
 pub struct Visit<D: Dial, T: Talk> {
+    alloc: Global,
     server: Server,
     dialer: Option<D>,
     talk: Option<T>,
-    // The address that has its turn where the server of the call is not connected to.
-    other: Option<SocketAddr>,
+    // The addresses that the call may be made to, once they are known.
+    servers: Option<Addresses>,
     // The call, once it has begun.
     call: Option<Call<D::Connecting, T>>,
 }
@@ -38,68 +40,79 @@ pub struct Visit<D: Dial, T: Talk> {
 impl<D: Dial, T: Talk> Drop for Visit<D, T> {
     fn drop(self) {
         let Self {
+            alloc: _,
             server,
             dialer,
             talk,
-            other: _,
+            servers,
             call,
         } = self;
         drop(server);
         drop(dialer);
         drop(talk);
+        drop(servers);
         drop(call);
     }
 }
 
 impl<D: Dial, T: Talk> Visit<D, T> {
     /// A visit that has not begun; without a dialer it fails, as out of memory.
-    pub fn new(server: Server, dialer: Option<D>, talk: T) -> Visit<D, T>
+    pub fn new(alloc: Global, server: Server, dialer: Option<D>, talk: T) -> Visit<D, T>
         ensures { IfSome result.call (λ c. IfSome c.talking T.Talking.can_poll) }
     {
         Visit {
+            alloc,
             server,
             dialer,
             talk: Some(talk),
-            other: None,
+            servers: None,
             call: None,
         }
     }
 
-    // Waits for the addresses of the server. `None` if its name has none.
-    fn poll_server(&mut self, cx: &mut Context<'_>) -> Poll<Option<Addresses>>
+    // Waits for the addresses of the server. Errors: its name has none, or out of memory.
+    fn poll_server(&mut self, cx: &mut Context<'_>) -> Poll<Result<Addresses, FetchFault>>
         ensures same { self.new.call ≡ self.old.call }
         ensures registered { OnPending result (Covers cx.new (λ _. ⊥)) }
         ensures kept { Keeps cx.old cx.new }
     {
         match &mut self.server {
-            Server::At(server) => Poll::Ready(Some(Addresses::one(*server))),
-            Server::Sought(sought) => Poll::Ready(ready!(sought.poll(cx)).ok()),
+            Server::At(server) => {
+                let one = Addresses::one(self.alloc, *server);
+                Poll::Ready(one.map_err(|_| FetchFault::NoMemory))
+            }
+            Server::Sought(sought) => {
+                let found = ready!(sought.poll(cx));
+                Poll::Ready(found.map_err(|_| FetchFault::Lookup))
+            }
         }
     }
 
-    // Those of these addresses that are not known to be refused. `None` if there is none.
-    fn admitted(&self, servers: Addresses) -> Option<Addresses> {
-        let Some(dialer) = &self.dialer else {
-            return Some(servers);
-        };
-        let is_other = match servers.other {
-            Some(other) => dialer.admits(other),
-            None => false,
-        };
-        servers.admitted(dialer.admits(servers.first), is_other)
+    // Each of these addresses, and whether it is not known to be refused. Errors: out of memory.
+    fn judged(&self, servers: &Addresses) -> Result<Vec<(SocketAddr, bool)>, AllocError> {
+        let mut judged = Vec::new(self.alloc);
+        for server in servers.as_slice() {
+            judged.push((*server, self.admits(*server)))?;
+        }
+        Ok(judged)
     }
 
-    // Where the call, which has failed so, is to be made once more over a new connection: at its own server if it may be, and where that
-    // was not connected to, at the other address, which is taken out, so that it has one turn.
-    fn next_server(&mut self, fault: FetchFault) -> Option<SocketAddr> {
-        if let Some(call) = &self.call
-            && call.may_retry(fault)
-        {
-            return Some(call.server());
+    // Whether this address is not known to be refused.
+    fn admits(&self, server: SocketAddr) -> bool {
+        match &self.dialer {
+            Some(dialer) => dialer.admits(server),
+            None => true,
         }
-        match fault {
-            FetchFault::Connect => self.other.take(),
-            _ => None,
+    }
+
+    // Those of these addresses that are not known to be refused. Errors: there is none, or out of memory.
+    fn admitted(&self, servers: Addresses) -> Result<Addresses, AdmitFault> {
+        match self.judged(&servers) {
+            Ok(judged) => servers.admitted(self.alloc, judged),
+            Err(_) => {
+                drop(servers);
+                Err(AdmitFault::NoMemory)
+            }
         }
     }
 
@@ -107,54 +120,29 @@ impl<D: Dial, T: Talk> Visit<D, T> {
     fn begin(&mut self, servers: Addresses)
         ensures { IfSome self.new.call (λ c. IfSome c.talking T.Talking.can_poll) }
     {
-        let call = self.call(servers);
+        let call = self.call(&servers);
         put(&mut self.call, call);
+        put(&mut self.servers, Some(servers));
     }
 
-    // The call to one of these addresses: over a connection to either that was kept, or to the first. Returns `None` if it has begun
-    // before, or if out of memory.
-    fn call(&mut self, servers: Addresses) -> Option<Call<D::Connecting, T>>
+    // The call to one of these addresses: over a connection that was kept, or a new one. Returns `None` if it has begun before, or if
+    // out of memory.
+    fn call(&mut self, servers: &Addresses) -> Option<Call<D::Connecting, T>>
         ensures { IfSome result (λ c. IfSome c.talking T.Talking.can_poll) }
     {
-        let Addresses { first, other } = servers;
-        if let Some(dialer) = &mut self.dialer {
-            dialer.share(servers);
-        }
         let talk = self.talk.take()?;
-        self.other = other;
-        match Call::over_kept(first, talk) {
+        match Call::over_kept(servers.as_slice(), talk) {
             Ok(call) => Some(call),
-            Err(talk) => self.call_second(first, other, talk),
+            Err(talk) => self.new_call(servers, talk),
         }
     }
 
-    // As `call`, where no connection to the first address was kept.
-    fn call_second(
-        &mut self,
-        first: SocketAddr,
-        other: Option<SocketAddr>,
-        talk: T,
-    ) -> Option<Call<D::Connecting, T>>
-        ensures { IfSome result (λ c. IfSome c.talking T.Talking.can_poll) }
-    {
-        let Some(second) = other else {
-            return self.new_call(first, talk);
-        };
-        match Call::over_kept(second, talk) {
-            Ok(call) => {
-                self.other = Some(first);
-                Some(call)
-            }
-            Err(talk) => self.new_call(first, talk),
-        }
-    }
-
-    // The call to this address over a new connection. Returns `None` if out of memory.
-    fn new_call(&self, server: SocketAddr, talk: T) -> Option<Call<D::Connecting, T>>
+    // The call to one of these addresses over a new connection. Returns `None` if out of memory.
+    fn new_call(&self, servers: &Addresses, talk: T) -> Option<Call<D::Connecting, T>>
         ensures { IfSome result (λ c. IfSome c.talking T.Talking.can_poll) }
     {
         match &self.dialer {
-            Some(dialer) => Some(Call::new(server, dialer.connect(server), talk)),
+            Some(dialer) => Some(Call::new(dialer.connect(servers), talk)),
             None => {
                 drop(talk);
                 None
@@ -162,15 +150,47 @@ impl<D: Dial, T: Talk> Visit<D, T> {
         }
     }
 
-    // Makes the call, which has failed, once more at this address. It is gone if out of memory.
-    fn make_again(&mut self, server: SocketAddr)
+    // Whether the call, which has failed so, may be made once more over a new connection. Where the one that failed was new, its address is
+    // not tried again.
+    fn may_again(&mut self, fault: FetchFault) -> bool {
+        let Some(call) = &self.call else {
+            return false;
+        };
+        if call.may_retry(fault) {
+            return true;
+        }
+        if !call.may_go_on(fault) {
+            return false;
+        }
+        let server = call.server();
+        match (server, &mut self.servers) {
+            (Some(server), Some(servers)) => servers.take_out(server),
+            _ => false,
+        }
+    }
+
+    // Makes the call, which has failed, once more. It is gone if out of memory.
+    fn make_again(&mut self)
         ensures { IfSome self.new.call (λ c. IfSome c.talking T.Talking.can_poll) }
     {
         let Some(call) = self.call.take() else {
             return;
         };
-        let call = self.new_call(server, call.into_talk());
+        let call = self.call_again(call.into_talk());
         put(&mut self.call, call);
+    }
+
+    // The call, made once more. Returns `None` if out of memory.
+    fn call_again(&self, talk: T) -> Option<Call<D::Connecting, T>>
+        ensures { IfSome result (λ c. IfSome c.talking T.Talking.can_poll) }
+    {
+        match &self.servers {
+            Some(servers) => self.new_call(servers, talk),
+            None => {
+                drop(talk);
+                None
+            }
+        }
     }
 
     // Polls the call, and makes it once more where it has failed and may be.
@@ -203,13 +223,19 @@ impl<D: Dial, T: Talk> Visit<D, T> {
     fn makes_again(&mut self, fault: FetchFault) -> bool
         ensures { result ≡ true → IfSome self.new.call (λ c. IfSome c.talking T.Talking.can_poll) }
     {
-        match self.next_server(fault) {
-            Some(server) => {
-                self.make_again(server);
-                true
-            }
-            None => false,
+        if !self.may_again(fault) {
+            return false;
         }
+        self.make_again();
+        true
+    }
+}
+
+// How a visit ends whose addresses are not connected to.
+fn unadmitted<P: Drop>(fault: AdmitFault) -> Visited<P> {
+    match fault {
+        AdmitFault::Refused => Visited::Refused,
+        AdmitFault::NoMemory => Visited::Failed(FetchFault::NoMemory),
     }
 }
 
@@ -220,11 +246,13 @@ impl<D: Dial, T: Talk> Future for Visit<D, T> {
 
     fn poll(&mut self, cx: &mut Context<'_>) -> Poll<Visited<T::Page>> {
         if self.call.is_none() {
-            let Some(servers) = ready!(self.poll_server(cx)) else {
-                return Poll::Ready(Visited::Failed(FetchFault::Lookup));
+            let servers = match ready!(self.poll_server(cx)) {
+                Ok(servers) => servers,
+                Err(fault) => return Poll::Ready(Visited::Failed(fault)),
             };
-            let Some(servers) = self.admitted(servers) else {
-                return Poll::Ready(Visited::Refused);
+            let servers = match self.admitted(servers) {
+                Ok(servers) => servers,
+                Err(fault) => return Poll::Ready(unadmitted(fault)),
             };
             self.begin(servers);
         }

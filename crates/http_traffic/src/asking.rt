@@ -59,6 +59,8 @@ pub enum Outcome {
     },
     /// No object; answer with this status.
     Fail(u16),
+    /// No object, since the fetch that the request joined was ended for want of clients: it is to be handed in once more.
+    Again,
 }
 
 /// How a request that is not a hit is forwarded, as Cache-Status reports it.

@@ -5,19 +5,22 @@
 //! overflows. Tested by: crates/test_edge, tests/serve_passages.
 #![tactic(auto)]
 
+mod addresses;
 mod asking;
 mod orders;
 mod panel;
 mod passing;
 
+pub use addresses::{Addresses, AdmitFault, Beside, Found};
 pub use asking::{
     Asked, Asking, FollowUp, Forward, Front, How, Outcome, PassOn, Shape, Supplier, Told,
 };
 pub use orders::{
-    Addresses, Admit, FetchEnd, FetchFault, Fetched, Job, Order, Page, Server, Work,
+    Admit, Ended, FetchEnd, FetchFault, Fetched, Job, Order, Page, Progress, Server, Work,
     address_in_digits,
 };
 pub use panel::{CaptureFault, Figures, Panel, PutFault, StoreFault, StoreOrder};
 pub use passing::{
-    Coming, Early, PassFault, Passage, PassedHead, Passing, Piece, Road, Ticket, TunnelEnd,
+    Change, Coming, Early, LeftChange, PassFault, Passage, PassedHead, Passing, Piece, Road,
+    Ticket, TunnelEnd,
 };

@@ -1,12 +1,13 @@
 //! Fetches and their results.
-ghost use Rattle.std.specs.Prelude.{◌≡◌, ◌⊎◌, ◌↔◌, IfSome, IsSome, Some, true};
-
-use crate::passing::{Early, Passage};
+use crate::addresses::Addresses;
+use crate::passing::{Early, LeftChange, Passage};
 use futures::channel::oneshot;
 use http_header::HeaderMap;
 use std::alloc::Global;
 use std::net::{IpAddr, Ipv4Addr, Ipv6Addr, SocketAddr};
-use std::time::{Duration, Instant};
+use std::sync::Arc;
+use std::sync::atomic::{AtomicU64, Ordering};
+use std::time::Instant;
 
 /// A fetch to be made.
 #[derive(Drop)]
@@ -25,10 +26,70 @@ pub struct Order {
     pub is_origin: bool,
     /// Whether the client that began the fetch may have the answer while it is collected.
     pub is_early: bool,
+    /// The address of the client that began the fetch. `None` if none did.
+    pub asker: Option<IpAddr>,
     /// When the fetch times out.
     pub deadline: Instant,
     /// Cancels the fetch when its sender is dropped.
     pub wanted: oneshot::Receiver<()>,
+    /// Where is noted how much of the answer has come, if anybody looks at that.
+    pub progress: Option<Arc<Progress>>,
+}
+
+// What stands for a length that is not announced.
+const UNANNOUNCED: u64 = u64::MAX;
+
+/// How much of the answer of a fetch has come. Noted by the thread that fetches, and read by others.
+pub struct Progress {
+    announced: AtomicU64,
+    received: AtomicU64,
+}
+
+// Written by hand, so that what lets it go is one call for the prover (docs/GATE.md).
+impl Drop for Progress {
+    fn drop(self) {
+        let Self {
+            announced: _,
+            received: _,
+        } = self;
+    }
+}
+
+impl Progress {
+    /// Nothing has come, and no length is announced.
+    pub fn new() -> Progress {
+        Progress {
+            announced: AtomicU64::new(UNANNOUNCED),
+            received: AtomicU64::new(0),
+        }
+    }
+
+    /// Notes that the head of an answer has come, and the length of its content in octets if that is announced.
+    pub fn begin(&self, announced: Option<u64>) {
+        let length = announced.unwrap_or(UNANNOUNCED);
+        self.received.store(0, Ordering::SeqCst);
+        self.announced.store(length, Ordering::SeqCst);
+    }
+
+    /// Notes that so many octets of the content have come.
+    pub fn note(&self, octets: usize) {
+        self.received.store(octets as u64, Ordering::SeqCst);
+    }
+
+    /// The length of the content in octets, once it is announced.
+    pub fn announced(&self) -> Option<u64> {
+        let length = self.announced.load(Ordering::SeqCst);
+        if length == UNANNOUNCED {
+            None
+        } else {
+            Some(length)
+        }
+    }
+
+    /// How many octets of the content have come.
+    pub fn received(&self) -> u64 {
+        self.received.load(Ordering::SeqCst)
+    }
 }
 
 /// The address that a host has in digits: one of IPv4, or in brackets one of IPv6 (RFC 3986, section 3.2.2).
@@ -38,61 +99,6 @@ pub fn address_in_digits(host: &str) -> Option<IpAddr> {
     }
     let address = host.strip_prefix("[")?.strip_suffix("]")?;
     Some(IpAddr::V6(address.parse::<Ipv6Addr>().ok()?))
-}
-
-/// Where a server is connected to: at the first address, and where that cannot be, at the other one, if its name has one of each kind.
-#[derive(Clone, Copy, Debug, PartialEq, Eq)]
-pub struct Addresses {
-    pub first: SocketAddr,
-    pub other: Option<SocketAddr>,
-}
-
-impl Addresses {
-    /// This address alone.
-    pub fn one(first: SocketAddr) -> Addresses {
-        Addresses { first, other: None }
-    }
-
-    /// Those that are admitted, given whether the first is and whether the other is. `None` if none is. Of both the first stays first.
-    pub fn admitted(self, is_first: bool, is_other: bool) -> Option<Addresses>
-        ensures first { is_first ≡ true → IfSome result (λ a. a.first ≡ self.first) }
-        ensures only { IfSome result (λ a. ((a.first ≡ self.first) × (is_first ≡ true)) ⊎ ((Some a.first ≡ self.other) × (is_other ≡ true))) }
-        ensures other { IfSome result (λ a. IfSome a.other (λ other. (Some other ≡ self.other) × (is_other ≡ true))) }
-        ensures both { is_first ≡ true → is_other ≡ true → IfSome result (λ a. a.other ≡ self.other) }
-        ensures none { IsSome result ↔ ((is_first ≡ true) ⊎ ((is_other ≡ true) × IsSome self.other)) }
-    {
-        let first = self.first;
-        match self.other {
-            Some(other) if is_other => {
-                if is_first {
-                    Some(Addresses {
-                        first,
-                        other: Some(other),
-                    })
-                } else {
-                    Some(Addresses {
-                        first: other,
-                        other: None,
-                    })
-                }
-            }
-            _ => {
-                if is_first {
-                    Some(Addresses { first, other: None })
-                } else {
-                    None
-                }
-            }
-        }
-    }
-
-    /// The time that each of them has to be connected, of this time for all of them.
-    pub fn share(&self, connecting: Duration) -> Duration {
-        match self.other {
-            Some(_) => connecting.checked_div(2).unwrap_or(connecting),
-            None => connecting,
-        }
-    }
 }
 
 /// The server of an order.
@@ -148,10 +154,16 @@ pub enum FetchFault {
     TooLarge,
     /// It was not complete by its deadline.
     Time,
+    /// It was not complete by its deadline, and waited for room among the octets under way then.
+    Room,
+    /// Its content came slower than it has to.
+    Slow,
     /// Nobody wants it any more.
     Cancelled,
     /// Out of memory.
     NoMemory,
+    /// The program may open no more files for connections to servers.
+    NoFile,
 }
 
 /// How a fetch ended.
@@ -174,6 +186,15 @@ pub struct Fetched {
     pub attempt: u16,
     /// How it ended.
     pub end: FetchEnd,
+}
+
+/// What a fetch thread hands in.
+#[derive(Drop)]
+pub enum Ended {
+    /// The result of an order.
+    Fetched(Fetched),
+    /// A request whose client has gone, and which may have changed something.
+    Left(Box<LeftChange>),
 }
 
 /// Knows which servers may be fetched from as origin servers, and who began a fetch.

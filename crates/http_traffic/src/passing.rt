@@ -2,6 +2,9 @@
 use crate::orders::{FetchFault, Server};
 use futures::channel::{mpsc, oneshot};
 use http_header::HeaderMap;
+use object_store::CacheKey;
+use server_connections::ServerPlace;
+use std::mem;
 use std::sync::Arc;
 use std::sync::atomic::{AtomicUsize, Ordering};
 use std::time::{Duration, Instant};
@@ -44,6 +47,8 @@ pub struct Early {
     pub length: u64,
     /// The pieces of its content. They end without `Piece::End` if the answer does not become whole.
     pub pieces: mpsc::Receiver<Piece>,
+    /// Says that the client reads no more when it is dropped, if anybody is to know that.
+    pub reading: Option<oneshot::Sender<()>>,
 }
 
 /// Why a request that was passed on has no answer.
@@ -53,6 +58,25 @@ pub enum PassFault {
     Refused,
     /// No head of an answer came.
     Failed(FetchFault),
+}
+
+/// What a request with an unsafe method may change.
+#[derive(Drop)]
+pub struct Change {
+    /// The key of what it names.
+    pub key: CacheKey,
+    /// Its method, as sent.
+    pub method: String,
+}
+
+/// A request with an unsafe method whose client has gone before the head of its answer was given to it.
+#[derive(Drop)]
+pub struct LeftChange {
+    pub change: Change,
+    /// Whether all of the request was sent to its server.
+    pub is_whole: bool,
+    /// The status and the fields of the answer. `None` if no head came.
+    pub head: Option<(u16, HeaderMap)>,
 }
 
 /// A request to be passed on, without a limit on the length of its content or of the answer's.
@@ -68,6 +92,8 @@ pub struct Passage {
     pub fields: Vec<(Vec<u8>, Vec<u8>)>,
     /// The content; `None` if the request has none.
     pub content: Option<Coming>,
+    /// What it may change, if its method is unsafe.
+    pub change: Option<Change>,
     /// Whether the server is an origin server, and so has to be admitted; a neighbour is configured.
     pub is_origin: bool,
     /// How long neither side may be without an octet.
@@ -124,21 +150,34 @@ pub struct TunnelEnd {
 /// One of so many that may be under way at a time, until it is dropped.
 pub struct Ticket {
     count: Arc<AtomicUsize>,
+    // The place of its connection to a server, if it has one.
+    place: Option<ServerPlace>,
 }
 
 impl Ticket {
     /// Takes one. Returns `None` if `most` are taken, or if there are too many handles.
     pub fn take(count: &Arc<AtomicUsize>, most: usize) -> Option<Ticket> {
         let handle = Arc::try_clone(count).ok()?;
-        let ticket = Ticket { count: handle };
+        let ticket = Ticket {
+            count: handle,
+            place: None,
+        };
         let before = ticket.count.fetch_add(1, Ordering::SeqCst);
         if before < most { Some(ticket) } else { None }
+    }
+
+    /// This one, with the place of its connection to a server.
+    pub fn with_place(self, place: ServerPlace) -> Ticket {
+        let mut ticket = self;
+        drop(mem::replace(&mut ticket.place, Some(place)));
+        ticket
     }
 }
 
 impl Drop for Ticket {
     fn drop(self) {
-        let Ticket { count } = self;
+        let Ticket { count, place } = self;
+        drop(place);
         count.fetch_sub(1, Ordering::SeqCst);
     }
 }

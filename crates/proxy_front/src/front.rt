@@ -2,7 +2,7 @@
 use crate::handing::{Call, Returned, TakeCalls, hand_over};
 use crate::shapes::shape_of;
 use crossbeam_channel::Sender;
-use forwarding::{Field, KnownKeys, Profile, Waiting, server_in_digits};
+use forwarding::{Field, KnownKeys, Profile, Service, Waiting, server_in_digits};
 use futures::channel::oneshot;
 use http_rules::{
     Mirror, SixNetwork, TargetFault, has_come_back, has_long_name, is_host, is_plain_request,
@@ -99,9 +99,10 @@ impl<R: Drop, S: Drop, N: Drop> Drop for NodeFront<R, S, N> {
 /// What a fetch for a request forwards.
 #[derive(Drop)]
 struct Forwarded {
+    asker: IpAddr,
+    shared: Option<CacheKey>,
     fields: Vec<Field>,
-    looped: Option<CacheKey>,
-    validates: bool,
+    service: Service,
 }
 
 /// What became of the event of a request.
@@ -145,7 +146,7 @@ pub(crate) fn check_host(asked: &Asked) -> Result<(), u16> {
     }
 }
 
-/// What a fetch forwards for a request for this key in this mode, which has CDN-Loop fields only if `is_marked`. A private fetch for it
+/// What a fetch forwards for a request in this mode, which has CDN-Loop fields only if `is_marked`. A private fetch for it
 /// may ask the origin about what is there unless the request itself wants another answer. Errors: the HTTP status to answer.
 fn forwarded_of(
     alloc: Global,
@@ -154,18 +155,27 @@ fn forwarded_of(
     mode: Mode,
     is_marked: bool,
 ) -> Result<Forwarded, u16> {
-    let fields = fields_of(alloc, asked, mode, is_marked)?;
-    let is_looped = mode == Mode::Shared && !fields.is_empty();
-    match looped_of(key, is_looped) {
-        Ok(looped) => Ok(Forwarded {
+    let shared = shared_if(key, mode == Mode::Shared)?;
+    match fields_of(alloc, asked, mode, is_marked) {
+        Ok(fields) => Ok(Forwarded {
+            asker: asked.from,
+            shared,
             fields,
-            looped,
-            validates: mode == Mode::Private && may_validate(&asked.head),
+            service: service_in(mode, asked),
         }),
         Err(status) => {
-            drop(fields);
+            drop(shared);
             Err(status)
         }
+    }
+}
+
+/// What a request in this mode is served by. A fetch of its own may ask about what is there unless the request wants another answer.
+fn service_in(mode: Mode, asked: &Asked) -> Service {
+    match mode {
+        Mode::Shared => Service::Shared,
+        Mode::Private if may_validate(&asked.head) => Service::Asking,
+        Mode::Private | Mode::Cached => Service::Own,
     }
 }
 
@@ -185,9 +195,9 @@ fn fields_of(alloc: Global, asked: &Asked, mode: Mode, is_marked: bool) -> Resul
     }
 }
 
-/// The key of a request, if it is shared and has CDN-Loop fields. Errors: 503, as one owner more cannot be counted.
-fn looped_of(key: &CacheKey, is_looped: bool) -> Result<Option<CacheKey>, u16> {
-    if !is_looped {
+/// One owner more of a key, if it is to have one. Errors: 503, as one owner more cannot be counted.
+fn shared_if(key: &CacheKey, is_wanted: bool) -> Result<Option<CacheKey>, u16> {
+    if !is_wanted {
         return Ok(None);
     }
     match key.share() {
@@ -199,17 +209,20 @@ fn looped_of(key: &CacheKey, is_looped: bool) -> Result<Option<CacheKey>, u16> {
 /// A client that waits for its answer, before its fetch has started.
 fn waiting_of(reply: oneshot::Sender<Outcome>, forwarded: Forwarded) -> Waiting {
     let Forwarded {
+        asker,
+        shared,
         fields,
-        looped,
-        validates,
+        service,
     } = forwarded;
     Waiting {
         reply,
+        asker,
+        shared,
         fields,
-        looped,
-        validates,
+        looped: None,
+        service,
         fetch: None,
-        leads: None,
+        attends: None,
     }
 }
 
@@ -255,12 +268,12 @@ impl<R: Wait + Clock + Drop, S: Shared, N: TakeEvents> NodeFront<R, S, N> {
     /// Adds a waiting client.
     fn add(&self, client: u64, waiting: Waiting) -> Result<(), AllocError> {
         let mut mailbox = self.proxy.mail().mailbox.lock(&self.rt);
-        mailbox.add(self.alloc, client, waiting)
+        mailbox.add(client, waiting)
     }
 
-    /// Removes a client and cancels its private fetch.
+    /// Removes a client that has gone: its private fetch is cancelled, and a shared one may end for want of clients.
     fn forget(&self, client: u64) {
-        self.proxy.mail().mailbox.lock(&self.rt).remove(client);
+        self.proxy.mail().remove(&self.rt, client);
     }
 
     /// Submits an event. Returns the number of its actions, or `None` if it was refused.
@@ -268,10 +281,14 @@ impl<R: Wait + Clock + Drop, S: Shared, N: TakeEvents> NodeFront<R, S, N> {
         self.node.lock(&self.rt).take(event)
     }
 
-    /// Submits the event of a request. Returns `None` if it was refused.
-    fn take_request(&self, event: Event) -> Option<Taken> {
+    /// Submits the event of the request of this client, which has CDN-Loop fields only if `is_marked`. Returns `None` if it was refused.
+    fn take_request(&self, event: Event, client: u64, is_marked: bool) -> Option<Taken> {
         let mut node = self.node.lock(&self.rt);
-        let actions = node.take(event)?;
+        let actions = if is_marked {
+            node.take_marked(event, client)?
+        } else {
+            node.take(event)?
+        };
         Some(Taken {
             actions,
             given: node.given(),
@@ -317,6 +334,9 @@ impl<R: Wait + Clock + Drop, S: Shared, N: TakeEvents> NodeFront<R, S, N> {
     /// Fetches what is under a key for all, by a request of the cache's own, whose answer nobody waits for.
     pub(crate) fn fetch_for_all(&mut self, key: CacheKey) {
         let client = self.next_client();
+        self.proxy
+            .mail()
+            .spare(&self.rt, self.alloc, key.as_slice());
         let now = self.proxy.now(&self.rt);
         let event = Event::Request {
             client,
@@ -361,9 +381,51 @@ impl<R: Wait + Clock + Drop, S: Shared, N: TakeEvents> NodeFront<R, S, N> {
         }
     }
 
+    /// Submits a request for this key in this mode, as a new client, as `request_as` does; once more and alone where it has joined a fetch
+    /// whose answer is known not to be of use to it. It has CDN-Loop fields only if `is_marked`. Errors: the HTTP status to answer.
+    fn request(
+        &mut self,
+        asked: &Asked,
+        key: CacheKey,
+        mode: Mode,
+        is_marked: bool,
+    ) -> Result<Asking, u16> {
+        let asking = self.request_as(asked, key, mode, is_marked)?;
+        if asking.forward == Forward::Collapsed && self.is_kept_out(asked, asking.client) {
+            return self.request_instead(asked, asking, is_marked);
+        }
+        Ok(asking)
+    }
+
+    /// Whether this client, whose request has joined a fetch, is to ask alone, since answers of the URL can't be stored.
+    fn is_kept_out(&mut self, asked: &Asked, client: u64) -> bool {
+        let Ok(key) = self.key(asked) else {
+            return false;
+        };
+        let now = self.proxy.now(&self.rt);
+        let is_kept_out = self.proxy.mail().is_kept_out(&self.rt, client, &key, now);
+        drop(key);
+        is_kept_out
+    }
+
+    /// Submits a request that has joined a fetch once more, alone. Errors: the HTTP status to answer.
+    fn request_instead(
+        &mut self,
+        asked: &Asked,
+        joined: Asking,
+        is_marked: bool,
+    ) -> Result<Asking, u16> {
+        let client = joined.client;
+        drop(joined);
+        self.forget(client);
+        let _ = self.take(Event::Gone { client });
+        let key = self.key(asked)?;
+        self.request_as(asked, key, Mode::Private, is_marked)
+    }
+
     /// Submits a request for this key in this mode, as a new client; alone where it would join what was changed since it is being fetched.
     /// It has CDN-Loop fields only if `is_marked`. Errors: the HTTP status to answer.
-    fn request(
+    fn request_as(
         &mut self,
         asked: &Asked,
         key: CacheKey,
@@ -416,7 +478,7 @@ impl<R: Wait + Clock + Drop, S: Shared, N: TakeEvents> NodeFront<R, S, N> {
                 return Err(503);
             }
         };
-        let Some(taken) = self.take_new(client, key, mode) else {
+        let Some(taken) = self.take_new(client, key, mode, is_marked) else {
             drop(answer);
             return Err(503);
         };
@@ -427,20 +489,45 @@ impl<R: Wait + Clock + Drop, S: Shared, N: TakeEvents> NodeFront<R, S, N> {
             answer,
         };
         match mode {
-            Mode::Shared if !is_marked => Ok(self.with_stale(asked, taken.given, asking)),
+            Mode::Shared if is_marked => {
+                if taken.given == Given::Nothing {
+                    self.attend(asked, client);
+                }
+                Ok(self.with_marks(asked, asking))
+            }
+            Mode::Shared => Ok(self.with_stale(asked, taken.given, asking)),
             _ => Ok(asking),
         }
     }
 
-    /// Submits the event of a new client's request for this key. If it is refused, the client is no longer waiting, and this returns `None`.
-    fn take_new(&mut self, client: u64, key: CacheKey, mode: Mode) -> Option<Taken> {
+    /// A request for all clients that has CDN-Loop fields: where it began a fetch, that forwards them, whenever it is made. Where memory is
+    /// short, only what is fetched at once does.
+    fn with_marks(&mut self, asked: &Asked, asking: Asking) -> Asking {
+        if asking.forward == Forward::Miss
+            && let Ok(key) = self.key(asked)
+        {
+            let mut mailbox = self.proxy.mail().mailbox.lock(&self.rt);
+            let _ = mailbox.loop_from(self.alloc, asking.client, key);
+        }
+        asking
+    }
+
+    /// Submits the event of a new client's request for this key, which has CDN-Loop fields only if `is_marked`. If it is refused, the client
+    /// is no longer waiting, and this returns `None`.
+    fn take_new(
+        &mut self,
+        client: u64,
+        key: CacheKey,
+        mode: Mode,
+        is_marked: bool,
+    ) -> Option<Taken> {
         let event = Event::Request {
             client,
             key,
             mode,
             now: self.proxy.now(&self.rt),
         };
-        let taken = self.take_request(event);
+        let taken = self.take_request(event, client, is_marked);
         if taken.is_none() {
             self.forget(client);
         }
@@ -540,7 +627,7 @@ impl<R: Wait + Clock + Drop, S: Shared, N: TakeEvents> NodeFront<R, S, N> {
 
     fn tell(&mut self, told: &Told<'_>) -> Returned {
         let how = how_of(told);
-        if told.how == How::Passed && matches!(told.status, None | Some(502 | 504)) {
+        if told.how == How::Passed && matches!(told.status, Some(502 | 504)) {
             self.clear_unanswered(told);
         }
         let micros = micros_since(&self.rt, told.began);

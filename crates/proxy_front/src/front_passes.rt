@@ -7,14 +7,16 @@ use http_rules::{
     Authority, Onward, authority_of, changed_keys, has_come_back, is_for_server, is_unsafe, onward,
 };
 use http_traffic::{
-    Asked, Coming, PassFault, Passage, PassedHead, Passing, Piece, Road, Server, Ticket, Told,
-    TunnelEnd, address_in_digits,
+    Asked, Change, Coming, PassFault, Passage, PassedHead, Passing, Piece, Road, Server, Ticket,
+    Told, TunnelEnd, address_in_digits,
 };
 use node_core::Mode;
 use object_store::CacheKey;
-use proxy_state::{Onwards, Shared, TakeEvents, add_values, status_of, withdraw};
+use proxy_state::{
+    Onwards, Places, Shared, TakeEvents, add_values, status_of, tell_not_taken, withdraw,
+};
 use std::alloc::{AllocError, Global};
-use std::net::{Ipv4Addr, SocketAddr, SocketAddrV4};
+use std::net::{IpAddr, Ipv4Addr, SocketAddr, SocketAddrV4};
 use std::sync::Wait;
 use std::time::{Clock, Instant};
 
@@ -28,6 +30,23 @@ fn end_to_end_fields(alloc: Global, asked: &Asked) -> Result<Vec<Field>, u16> {
         Ok(Onward::Pass(fields)) => Ok(fields),
         Ok(Onward::Last) => Err(501),
         Err(fault) => Err(status_of(fault)),
+    }
+}
+
+/// What a request for this key may change, if its method is unsafe. Errors: 503, if out of memory.
+fn change_of(alloc: Global, asked: &Asked, key: &CacheKey) -> Result<Option<Change>, u16> {
+    if !is_unsafe(asked.method.as_str()) {
+        return Ok(None);
+    }
+    let Ok(method) = String::from_str(alloc, asked.method.as_str()) else {
+        return Err(503);
+    };
+    match key.share() {
+        Ok(key) => Ok(Some(Change { key, method })),
+        Err(_) => {
+            drop(method);
+            Err(503)
+        }
     }
 }
 
@@ -46,7 +65,9 @@ fn six_authority_of(target: &str) -> Option<Authority<'_>> {
 /// How a request is passed on.
 #[derive(Drop)]
 struct Way {
+    asker: IpAddr,
     fields: Vec<Field>,
+    change: Option<Change>,
     onwards: Onwards,
     ticket: Ticket,
 }
@@ -229,15 +250,35 @@ impl<R: Wait + Clock + Drop, S: Shared, N: TakeEvents> NodeFront<R, S, N> {
     // How a request for this key is passed on. Errors: the status to answer.
     fn way_under(&self, asked: &Asked, key: &CacheKey) -> Result<Way, u16> {
         self.check(asked, key, true)?;
-        let fields = self.onward_fields(asked)?;
+        let change = change_of(self.alloc, asked, key)?;
+        match self.onward_fields(asked) {
+            Ok(fields) => self.way_with(asked, key, fields, change),
+            Err(status) => {
+                drop(change);
+                Err(status)
+            }
+        }
+    }
+
+    // How a request for this key is passed on with these fields, which may change this. Errors: 503.
+    fn way_with(
+        &self,
+        asked: &Asked,
+        key: &CacheKey,
+        fields: Vec<Field>,
+        change: Option<Change>,
+    ) -> Result<Way, u16> {
         match self.road_for(asked, key) {
             Some((onwards, ticket)) => Ok(Way {
+                asker: asked.from,
                 fields,
+                change,
                 onwards,
                 ticket,
             }),
             None => {
                 drop(fields);
+                drop(change);
                 Err(503)
             }
         }
@@ -264,12 +305,33 @@ impl<R: Wait + Clock + Drop, S: Shared, N: TakeEvents> NodeFront<R, S, N> {
     fn road_on(&self, key: &CacheKey) -> Option<(Onwards, Ticket)> {
         let passes = self.proxy.passes();
         let onwards = passes.onwards(self.alloc, key)?;
-        match passes.streams.take() {
+        match self.ticket(&passes.streams) {
             Some(ticket) => Some((onwards, ticket)),
             None => {
                 drop(onwards);
                 None
             }
+        }
+    }
+
+    // One of these, with a place for its connection to a server. `None` if there are too many, or if no file is left for the connection,
+    // which is told.
+    fn ticket(&self, places: &Places) -> Option<Ticket> {
+        let ticket = places.take()?;
+        match self.proxy.passes().servers.take(&self.rt) {
+            Some(place) => Some(ticket.with_place(place)),
+            None => {
+                drop(ticket);
+                self.tell_no_file();
+                None
+            }
+        }
+    }
+
+    // Tells that no file is left for a connection to a server.
+    fn tell_no_file(&self) {
+        if let Some(notices) = &self.proxy.telling().notices {
+            notices.tell_no_file(&self.rt, self.alloc);
         }
     }
 
@@ -294,7 +356,9 @@ impl<R: Wait + Clock + Drop, S: Shared, N: TakeEvents> NodeFront<R, S, N> {
             passing,
         } = lines;
         let Way {
+            asker,
             fields,
+            change,
             onwards,
             ticket,
         } = way;
@@ -314,13 +378,14 @@ impl<R: Wait + Clock + Drop, S: Shared, N: TakeEvents> NodeFront<R, S, N> {
             target,
             fields,
             content,
+            change,
             is_origin,
             still: self.proxy.passes().stream_still,
             head,
             pieces,
             ticket,
         };
-        let sent = self.send_to(name.as_str(), port, passage);
+        let sent = self.send_to(name.as_str(), port, asker, passage);
         drop(name);
         match sent {
             Ok(()) => Ok(passing),
@@ -331,14 +396,28 @@ impl<R: Wait + Clock + Drop, S: Shared, N: TakeEvents> NodeFront<R, S, N> {
         }
     }
 
-    // Hands what is passed on to a fetch thread, for the server of this name. Errors: it was not taken, or out of memory.
-    fn send_to(&self, name: &str, port: u16, passage: Passage) -> Result<(), AllocError> {
+    // Hands what is passed on for this client to a fetch thread, for the server of this name. Errors: it was not taken, or out of memory.
+    fn send_to(
+        &self,
+        name: &str,
+        port: u16,
+        asker: IpAddr,
+        passage: Passage,
+    ) -> Result<(), AllocError> {
         // The count of this thread's clients, by which they take turns at the fetch threads.
         let count = self.last.checked_div(self.step).unwrap_or(0);
         let (rt, alloc) = (&self.rt, self.alloc);
-        self.proxy
+        let passed = self
+            .proxy
             .fetchers()
-            .pass_on(rt, alloc, count, name, port, passage)
+            .pass_on(rt, alloc, count, name, port, Some(asker), passage);
+        match passed {
+            Ok(()) => Ok(()),
+            Err(fault) => {
+                tell_not_taken(rt, alloc, &*self.proxy, Some(asker), fault);
+                Err(AllocError)
+            }
+        }
     }
 
     /// Takes out of the store what a request has changed whose answer has this head. Where memory is short, it stays there until it is
@@ -363,8 +442,8 @@ impl<R: Wait + Clock + Drop, S: Shared, N: TakeEvents> NodeFront<R, S, N> {
         }
     }
 
-    /// Takes out of the store what a request may have changed that has no answer of its server: its client has left before, or the server
-    /// was lost. Nobody knows then whether the server has carried it out.
+    /// Takes out of the store what a request may have changed whose server was lost before its answer. Nobody knows then whether that has
+    /// carried it out.
     pub(crate) fn clear_unanswered(&mut self, told: &Told<'_>) {
         let Some(asked) = told.asked else {
             return;
@@ -391,12 +470,13 @@ impl<R: Wait + Clock + Drop, S: Shared, N: TakeEvents> NodeFront<R, S, N> {
     }
 
     /// Where the tunnel leads that a request opens. Errors: 400 if its target is no host and port, or its Host no valid value, 403 if a tunnel
-    /// may not lead there, 508 if the request has come through this cache before, 503 if there are too many tunnels, or if out of memory.
+    /// may not lead there, 508 if the request has come through this cache before, 503 if there are too many tunnels, or no file for its
+    /// connection, or if out of memory.
     pub(crate) fn lead(&self, asked: &Asked) -> Result<TunnelEnd, u16> {
         check_host(asked)?;
         let authority = self.authority(asked).ok_or(400u16)?;
         self.check_end(asked, authority)?;
-        match self.proxy.passes().tunnels.take() {
+        match self.ticket(&self.proxy.passes().tunnels) {
             Some(ticket) => self.end_of(asked, authority, ticket),
             None => Err(503),
         }
@@ -459,18 +539,30 @@ impl<R: Wait + Clock + Drop, S: Shared, N: TakeEvents> NodeFront<R, S, N> {
         authority: Authority<'_>,
     ) -> Option<(Server, Option<Vec<u8>>)> {
         if self.proxy.passes().is_direct {
-            let Authority { host, port } = authority;
-            let server = self
-                .proxy
-                .fetchers()
-                .server_of(&self.rt, self.alloc, host, port)?;
-            return Some((server, None));
+            return Some((self.server_for(asked.from, authority)?, None));
         }
         let server = self.parent()?;
         match self.greeting(asked, authority) {
             Ok(greeting) => Some((server, Some(greeting))),
             Err(_) => {
                 drop(server);
+                None
+            }
+        }
+    }
+
+    // The server that a tunnel of this client leads to. `None` if there is no way to it.
+    fn server_for(&self, asker: IpAddr, authority: Authority<'_>) -> Option<Server> {
+        let Authority { host, port } = authority;
+        let (rt, alloc) = (&self.rt, self.alloc);
+        match self
+            .proxy
+            .fetchers()
+            .server_of(rt, alloc, host, port, Some(asker))
+        {
+            Ok(server) => Some(server),
+            Err(fault) => {
+                tell_not_taken(rt, alloc, &*self.proxy, Some(asker), fault);
                 None
             }
         }

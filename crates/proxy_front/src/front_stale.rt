@@ -50,7 +50,9 @@ impl<R: Wait + Clock + Drop, S: Shared, N: TakeEvents> NodeFront<R, S, N> {
     pub(crate) fn with_stale(&mut self, asked: &Asked, given: Given, asking: Asking) -> Asking {
         match given {
             Given::Nothing => {
-                self.give_stale(asked, asking.client);
+                if !self.give_stale(asked, asking.client) {
+                    self.attend(asked, asking.client);
+                }
                 if asking.forward == Forward::Miss {
                     self.expect_early(asked, asking.client);
                 }
@@ -157,28 +159,37 @@ impl<R: Wait + Clock + Drop, S: Shared, N: TakeEvents> NodeFront<R, S, N> {
     }
 
     /// Gives a client that waits for a fetch for all clients what is on the shelf, if it may have that while its origin is asked about it
-    /// (RFC 5861, section 3), or if it accepts that (RFC 9111, section 5.2.1.2). The fetch goes on without it, and it takes no place of
-    /// those who wait any more.
-    fn give_stale(&mut self, asked: &Asked, client: u64) {
+    /// (RFC 5861, section 3), or if it accepts that (RFC 9111, section 5.2.1.2). The fetch goes on without it for some time, and it takes no
+    /// place of those who wait any more. Returns whether it has been given something.
+    fn give_stale(&mut self, asked: &Asked, client: u64) -> bool {
         if self.proxy.kept().shelf.is_none() {
-            return;
+            return false;
         }
         let Some(occasion) = stale_use(&asked.head) else {
-            return;
+            return false;
         };
         let Ok(key) = self.key(asked) else {
-            return;
+            return false;
         };
         let found = self.stale(&key, occasion);
+        let is_given = match found {
+            Some(stale) => {
+                self.give_meanwhile(&key, client, stale);
+                true
+            }
+            None => false,
+        };
         drop(key);
-        if let Some(stale) = found {
-            let answer = outcome_of(stale);
-            self.proxy
-                .mail()
-                .mailbox
-                .lock(&self.rt)
-                .answer(client, answer);
-            let _ = self.take(Event::Gone { client });
-        }
+        is_given
+    }
+
+    /// Gives a client that waits for a fetch of this key for all clients something stale, without which that goes on for some time.
+    fn give_meanwhile(&mut self, key: &CacheKey, client: u64, stale: Stale) {
+        let mail = self.proxy.mail();
+        mail.spare(&self.rt, self.alloc, key.as_slice());
+        mail.mailbox
+            .lock(&self.rt)
+            .answer(client, outcome_of(stale));
+        let _ = self.take(Event::Gone { client });
     }
 }

@@ -6,12 +6,13 @@ use crate::state::AtDesk;
 use capture_tap::Recorder;
 use crossbeam_channel::Sender;
 use filter_slots::{Datagram, End, Judged, Moment, Socket};
-use http_traffic::Supplier;
 use mio_queries::Bell;
 use node_book::{Clerk, Programs, Seat, SubmitFault};
 use node_core::{Action, Answer, Event, NoMemory, Out, Outcome};
 use object_store::CacheKey;
-use proxy_state::{Attempt, Given, Shared, TakeEvents, note_query, note_reply, perform};
+use proxy_state::{
+    Attempt, Cause, Given, Shared, TakeEvents, Unstarted, note_query, note_reply, perform,
+};
 use std::alloc::Global;
 use std::mem;
 use std::sync::ledger::Ledger;
@@ -74,8 +75,11 @@ pub struct NodeHandle<R, S, L: Ledger> {
     // Where datagrams go; `None` in the query thread, which sends them itself, and in threads whose events send none.
     outbox: Option<Outbox>,
     programs: Programs,
-    // Whom the object of the fetch was fetched from whose result is being submitted.
-    supplier: Option<Supplier>,
+    // What the actions follow from of the event that is being submitted.
+    cause: Cause,
+    // The client whose request was taken last, and what that has given it.
+    client: Option<u64>,
+    given: Given,
     // Events submitted, modulo 2^32.
     submitted: u32,
     // Records datagrams for the administration. Only in the query thread, whose events come through `Clerk`.
@@ -99,7 +103,9 @@ impl<R: Wait + Clock + Drop, S: AtDesk<L>, L: Ledger> NodeHandle<R, S, L> {
             out: None,
             outbox,
             programs: Programs::new(),
-            supplier: None,
+            cause: Cause::request(),
+            client: None,
+            given: Given::Nothing,
             submitted: 0,
             recorder: Recorder::new(),
         }
@@ -123,17 +129,35 @@ impl<R: Wait + Clock + Drop, S: AtDesk<L>, L: Ledger> NodeHandle<R, S, L> {
             let Some(failed) = self.proxy.mail().next_failure(&self.rt) else {
                 return;
             };
-            let event = Event::Fetched {
-                fetch: failed.fetch,
-                attempt: failed.attempt,
-                result: Outcome::Failed,
-                now: self.proxy.now(&self.rt),
-            };
-            if self.hand_in(event).is_err() {
+            if self.report(failed).is_err() {
                 self.proxy.mail().record_failure(&self.rt, failed);
                 return;
             }
         }
+    }
+
+    // Reports to the node a fetch that no thread has started.
+    fn report(&mut self, failed: Attempt) -> Result<usize, SubmitFault> {
+        let event = Event::Fetched {
+            fetch: failed.fetch,
+            attempt: failed.attempt,
+            result: Outcome::Failed,
+            now: self.proxy.now(&self.rt),
+        };
+        let cause = if failed.is_unwanted {
+            Cause::unwanted()
+        } else {
+            Cause::result(None)
+        };
+        self.hand_in_by(event, cause)
+    }
+
+    // As `hand_in`, for an event whose actions follow from this.
+    fn hand_in_by(&mut self, event: Event, cause: Cause) -> Result<usize, SubmitFault> {
+        self.cause = cause;
+        let handed = self.hand_in(event);
+        self.cause = Cause::request();
+        handed
     }
 
     // Reports the fetches that no thread could start, after an event that was taken. Returns the number of its actions.
@@ -183,6 +207,7 @@ impl<R: Wait + Clock + Drop, S: AtDesk<L>, L: Ledger> NodeHandle<R, S, L> {
             .submit(&self.rt, self.alloc, &mut self.seat, event, out)?;
         self.audit();
         for action in out.actions() {
+            self.note_given(action);
             self.carry_out(action);
         }
         Ok(out.actions().len())
@@ -203,6 +228,28 @@ impl<R: Wait + Clock + Drop, S: AtDesk<L>, L: Ledger> NodeHandle<R, S, L> {
         }
     }
 
+    // Notes that nothing was given yet to the client of this event, if it is a request.
+    fn begin_request(&mut self, event: &Event) {
+        self.given = Given::Nothing;
+        self.client = match event {
+            Event::Request { client, .. } => Some(*client),
+            _ => None,
+        };
+    }
+
+    // Notes what an action gives the client whose request was taken last. Actions of other events, which are reported with it, may be for
+    // others.
+    fn note_given(&mut self, action: &Action) {
+        if let Action::Serve { client, answer } = action
+            && self.client == Some(*client)
+        {
+            self.given = match answer {
+                Answer::Fail(_) => Given::Refusal,
+                _ => Given::Object,
+            };
+        }
+    }
+
     fn carry_out(&mut self, action: &Action) {
         if let Action::Send {
             socket,
@@ -213,18 +260,19 @@ impl<R: Wait + Clock + Drop, S: AtDesk<L>, L: Ledger> NodeHandle<R, S, L> {
             self.queue(*socket, *to, payload.as_slice());
             return;
         }
-        self.perform_or_record(action);
+        self.perform_or_record(action, &self.cause);
     }
 
-    // Carries out an action other than `Send`. A fetch that cannot be started is recorded.
-    fn perform_or_record(&self, action: &Action) {
-        let passed = perform(&self.rt, self.alloc, &*self.proxy, action, self.supplier);
-        if passed.is_err()
+    // Carries out an action other than `Send`, which follows from this. A fetch that is not started is recorded.
+    fn perform_or_record(&self, action: &Action, cause: &Cause) {
+        let passed = perform(&self.rt, self.alloc, &*self.proxy, action, cause);
+        if let Err(fault) = passed
             && let Action::Fetch { fetch, attempt, .. } = action
         {
             let failed = Attempt {
                 fetch: *fetch,
                 attempt: *attempt,
+                is_unwanted: fault == Unstarted::Unwanted,
             };
             self.proxy.mail().record_failure(&self.rt, failed);
         }
@@ -258,31 +306,23 @@ impl<R: Wait + Clock + Drop, S: AtDesk<L>, L: Ledger> NodeHandle<R, S, L> {
 
 impl<R: Wait + Clock + Drop, S: AtDesk<L>, L: Ledger> TakeEvents for NodeHandle<R, S, L> {
     fn take(&mut self, event: Event) -> Option<usize> {
+        self.begin_request(&event);
         let handed = self.hand_in(event);
         self.reported_after(handed)
     }
 
-    fn given(&self) -> Given {
-        let Some(out) = &self.out else {
-            return Given::Nothing;
-        };
-        for action in out.actions() {
-            match action {
-                Action::Serve {
-                    answer: Answer::Fail(_),
-                    ..
-                } => return Given::Refusal,
-                Action::Serve { .. } => return Given::Object,
-                _ => {}
-            }
-        }
-        Given::Nothing
+    fn take_marked(&mut self, event: Event, client: u64) -> Option<usize> {
+        self.begin_request(&event);
+        let handed = self.hand_in_by(event, Cause::marked(client));
+        self.reported_after(handed)
     }
 
-    fn take_fetched(&mut self, event: Event, supplier: Option<Supplier>) -> Option<usize> {
-        self.supplier = supplier;
-        let handed = self.hand_in(event);
-        self.supplier = None;
+    fn given(&self) -> Given {
+        self.given
+    }
+
+    fn take_fetched(&mut self, event: Event, cause: Cause) -> Option<usize> {
+        let handed = self.hand_in_by(event, cause);
         self.reported_after(handed)
     }
 }
@@ -338,7 +378,7 @@ impl<R: Wait + Clock + Drop, S: AtDesk<L>, L: Ledger> Clerk for NodeHandle<R, S,
     }
 
     fn pass(&mut self, _alloc: Global, action: &Action) -> Result<(), NoMemory> {
-        self.perform_or_record(action);
+        self.perform_or_record(action, &Cause::round());
         Ok(())
     }
 

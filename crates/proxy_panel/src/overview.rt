@@ -1,8 +1,9 @@
 //! All that the texts of figures show, gathered from the node and the threads.
 use crate::overseen::Overseen;
+use name_lookup::NameCounts;
 use node_book::NeighbourView;
 use node_core::Counters;
-use proxy_state::{AccessLog, Passes, Shared, date_seconds};
+use proxy_state::{AccessLog, Fetchers, Passes, Shared, date_seconds};
 use std::alloc::{AllocError, AllocGlobal, Global};
 use std::fs;
 use std::fs::Files;
@@ -11,7 +12,8 @@ use std::sync::Wait;
 use std::sync::atomic::Ordering;
 use std::time::{Clock, Instant};
 use traffic_figures::{
-    LogLines, NeighbourFigures, NeighbourState, Page, Snapshot, SocketFigures, Sockets,
+    LogLines, LookUps, NeighbourFigures, NeighbourState, Page, ServerConnectionFigures, Snapshot,
+    SocketFigures, Sockets,
 };
 
 /// The octets of a page of memory, as the system's counts of them have it.
@@ -81,9 +83,14 @@ fn gathered<R: Wait + Clock, S: Overseen>(
         neighbours,
         connections: Some(telling.connections.load(Ordering::SeqCst) as u64),
         fetching: Some(fetching),
+        wanted_octets: Some(telling.wanted_octets.load(Ordering::SeqCst)),
         waiting: Some(waiting),
         streams: streams_of(passes),
         tunnels: tunnels_of(passes),
+        attempts: proxy.fetchers().attempts(rt),
+        look_ups: look_ups_of(rt, proxy.fetchers()),
+        servers: Some(servers_of(rt, passes)),
+        unwanted: unwanted_of(proxy),
         objects: Some(sizes.objects as u64),
         stored: Some(sizes.octets),
         evictions: Some(sizes.evictions),
@@ -103,10 +110,45 @@ fn streams_of(passes: &Passes) -> Option<u64> {
     }
 }
 
+// How many names wait and are being looked up. `None` once the proxy ends.
+fn look_ups_of<R: Wait>(rt: &R, fetchers: &Fetchers) -> Option<LookUps> {
+    let NameCounts {
+        waiting,
+        under_way,
+        failed,
+        refused,
+    } = fetchers.name_counts(rt)?;
+    Some(LookUps {
+        waiting,
+        under_way,
+        failed,
+        refused,
+    })
+}
+
+// The connections to servers.
+fn servers_of<R: Wait>(rt: &R, passes: &Passes) -> ServerConnectionFigures {
+    let servers = &passes.servers;
+    ServerConnectionFigures {
+        busy: servers.busy() as u64,
+        idle: servers.idle(rt) as u64,
+        refused: servers.refused(),
+    }
+}
+
 // How many tunnels are open. `None` if there never are any.
 fn tunnels_of(passes: &Passes) -> Option<u64> {
     if passes.has_tunnels() {
         Some(passes.tunnels.taken())
+    } else {
+        None
+    }
+}
+
+// How many fetches were ended for want of clients. `None` if none ever are.
+fn unwanted_of<S: Overseen>(proxy: &S) -> Option<u64> {
+    if proxy.mail().ends_unwanted {
+        Some(proxy.telling().figures.unwanted())
     } else {
         None
     }

@@ -1,17 +1,22 @@
 //! Results of fetches on their way to the node.
 use crossbeam_channel::Sender;
+use fair_use::{SharedEnd, Upload, may_have_changed};
 use fetch_chain::Submit;
 use filter_slots::Moment;
 use forwarding::{
-    Exchange, Flight, Landed, Life, Profile, confirmed, has_other_rules, hides_rules, object_of,
-    refusal, stale_object, unkept_object,
+    Exchange, Flight, Landed, Life, Profile, Unwanted, confirmed, has_other_rules, hides_rules,
+    object_of, refusal, stale_object, unkept_object,
 };
-use http_rules::{StaleUse, complete_length, is_error, supersedes};
-use http_traffic::{FetchEnd, FetchFault, Fetched, Page, Supplier};
+use http_header::HeaderMap;
+use http_rules::{StaleUse, changed_keys, complete_length, is_error, supersedes};
+use http_traffic::{Change, Ended, FetchEnd, FetchFault, Fetched, LeftChange, Page, Supplier};
 use httpdate::HttpDate;
 use node_core::{Event, Mode, Outcome};
 use object_store::{CacheKey, SharedObject};
-use proxy_state::{RETRIES, RETRY_MILLIS, Shared, Stale, TakeEvents, date_seconds, micros_since};
+use proxy_state::{
+    Cause, RETRIES, RETRY_MILLIS, Shared, Stale, TakeEvents, begin_again, date_seconds,
+    micros_since, withdraw,
+};
 use std::alloc::Global;
 use std::sync::{Arc, RwLock, Wait};
 use std::time::{Clock, Duration};
@@ -58,10 +63,13 @@ fn is_down(flight: Flight, end: &FetchEnd) -> bool {
             fault,
             FetchFault::Lookup
                 | FetchFault::Connect
+                | FetchFault::NoFile
                 | FetchFault::Cut
                 | FetchFault::NotHttp
                 | FetchFault::LargeHead
                 | FetchFault::Time
+                | FetchFault::Room
+                | FetchFault::Slow
         ),
         FetchEnd::Refused => false,
     }
@@ -82,7 +90,12 @@ fn is_unanswered(landed: &Landed, end: &FetchEnd) -> bool {
             FetchEnd::Whole(page) => page.status == PRECONDITION_FAILED,
             FetchEnd::Failed(fault) => matches!(
                 fault,
-                FetchFault::Cut | FetchFault::NotHttp | FetchFault::LargeHead | FetchFault::Time
+                FetchFault::Cut
+                    | FetchFault::NotHttp
+                    | FetchFault::LargeHead
+                    | FetchFault::Time
+                    | FetchFault::Room
+                    | FetchFault::Slow
             ),
             FetchEnd::Refused => false,
         }
@@ -150,6 +163,44 @@ impl Brought {
     }
 }
 
+/// What came of a fetch, as far as that is known before an object is made of it.
+#[derive(Clone, Copy)]
+enum Came {
+    /// A response.
+    Head,
+    /// A response whose content is too long.
+    TooLarge,
+    /// Whatever came was changed meanwhile.
+    Overtaken,
+    /// No response.
+    Nothing,
+}
+
+impl Came {
+    /// What came of an attempt that has ended so.
+    fn of(landed: &Landed, end: &FetchEnd) -> Came {
+        match end {
+            _ if landed.is_outdated => Came::Overtaken,
+            FetchEnd::Whole(_) => Came::Head,
+            FetchEnd::Failed(FetchFault::TooLarge) => Came::TooLarge,
+            FetchEnd::Failed(_) | FetchEnd::Refused => Came::Nothing,
+        }
+    }
+
+    /// How the fetch ended of which this is handed in. What stands in place of an error is no response of its origin.
+    fn end_with(self, delivery: &Delivery, is_replaced: bool) -> SharedEnd {
+        match (self, &delivery.brought.object) {
+            (Came::Overtaken, _) => SharedEnd::Overtaken,
+            (Came::TooLarge, _) => SharedEnd::TooLarge,
+            (Came::Head, Some(object)) if !is_replaced => match object.get().life() {
+                0 => SharedEnd::Unstorable(object.get().status()),
+                _ => SharedEnd::Storable,
+            },
+            (Came::Head | Came::Nothing, _) => SharedEnd::Headless,
+        }
+    }
+}
+
 /// What is handed in of a fetch, and whom its object comes from.
 struct Delivery {
     brought: Brought,
@@ -182,6 +233,8 @@ struct Made {
     is_unanswered: bool,
     delivery: Delivery,
     replaced: Option<Replaced>,
+    /// How the fetch ended, for who asks for the same next.
+    end: SharedEnd,
 }
 
 // Written by hand, so that what lets it go is one call for the prover (docs/GATE.md).
@@ -193,6 +246,7 @@ impl Drop for Made {
             is_unanswered: _,
             delivery: _,
             replaced: _,
+            end: _,
         } = self;
     }
 }
@@ -230,7 +284,7 @@ fn take<N: TakeEvents>(
     node: &mut N,
     fetch: u32,
     attempt: u16,
-    supplier: Option<Supplier>,
+    cause: Cause,
     outcome: Outcome,
     now: Moment,
 ) -> bool {
@@ -240,7 +294,7 @@ fn take<N: TakeEvents>(
         result: outcome,
         now,
     };
-    node.take_fetched(event, supplier).is_some()
+    node.take_fetched(event, cause).is_some()
 }
 
 impl<R: Wait + Clock + Drop, S: Shared, N: TakeEvents> Results<R, S, N> {
@@ -498,6 +552,7 @@ impl<R: Wait + Clock + Drop, S: Shared, N: TakeEvents> Results<R, S, N> {
         self.note_all(fetch, flight, &end);
         let key = self.key_of(fetch);
         let is_unanswered = is_unanswered(&landed, &end);
+        let came = Came::of(&landed, &end);
         let (delivery, replaced) = match self.stale(key.as_ref(), &landed, &end) {
             Some(stale) => (stale, Some(Replaced { landed, end })),
             None => {
@@ -510,6 +565,7 @@ impl<R: Wait + Clock + Drop, S: Shared, N: TakeEvents> Results<R, S, N> {
             flight,
             key,
             is_unanswered,
+            end: came.end_with(&delivery, replaced.is_some()),
             delivery,
             replaced,
         }
@@ -535,6 +591,7 @@ impl<R: Wait + Clock + Drop, S: Shared, N: TakeEvents> Results<R, S, N> {
 
     // Makes anew what is handed in of a fetch, after a change: so that it is not kept, and without what the change has taken off the shelf.
     fn make_unkept(&self, made: &mut Made) {
+        made.end = SharedEnd::Overtaken;
         match made.replaced.take() {
             Some(replaced) => {
                 let delivery = self.in_its_place(made.key.as_ref(), replaced);
@@ -596,9 +653,31 @@ impl<R: Wait + Clock + Drop, S: Shared, N: TakeEvents> Results<R, S, N> {
     }
 
     // Hands in that an attempt has failed.
-    fn fail(&mut self, fetch: u32, attempt: u16) -> bool {
+    fn fail(&mut self, fetch: u32, attempt: u16, cause: Cause) -> bool {
         let now = self.proxy.now(&self.rt);
-        take(&mut self.node, fetch, attempt, None, Outcome::Failed, now)
+        take(&mut self.node, fetch, attempt, cause, Outcome::Failed, now)
+    }
+
+    // Hands in that an attempt was ended for want of clients, unless one waits for it again: then it is begun once more. It is neither counted
+    // nor told as one that failed, nothing stale takes its place, and what it asked about is asked about again.
+    fn leave(&mut self, fetch: u32, attempt: u16, unwanted: Unwanted) -> bool {
+        let Unwanted { flight, is_awaited } = unwanted;
+        if is_awaited {
+            let begun = begin_again(&self.rt, self.alloc, &*self.proxy, fetch, attempt, flight);
+            return begun.is_ok() || self.fail(fetch, attempt, Cause::unwanted());
+        }
+        self.proxy.telling().figures.note_unwanted();
+        self.fail(fetch, attempt, Cause::unwanted())
+    }
+
+    // What is known of an attempt that has ended so, if that is for want of clients.
+    fn unwanted(&self, fetch: u32, end: &FetchEnd) -> Option<Unwanted> {
+        match end {
+            FetchEnd::Failed(FetchFault::Cancelled) => {
+                self.proxy.mail().take_unwanted(&self.rt, fetch)
+            }
+            _ => None,
+        }
     }
 
     // Hands in how an attempt has ended. Whatever takes long with a long body is done before any change has to wait for this; what was
@@ -613,6 +692,11 @@ impl<R: Wait + Clock + Drop, S: Shared, N: TakeEvents> Results<R, S, N> {
             attempt,
             end,
         } = done;
+        if let Some(unwanted) = self.unwanted(fetch, &end) {
+            drop(changes);
+            drop(end);
+            return self.leave(fetch, attempt, unwanted);
+        }
         let mut made = self.make(fetch, end);
         let is_taken = self.hand_in_at_last(&changes, fetch, attempt, &mut made);
         drop(made);
@@ -664,6 +748,7 @@ impl<R: Wait + Clock + Drop, S: Shared, N: TakeEvents> Results<R, S, N> {
     // Takes an attempt out of the mailbox, has the shelf know what it brought, and hands that in.
     fn deliver(&mut self, fetch: u32, attempt: u16, made: &mut Made) -> bool {
         self.proxy.mail().end(&self.rt, fetch);
+        self.note_end(fetch, made);
         if let Some(key) = &made.key {
             self.settle(key, made);
         }
@@ -671,15 +756,31 @@ impl<R: Wait + Clock + Drop, S: Shared, N: TakeEvents> Results<R, S, N> {
             Some(object) => Outcome::Object(object),
             None => Outcome::Failed,
         };
-        let supplier = made.delivery.supplier;
+        let cause = Cause::result(made.delivery.supplier);
         let now = self.proxy.now(&self.rt);
-        take(&mut self.node, fetch, attempt, supplier, outcome, now)
+        take(&mut self.node, fetch, attempt, cause, outcome, now)
+    }
+
+    // Notes how a fetch for all clients ended, for who asks for the same next.
+    fn note_end(&self, fetch: u32, made: &Made) {
+        if made.flight.mode != Mode::Shared || made.end == SharedEnd::Headless {
+            return;
+        }
+        if let Ok(Some(key)) = self.proxy.key_of(&self.rt, fetch) {
+            let now = self.proxy.now(&self.rt);
+            self.proxy
+                .mail()
+                .note_shared_end(&self.rt, key, made.end, now);
+        }
     }
 
     // Does beside handing in what a fetch of this key asks for.
     fn settle(&self, key: &CacheKey, made: &Made) {
         let kept = self.proxy.kept();
         let brought = &made.delivery.brought;
+        if made.flight.mode == Mode::Shared && brought.object.is_some() {
+            self.proxy.mail().spare_no_more(&self.rt, key.as_slice());
+        }
         if made.is_unanswered
             && let Ok(key) = key.share()
         {
@@ -705,24 +806,91 @@ impl<R: Wait + Clock + Drop, S: Shared, N: TakeEvents> Results<R, S, N> {
     }
 }
 
-impl<R: Wait + Clock + Drop, S: Shared, N: TakeEvents> Submit<Fetched> for Results<R, S, N> {
-    fn opened(&mut self) {
-        if let Some(to) = self.opened.take() {
-            let _ = to.send(&self.rt, ());
-        }
-    }
-
-    fn submit(&mut self, done: Fetched) {
+impl<R: Wait + Clock + Drop, S: Shared, N: TakeEvents> Results<R, S, N> {
+    // Hands in how an attempt has ended, and where memory is short, by and by that it has failed.
+    fn submit_fetched(&mut self, done: Fetched) {
         let (fetch, attempt) = (done.fetch, done.attempt);
         if self.land(done) {
             return;
         }
         for _ in 0..RETRIES {
             thread::sleep(&self.rt, Duration::from_millis(RETRY_MILLIS));
-            if self.fail(fetch, attempt) {
+            if self.fail(fetch, attempt, Cause::result(None)) {
                 return;
             }
         }
         self.give_up();
+    }
+
+    // Takes out of the store what a request may have changed whose client has gone: by its answer, or without one if all of it was sent.
+    fn submit_left(&mut self, left: Box<LeftChange>) {
+        let LeftChange {
+            change,
+            is_whole,
+            head,
+        } = Box::into_inner(left);
+        let upload = if is_whole {
+            Upload::Whole
+        } else {
+            Upload::Broken
+        };
+        let status = match &head {
+            Some((status, _)) => Some(*status),
+            None => None,
+        };
+        if may_have_changed(upload, status) {
+            self.clear_change(&change, &head);
+        }
+        drop(head);
+        drop(change);
+    }
+
+    // Takes out what a request has changed whose answer has this head, or what it names if there is none. Where memory is short, it stays
+    // until it is stale.
+    fn clear_change(&mut self, change: &Change, head: &Option<(u16, HeaderMap)>) {
+        let Some((status, fields)) = head else {
+            self.clear(&change.key);
+            return;
+        };
+        let method = change.method.as_str();
+        if let Ok(changed) = changed_keys(self.alloc, &change.key, method, *status, fields) {
+            self.clear_all(changed.as_slice());
+            drop(changed);
+        }
+    }
+
+    // Takes what is stored under each of these keys out of the store and off the shelf.
+    fn clear_all(&mut self, changed: &[CacheKey]) {
+        for key in changed {
+            self.clear(key);
+        }
+    }
+
+    // Takes what is stored under a key out of the store and off the shelf, as the administration does.
+    fn clear(&mut self, key: &CacheKey) {
+        withdraw(&self.rt, &*self.proxy, key);
+        let now = self.proxy.now(&self.rt);
+        let event = self.proxy.passes().purger.event(self.alloc, key, now);
+        match event {
+            Ok(event) => {
+                let _ = self.node.take(event);
+            }
+            Err(fault) => drop(fault),
+        }
+    }
+}
+
+impl<R: Wait + Clock + Drop, S: Shared, N: TakeEvents> Submit<Ended> for Results<R, S, N> {
+    fn opened(&mut self) {
+        if let Some(to) = self.opened.take() {
+            let _ = to.send(&self.rt, ());
+        }
+    }
+
+    fn submit(&mut self, done: Ended) {
+        match done {
+            Ended::Fetched(done) => self.submit_fetched(done),
+            Ended::Left(left) => self.submit_left(left),
+        }
     }
 }

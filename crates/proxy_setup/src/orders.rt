@@ -68,7 +68,7 @@ fn keeping_of(alloc: Global, settings: &mut Settings) -> Result<Keeping, AllocEr
 }
 
 /// What takes objects out of the store, with the first of the node's keys. Errors: there is none, or out of memory.
-fn purger_of(alloc: Global, config: &Config) -> Result<Purger, AllocError> {
+pub(crate) fn purger_of(alloc: Global, config: &Config) -> Result<Purger, AllocError> {
     let Some(key) = config.keys.as_slice().first() else {
         return Err(AllocError);
     };

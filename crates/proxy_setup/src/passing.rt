@@ -1,14 +1,17 @@
 //! What passes the proxy without the node, as the settings say it.
+use crate::orders::purger_of;
 use forwarding::Peer;
 use http_rules::{OriginRules, is_unsafe};
 use neighbours::Role;
 use node_core::Config;
 use object_store::KeyHashes;
+use proxy_site::FETCHERS;
 use proxy_state::{LargeKeys, Passes, Places};
 use serve_config::{Large, Settings};
+use server_connections::ServerConnections;
 use std::alloc::{AllocError, Global};
 use std::mem;
-use std::sync::Mutex;
+use std::sync::{Arc, Mutex};
 use std::time::Duration;
 
 /// How many seconds neither side of a request that is passed on may be without an octet.
@@ -55,6 +58,8 @@ pub(crate) fn passes_of(
         connecting,
         is_direct: settings.node.origin,
         parent: parent_of(&settings.node),
+        servers: Arc::new(alloc, ServerConnections::new(alloc, FETCHERS)?)?,
+        purger: purger_of(alloc, &settings.node)?,
     })
 }
 

@@ -250,7 +250,11 @@ fn around_in(
     told: Logs,
     started: Option<Instant>,
 ) -> Result<Around, AllocError> {
-    let (timeline, mail) = (Timeline::new(alloc), Mail::new(alloc));
+    let quick_abort = match settings.quick_abort_octets {
+        Some(octets) => Some(u64::from(octets)),
+        None => None,
+    };
+    let (timeline, mail) = (Timeline::new(alloc), Mail::new(alloc, hashes, quick_abort));
     let kept = kept_in(alloc, settings, hashes);
     let telling = telling_in(alloc, settings, told, started);
     let (outward, passes) = outward?;
@@ -320,6 +324,7 @@ fn telling_in(
         figures: Figures::new(alloc, neighbours.len())?,
         ends: NeighbourEnds::new(alloc, neighbours)?,
         connections: Arc::new(alloc, AtomicUsize::new(0))?,
+        wanted_octets: Arc::new(alloc, AtomicU64::new(0))?,
         answered: AtomicU64::new(0),
         log,
         notices,

@@ -2,6 +2,7 @@
 use crate::passes::Passes;
 use crate::shared::Shared;
 use forwarding::Led;
+use futures::channel::oneshot;
 use http_traffic::{Early, Outcome};
 use std::alloc::Global;
 use std::sync::Wait;
@@ -23,14 +24,26 @@ pub(crate) fn give_early<R: Wait + Clock, S: Shared>(
     let Some(early) = proxy.outward().whole_head(rt, alloc, early) else {
         return false;
     };
-    let led = proxy.mail().mailbox.lock(rt).take_leader(fetch);
+    let Ok((reading, read)) = oneshot::channel(alloc) else {
+        drop(early);
+        return false;
+    };
+    let led = proxy.mail().mailbox.lock(rt).take_leader(fetch, read);
     match led {
-        Some(led) => give_to(led, early),
+        Some(led) => give_to(led, with_reading(early, reading)),
         None => {
+            drop(reading);
             drop(early);
             false
         }
     }
+}
+
+// This answer, whose client says so when it reads no more.
+fn with_reading(early: Box<Early>, reading: oneshot::Sender<()>) -> Box<Early> {
+    let mut early = early;
+    early.reading = Some(reading);
+    early
 }
 
 // Gives a client an answer while it is collected. Returns whether it takes it.

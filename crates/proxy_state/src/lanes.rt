@@ -1,11 +1,12 @@
 //! The ways to the threads that fetch.
 use futures::channel::mpsc::UnboundedSender;
 use http_traffic::{Job, Order, Passage, Server};
-use name_lookup::{NameDesk, hand_over, pass_over, server_of};
-use node_core::NoMemory;
-use std::alloc::{AllocError, Global};
+use name_lookup::{NameCounts, NameDesk, NotTaken, hand_over, pass_over, server_of};
+use std::alloc::Global;
+use std::net::IpAddr;
 use std::sync::{Mutex, Wait};
 use std::time::Clock;
+use traffic_figures::AttemptFigures;
 
 /// Senders to the threads that fetch.
 pub struct Lanes {
@@ -54,7 +55,7 @@ impl Fetchers {
         drop(lanes);
     }
 
-    /// Sends an order to a fetch thread, for the server of this name. Returns whether it was accepted.
+    /// Sends an order to a fetch thread, for the server of this name. Errors: it was not taken.
     pub fn send<R: Wait + Clock>(
         &self,
         rt: &R,
@@ -62,21 +63,21 @@ impl Fetchers {
         name: String,
         port: u16,
         order: Order,
-    ) -> bool {
+    ) -> Result<(), NotTaken> {
         match &*self.lanes.lock(rt) {
             Some(lanes) => {
                 let (names, jobs) = (&lanes.names, lanes.jobs.as_slice());
-                hand_over(rt, alloc, names, jobs, name, port, order).is_ok()
+                hand_over(rt, alloc, names, jobs, name, port, order)
             }
             None => {
                 drop(name);
                 drop(order);
-                false
+                Err(NotTaken::Way)
             }
         }
     }
 
-    /// Sends a request that is passed on to a fetch thread, that of `number`. Errors: it was not taken.
+    /// Sends a request of this client that is passed on to a fetch thread, that of `number`. Errors: it was not taken.
     pub fn pass_on<R: Wait + Clock>(
         &self,
         rt: &R,
@@ -84,32 +85,56 @@ impl Fetchers {
         number: u64,
         name: &str,
         port: u16,
+        asker: Option<IpAddr>,
         passage: Passage,
-    ) -> Result<(), NoMemory> {
+    ) -> Result<(), NotTaken> {
         let lanes = self.lanes.lock(rt);
         let Some(lanes) = &*lanes else {
             drop(passage);
-            return Err(AllocError);
+            return Err(NotTaken::Way);
         };
         let (names, jobs) = (&lanes.names, lanes.jobs.as_slice());
-        match pass_over(rt, alloc, names, jobs, number, name, port, passage) {
-            Ok(()) => Ok(()),
-            Err(_) => Err(AllocError),
+        pass_over(rt, alloc, names, jobs, number, name, port, asker, passage)
+    }
+
+    /// How many names wait and are being looked up. Returns `None` before these threads start and after `close`.
+    pub fn name_counts<R: Wait>(&self, rt: &R) -> Option<NameCounts> {
+        let lanes = self.lanes.lock(rt);
+        match &*lanes {
+            Some(lanes) => Some(lanes.names.counts(rt)),
+            None => None,
         }
     }
 
-    /// The server of this name. Returns `None` if it cannot be looked up now.
+    /// What is counted of the attempts to connect that go beside others. `None` before these threads start and after `close`.
+    pub fn attempts<R: Wait>(&self, rt: &R) -> Option<AttemptFigures> {
+        let lanes = self.lanes.lock(rt);
+        match &*lanes {
+            Some(lanes) => {
+                let beside = lanes.names.beside();
+                Some(AttemptFigures {
+                    under_way: beside.under_way(),
+                    begun: beside.begun(),
+                    held: beside.refused(),
+                })
+            }
+            None => None,
+        }
+    }
+
+    /// The server of this name, for this client. Errors: there is no way to it.
     pub fn server_of<R: Wait + Clock>(
         &self,
         rt: &R,
         alloc: Global,
         name: &str,
         port: u16,
-    ) -> Option<Server> {
+        asker: Option<IpAddr>,
+    ) -> Result<Server, NotTaken> {
         let lanes = self.lanes.lock(rt);
         match &*lanes {
-            Some(lanes) => server_of(rt, alloc, &lanes.names, name, port),
-            None => None,
+            Some(lanes) => server_of(rt, alloc, &lanes.names, name, port, asker),
+            None => Err(NotTaken::Way),
         }
     }
 }

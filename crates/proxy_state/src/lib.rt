@@ -26,6 +26,7 @@ mod stopping;
 mod storage;
 mod telling;
 mod unasked;
+mod unjoined;
 
 pub use clock::{date_seconds, micros_since};
 pub use early::gives_early;
@@ -41,9 +42,12 @@ pub use origins::Origins;
 pub use outward::Outward;
 pub use parts::PartKeys;
 pub use passes::{LargeKeys, Onwards, Passes, Places};
-pub use shared::{Given, Shared, TakeEvents, add_own, close, note_own_six, withdraw};
-pub use starting::perform;
+pub use shared::{
+    Given, Shared, TakeEvents, add_own, close, note_own_six, tell_not_taken, withdraw,
+};
+pub use starting::{Cause, Unstarted, begin_again, perform};
 pub use stopping::Stopping;
 pub use storage::{Obstacle, Purger, key_in, limit_of, stays};
 pub use telling::Telling;
 pub use unasked::UnaskedKeys;
+pub use unjoined::UnjoinedKeys;

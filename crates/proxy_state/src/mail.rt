@@ -1,17 +1,25 @@
 //! Waiting clients and fetches under way.
-use forwarding::{Field, Flight, Mailbox};
+use crate::unjoined::UnjoinedKeys;
+use fair_use::SharedEnd;
+use filter_slots::Moment;
+use forwarding::{Field, Flight, Mailbox, Unwanted};
 use futures::channel::oneshot;
-use object_store::{CacheKey, SharedObject};
+use http_traffic::Progress;
+use object_store::{CacheKey, KeyHashes, SharedObject};
 use plain_node::MAX_PENDING_FETCHES;
 use std::alloc::{AllocError, Global};
+use std::net::IpAddr;
 use std::sync::atomic::{AtomicBool, Ordering};
 use std::sync::{Arc, Mutex, RwLock, Wait};
+use std::time::{Clock, Instant};
 
-/// One attempt of a fetch.
+/// One attempt of a fetch that was not started.
 #[derive(Clone, Copy)]
 pub struct Attempt {
     pub fetch: u32,
     pub attempt: u16,
+    /// Whether that is for want of clients.
+    pub is_unwanted: bool,
 }
 
 /// Waiting clients and fetches under way.
@@ -26,6 +34,10 @@ pub struct Mail {
     pub changes: Arc<RwLock<()>>,
     /// Whether something may be in flight that was changed meanwhile. Set and unset while `mailbox` is locked.
     pub has_outdated: AtomicBool,
+    /// URLs whose next askers don't join a fetch. Locked to note one, to forget one, or to look for one that was joined.
+    pub unjoined: Mutex<UnjoinedKeys>,
+    /// Whether shared fetches are ended that have no client.
+    pub ends_unwanted: bool,
 }
 
 // Written by hand, so that what lets it go is one call for the prover (docs/GATE.md).
@@ -36,6 +48,8 @@ impl Drop for Mail {
             failed: _,
             changes: _,
             has_outdated: _,
+            unjoined: _,
+            ends_unwanted: _,
         } = self;
     }
 }
@@ -53,13 +67,20 @@ fn without_codings(alloc: Global, fields: Vec<Field>) -> Result<Vec<Field>, Allo
 }
 
 impl Mail {
-    /// Nobody waits, and nothing is under way. Errors: out of memory.
-    pub fn new(alloc: Global) -> Result<Mail, AllocError> {
+    /// Nobody waits, and nothing is under way; keys are hashed so. Shared fetches end for want of clients as `Mailbox::new` says. Errors: out of
+    /// memory.
+    pub fn new(
+        alloc: Global,
+        hashes: KeyHashes,
+        quick_abort: Option<u64>,
+    ) -> Result<Mail, AllocError> {
         Ok(Mail {
-            mailbox: Mutex::new(Mailbox::new(alloc)),
+            mailbox: Mutex::new(Mailbox::new(alloc, quick_abort)),
             failed: Mutex::new(Vec::with_capacity(alloc, MAX_PENDING_FETCHES)?),
             changes: Arc::new(alloc, RwLock::new(()))?,
             has_outdated: AtomicBool::new(false),
+            unjoined: Mutex::new(UnjoinedKeys::new(alloc, hashes)?),
+            ends_unwanted: quick_abort.is_some(),
         })
     }
 
@@ -71,13 +92,88 @@ impl Mail {
         key: &CacheKey,
         flight: Flight,
         sender: oneshot::Sender<()>,
+        progress: Option<Arc<Progress>>,
     ) -> Result<(), AllocError> {
         match key.share() {
-            Ok(own) => self.mailbox.lock(rt).begin(fetch, own, flight, sender),
+            Ok(own) => self
+                .mailbox
+                .lock(rt)
+                .begin(fetch, own, flight, sender, progress),
             Err(fault) => {
                 drop(sender);
+                drop(progress);
                 Err(fault)
             }
+        }
+    }
+
+    /// Ends the shared fetches that have no client and are to end.
+    pub fn end_unwanted<R: Wait + Clock>(&self, rt: &R) {
+        if self.ends_unwanted
+            && let Ok(now) = Instant::now(rt)
+        {
+            self.mailbox.lock(rt).end_unwanted(now);
+        }
+    }
+
+    /// Removes a fetch if it was ended for want of clients: what is known of it.
+    pub fn take_unwanted<R: Wait>(&self, rt: &R, fetch: u32) -> Option<Unwanted> {
+        if self.ends_unwanted {
+            self.mailbox.lock(rt).take_unwanted(fetch)
+        } else {
+            None
+        }
+    }
+
+    /// Removes a client that has gone, as `Mailbox::remove` says.
+    pub fn remove<R: Wait + Clock>(&self, rt: &R, client: u64) {
+        let now = Instant::now(rt).ok();
+        self.mailbox.lock(rt).remove(client, now);
+    }
+
+    /// Notes that a client waits for what is fetched of this key for all, where that makes a difference. Where memory is short, it is not
+    /// noted.
+    pub fn attend<R: Wait>(&self, rt: &R, alloc: Global, client: u64, key: CacheKey) {
+        if self.ends_unwanted {
+            drop(self.mailbox.lock(rt).attend(alloc, client, key, false));
+        } else {
+            drop(key);
+        }
+    }
+
+    /// Notes that what is fetched of this key for all needs no client for some time from now on.
+    pub fn spare<R: Wait + Clock>(&self, rt: &R, alloc: Global, key: &[u8]) {
+        if self.ends_unwanted
+            && let Ok(now) = Instant::now(rt)
+        {
+            self.mailbox.lock(rt).spare(alloc, key, now);
+        }
+    }
+
+    /// Notes that what is fetched of this key for all needs clients again.
+    pub fn spare_no_more<R: Wait>(&self, rt: &R, key: &[u8]) {
+        if self.ends_unwanted {
+            self.mailbox.lock(rt).spare_no_more(key);
+        }
+    }
+
+    /// Whether a fetch of this key for all is to begin: a client waits for it, or none needs to, or `is_asking` says that it asks about what is
+    /// there. After one was ended for want of clients (`is_unwanted`), only a client counts.
+    pub fn is_wanted<R: Wait + Clock>(
+        &self,
+        rt: &R,
+        key: &[u8],
+        is_asking: bool,
+        is_unwanted: bool,
+    ) -> bool {
+        let Ok(now) = Instant::now(rt) else {
+            return true;
+        };
+        let mailbox = self.mailbox.lock(rt);
+        if is_unwanted {
+            mailbox.may_be_awaited(key)
+        } else {
+            is_asking || mailbox.is_wanted(key, now)
         }
     }
 
@@ -91,6 +187,11 @@ impl Mail {
         if let Some(object) = asked {
             self.mailbox.lock(rt).ask(fetch, object);
         }
+    }
+
+    /// The address of the client that a fetch of this key is made for: its owner, or the first that waits for it. `None` if there is none.
+    pub fn asker_of<R: Wait>(&self, rt: &R, owner: Option<u64>, key: &[u8]) -> Option<IpAddr> {
+        self.mailbox.lock(rt).asker_of(owner, key)
     }
 
     /// Whether a client that owns a fetch lets that ask about what is there; where no client does, it may.
@@ -118,6 +219,22 @@ impl Mail {
         }
     }
 
+    /// The CDN-Loop fields of the client that began the shared fetch of a key: those of `marked`, whose own request has it started, or else
+    /// of whoever is noted. Errors: out of memory.
+    pub fn marks<R: Wait>(
+        &self,
+        rt: &R,
+        alloc: Global,
+        marked: Option<u64>,
+        key: &[u8],
+    ) -> Result<Vec<Field>, AllocError> {
+        let mailbox = self.mailbox.lock(rt);
+        match marked {
+            Some(client) => mailbox.fields_of(alloc, client),
+            None => mailbox.loop_fields(alloc, key),
+        }
+    }
+
     /// Records an attempt that could not be started, for some thread to report to the node.
     pub fn record_failure<R: Wait>(&self, rt: &R, failed: Attempt) {
         let _ = self.failed.lock(rt).push(failed);
@@ -126,6 +243,17 @@ impl Mail {
     /// Removes a recorded attempt, which the caller reports to the node.
     pub fn next_failure<R: Wait>(&self, rt: &R) -> Option<Attempt> {
         self.failed.lock(rt).pop()
+    }
+
+    /// Notes how a fetch of `key` for all clients has ended now, for who asks for it next.
+    pub fn note_shared_end<R: Wait>(&self, rt: &R, key: CacheKey, end: SharedEnd, now: Moment) {
+        self.unjoined.lock(rt).note(key, end, now);
+    }
+
+    /// Whether this client, which has joined a fetch of `key`, is to ask alone: it waits, and a short time ago the answer was one that may not
+    /// be stored.
+    pub fn is_kept_out<R: Wait>(&self, rt: &R, client: u64, key: &CacheKey, now: Moment) -> bool {
+        self.unjoined.lock(rt).has(key, now) && self.mailbox.lock(rt).waits(client)
     }
 
     /// Has what is being fetched of a key given only to those who wait for it.

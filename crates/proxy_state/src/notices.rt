@@ -2,6 +2,7 @@
 use http_traffic::{FetchFault, Supplier};
 use log_writer::{LogDesk, Pace};
 use std::alloc::{AllocError, Global};
+use std::net::IpAddr;
 use std::sync::{Mutex, Wait};
 use std::time::{Clock, Instant};
 
@@ -75,6 +76,23 @@ impl Notices {
         }
     }
 
+    /// Tells that a look-up of a server's name was refused that this client asked for.
+    pub fn tell_no_look_up<R: Wait + Clock>(&self, rt: &R, alloc: Global, asker: Option<IpAddr>) {
+        if let Some(left_out) = self.admit(rt) {
+            let line = look_up_line(alloc, asker);
+            self.offer(rt, alloc, line, left_out);
+        }
+    }
+
+    /// Tells that a client's request was refused with 503, since no open file is left for a connection to its server.
+    pub fn tell_no_file<R: Wait + Clock>(&self, rt: &R, alloc: Global) {
+        if let Some(left_out) = self.admit(rt) {
+            let text =
+                "a request was refused (503): no open file is left for its connection to a server";
+            self.offer(rt, alloc, String::from_str(alloc, text), left_out);
+        }
+    }
+
     /// Tells how many datagrams at a socket were no messages, if any.
     pub fn tell_malformed<R: Wait + Clock>(&self, rt: &R, alloc: Global, socket: &str, count: u64) {
         if count == 0 {
@@ -97,7 +115,10 @@ fn reason_of(fault: FetchFault) -> Option<&'static str> {
         FetchFault::NotHttp => Some("the response is not HTTP"),
         FetchFault::LargeHead | FetchFault::TooLarge => Some("the response is too large"),
         FetchFault::Time => Some("timed out"),
+        FetchFault::Room => Some("timed out, waiting for room under fetch_octets"),
+        FetchFault::Slow => Some("slower than fetch_speed"),
         FetchFault::NoMemory => Some("out of memory"),
+        FetchFault::NoFile => Some("no open file is left for its connection"),
         FetchFault::Cancelled => None,
     }
 }
@@ -120,6 +141,20 @@ fn fetch_line(
             format!(in alloc; "fetch {fetch} of {url} from neighbour/{place} failed: {reason}")
         }
     };
+    line.map_err(|_| AllocError)
+}
+
+// The line of a look-up that was refused, without its end.
+fn look_up_line(alloc: Global, asker: Option<IpAddr>) -> Result<String, AllocError> {
+    let Some(asker) = asker else {
+        return String::from_str(
+            alloc,
+            "a look-up was refused: too many names wait for theirs",
+        );
+    };
+    let line = format!(in alloc;
+        "a look-up for {asker} was refused: too many names wait for theirs"
+    );
     line.map_err(|_| AllocError)
 }
 

@@ -1,5 +1,6 @@
 //! What passes the proxy without the node: requests that are passed on as they are, answers that are too long to be stored, and
 //! tunnels. The rules of this, and how many are under way.
+use crate::storage::Purger;
 use filter_slots::End;
 use forwarding::{Destination, Peer, origin_of, peer_of};
 use http_rules::{OriginRules, SixEnd};
@@ -7,6 +8,7 @@ use http_traffic::Ticket;
 use lru::LruCache;
 use object_store::{CacheKey, KeyHashes};
 use serve_config::PassedMethod;
+use server_connections::ServerConnections;
 use std::alloc::{AllocError, Global};
 use std::net::SocketAddr;
 use std::sync::atomic::{AtomicUsize, Ordering};
@@ -140,6 +142,10 @@ pub struct Passes {
     pub is_direct: bool,
     /// The first parent of the configuration.
     pub parent: Option<Peer>,
+    /// Connections to servers: those of fetches, and of what is passed on, too.
+    pub servers: Arc<ServerConnections>,
+    /// Takes what requests have changed out of the store whose clients have gone.
+    pub purger: Purger,
 }
 
 // Written by hand, so that what lets it go is one call for the prover (docs/GATE.md).
@@ -158,6 +164,8 @@ impl Drop for Passes {
             connecting: _,
             is_direct: _,
             parent: _,
+            servers: _,
+            purger: _,
         } = self;
     }
 }

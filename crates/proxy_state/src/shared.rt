@@ -4,15 +4,17 @@ use crate::lanes::Fetchers;
 use crate::mail::Mail;
 use crate::outward::Outward;
 use crate::passes::Passes;
+use crate::starting::Cause;
 use crate::stopping::Stopping;
 use crate::telling::Telling;
 use capture_tap::Tap;
 use filter_slots::{End, Moment};
 use http_rules::SixEnd;
-use http_traffic::Supplier;
+use name_lookup::NotTaken;
 use node_core::{Event, NoMemory};
 use object_store::{CacheKey, Entry};
-use std::alloc::AllocError;
+use std::alloc::{AllocError, Global};
+use std::net::IpAddr;
 use std::sync::Wait;
 use std::time::Clock;
 
@@ -70,11 +72,29 @@ pub trait TakeEvents: Drop {
     /// Takes an event. Returns the number of its actions; `None` if the event was not taken.
     fn take(&mut self, event: Event) -> Option<usize>;
 
+    /// As `take`, for the request of this client, which has CDN-Loop fields: a fetch for all clients that it begins forwards these.
+    fn take_marked(&mut self, event: Event, client: u64) -> Option<usize>;
+
     /// What the event that was taken last gave a client.
     fn given(&self) -> Given;
 
-    /// As `take`, for the result of a fetch, and whom its object came from.
-    fn take_fetched(&mut self, event: Event, supplier: Option<Supplier>) -> Option<usize>;
+    /// As `take`, for the result of a fetch, and what its actions follow from.
+    fn take_fetched(&mut self, event: Event, cause: Cause) -> Option<usize>;
+}
+
+/// Tells that a look-up was refused that this client asked for, if that is why something was not taken.
+pub fn tell_not_taken<R: Wait + Clock, S: Shared>(
+    rt: &R,
+    alloc: Global,
+    proxy: &S,
+    asker: Option<IpAddr>,
+    fault: NotTaken,
+) {
+    if let Some(notices) = &proxy.telling().notices
+        && fault == NotTaken::Name
+    {
+        notices.tell_no_look_up(rt, alloc, asker);
+    }
 }
 
 /// Adds a bound socket of this cache, which is never fetched from and which no tunnel leads to. Errors: out of memory.

@@ -2,17 +2,92 @@
 use crate::early::gives_early;
 use crate::kept::Kept;
 use crate::mail::Mail;
-use crate::shared::Shared;
+use crate::shared::{Shared, tell_not_taken};
 use forwarding::{Destination, Field, Flight};
 use futures::channel::oneshot;
 use http_traffic as serving;
-use http_traffic::{Order, Supplier};
+use http_traffic::{Order, Progress, Supplier};
 use node_core::{Action, Answer, Mode, NoMemory};
 use object_store::{CacheKey, Object, SharedObject};
 use peer_select::Source;
 use std::alloc::{AllocError, Global};
-use std::sync::Wait;
+use std::net::IpAddr;
+use std::sync::{Arc, Wait};
 use std::time::{Clock, Instant};
+
+/// What an action of the node follows from.
+#[derive(Clone, Copy)]
+pub struct Cause {
+    /// Whom the object comes from of the fetch whose result was handed in.
+    pub supplier: Option<Supplier>,
+    /// Whether that fetch was ended, or not begun, for want of clients.
+    pub is_unwanted: bool,
+    /// Whether it is no event of the client itself: one whose request has begun a fetch may have gone until its round is decided.
+    pub is_later: bool,
+    /// The client whose request it is, if that has CDN-Loop fields.
+    pub marked: Option<u64>,
+}
+
+impl Cause {
+    /// The request of a client without CDN-Loop fields, or an event of the proxy itself.
+    pub fn request() -> Cause {
+        Cause {
+            supplier: None,
+            is_unwanted: false,
+            is_later: false,
+            marked: None,
+        }
+    }
+
+    /// The request of this client, which has CDN-Loop fields.
+    pub fn marked(client: u64) -> Cause {
+        Cause {
+            supplier: None,
+            is_unwanted: false,
+            is_later: false,
+            marked: Some(client),
+        }
+    }
+
+    /// A datagram, or that some time has passed.
+    pub fn round() -> Cause {
+        Cause {
+            supplier: None,
+            is_unwanted: false,
+            is_later: true,
+            marked: None,
+        }
+    }
+
+    /// The result of a fetch, whose object comes from `supplier`.
+    pub fn result(supplier: Option<Supplier>) -> Cause {
+        Cause {
+            supplier,
+            is_unwanted: false,
+            is_later: true,
+            marked: None,
+        }
+    }
+
+    /// The end of a fetch for want of clients.
+    pub fn unwanted() -> Cause {
+        Cause {
+            supplier: None,
+            is_unwanted: true,
+            is_later: true,
+            marked: None,
+        }
+    }
+}
+
+/// Why a fetch was not started.
+#[derive(Clone, Copy, Debug, PartialEq, Eq)]
+pub enum Unstarted {
+    /// No client waits for it any more.
+    Unwanted,
+    /// It could not be.
+    NoMemory,
+}
 
 /// A fetch that the node asks for.
 #[derive(Clone, Copy)]
@@ -22,6 +97,7 @@ struct Wanted {
     source: Source,
     only_if_cached: bool,
     owner: Option<u64>,
+    marked: Option<u64>,
 }
 
 impl Wanted {
@@ -36,6 +112,7 @@ impl Wanted {
                 Source::Origin => Supplier::Origin,
                 Source::Peer(place) => Supplier::Neighbour(place),
             },
+            only_if_cached: self.only_if_cached,
             began,
         }
     }
@@ -45,24 +122,25 @@ impl Wanted {
 #[derive(Drop)]
 struct Entered {
     flight: Flight,
+    asker: Option<IpAddr>,
     deadline: Instant,
     fields: Vec<Field>,
     receiver: oneshot::Receiver<()>,
+    progress: Option<Arc<Progress>>,
 }
 
-/// Carries out an action other than `Send`, which it ignores. If it gives a client a fetched object, that came from `supplier`.
-/// Errors: a fetch could not be started.
+/// Carries out an action other than `Send`, which it ignores. Errors: a fetch was not started.
 pub fn perform<R: Wait + Clock, S: Shared>(
     rt: &R,
     alloc: Global,
     proxy: &S,
     action: &Action,
-    supplier: Option<Supplier>,
-) -> Result<(), NoMemory> {
+    cause: &Cause,
+) -> Result<(), Unstarted> {
     match action {
         Action::Send { .. } => Ok(()),
         Action::Serve { client, answer } => {
-            let answer = outcome_of(answer, supplier, proxy.kept().tells_stored);
+            let answer = outcome_of(answer, cause, proxy.kept().tells_stored);
             proxy.mail().mailbox.lock(rt).answer(*client, answer);
             Ok(())
         }
@@ -79,10 +157,35 @@ pub fn perform<R: Wait + Clock, S: Shared>(
                 source: *source,
                 only_if_cached: *only_if_cached,
                 owner: *owner,
+                marked: cause.marked,
             };
-            begin(rt, alloc, proxy, wanted)
+            begin(rt, alloc, proxy, wanted, cause)
         }
     }
+}
+
+/// Starts an attempt of a fetch for all clients once more, which was ended for want of clients and is `flight`, since one waits for it now.
+/// Errors: it could not be started.
+pub fn begin_again<R: Wait + Clock, S: Shared>(
+    rt: &R,
+    alloc: Global,
+    proxy: &S,
+    fetch: u32,
+    attempt: u16,
+    flight: Flight,
+) -> Result<(), Unstarted> {
+    let wanted = Wanted {
+        fetch,
+        attempt,
+        source: match flight.supplier {
+            Supplier::Neighbour(place) => Source::Peer(place),
+            Supplier::Origin | Supplier::Confirmed | Supplier::Stale(_) => Source::Origin,
+        },
+        only_if_cached: flight.only_if_cached,
+        owner: None,
+        marked: None,
+    };
+    begin(rt, alloc, proxy, wanted, &Cause::request())
 }
 
 /// Starts a fetch.
@@ -91,15 +194,54 @@ fn begin<R: Wait + Clock, S: Shared>(
     alloc: Global,
     proxy: &S,
     wanted: Wanted,
-) -> Result<(), NoMemory> {
-    match proxy.key_of(rt, wanted.fetch)? {
-        Some(key) => {
-            let begun = begin_under(rt, alloc, proxy, wanted, &key);
+    cause: &Cause,
+) -> Result<(), Unstarted> {
+    match proxy.key_of(rt, wanted.fetch) {
+        Ok(Some(key)) => {
+            let begun = begin_wanted(rt, alloc, proxy, wanted, cause, &key);
             drop(key);
             begun
         }
-        None => Err(AllocError),
+        Ok(None) | Err(_) => Err(Unstarted::NoMemory),
     }
+}
+
+/// Starts a fetch of this key, unless nobody wants it any more, which is counted once for a fetch.
+fn begin_wanted<R: Wait + Clock, S: Shared>(
+    rt: &R,
+    alloc: Global,
+    proxy: &S,
+    wanted: Wanted,
+    cause: &Cause,
+    key: &CacheKey,
+) -> Result<(), Unstarted> {
+    if is_left(rt, proxy, wanted, cause, key.as_slice()) {
+        if !cause.is_unwanted {
+            proxy.telling().figures.note_unwanted();
+        }
+        return Err(Unstarted::Unwanted);
+    }
+    match begin_under(rt, alloc, proxy, wanted, key) {
+        Ok(()) => Ok(()),
+        Err(_) => Err(Unstarted::NoMemory),
+    }
+}
+
+/// Whether the clients of a fetch of `key` have gone that is to start, where such a fetch is not to. The client is there whose own request
+/// has just begun it.
+fn is_left<R: Wait + Clock, S: Shared>(
+    rt: &R,
+    proxy: &S,
+    wanted: Wanted,
+    cause: &Cause,
+    key: &[u8],
+) -> bool {
+    let mail = proxy.mail();
+    if !mail.ends_unwanted || wanted.owner.is_some() || (!cause.is_later && wanted.attempt == 0) {
+        return false;
+    }
+    let is_asking = asked_about(rt, proxy.kept(), mail, wanted, key).is_some();
+    !mail.is_wanted(rt, key, is_asking, cause.is_unwanted)
 }
 
 /// Starts a fetch of this key.
@@ -136,17 +278,62 @@ fn put_in_flight<R: Wait + Clock, S: Shared>(
     let Some(deadline) = proxy.outward().deadline(began) else {
         return Err(AllocError);
     };
-    let (sender, receiver) = oneshot::channel(alloc)?;
-    match enter(rt, alloc, proxy, wanted, key, flight, sender) {
+    let (progress, told) = progress_of(alloc, proxy.mail(), wanted)?;
+    match oneshot::channel(alloc) {
+        Ok((sender, receiver)) => {
+            let fields = enter(rt, alloc, proxy, wanted, key, flight, sender, told);
+            let asker = proxy.mail().asker_of(rt, wanted.owner, key.as_slice());
+            order_entered(flight, asker, deadline, fields, receiver, progress)
+        }
+        Err(fault) => {
+            drop(progress);
+            drop(told);
+            Err(fault)
+        }
+    }
+}
+
+/// A fetch with these fields that is in flight. Errors: it is not.
+fn order_entered(
+    flight: Flight,
+    asker: Option<IpAddr>,
+    deadline: Instant,
+    fields: Result<Vec<Field>, AllocError>,
+    receiver: oneshot::Receiver<()>,
+    progress: Option<Arc<Progress>>,
+) -> Result<Entered, AllocError> {
+    match fields {
         Ok(fields) => Ok(Entered {
             flight,
+            asker,
             deadline,
             fields,
             receiver,
+            progress,
         }),
         Err(fault) => {
             drop(receiver);
+            drop(progress);
             Err(fault)
+        }
+    }
+}
+
+/// Two handles to where is noted how much of the answer of a fetch has come: none where nobody looks at that. Errors: out of memory.
+fn progress_of(
+    alloc: Global,
+    mail: &Mail,
+    wanted: Wanted,
+) -> Result<(Option<Arc<Progress>>, Option<Arc<Progress>>), AllocError> {
+    if !mail.ends_unwanted || wanted.owner.is_some() {
+        return Ok((None, None));
+    }
+    let progress = Arc::new(alloc, Progress::new())?;
+    match Arc::try_clone(&progress) {
+        Ok(other) => Ok((Some(progress), Some(other))),
+        Err(_) => {
+            drop(progress);
+            Err(AllocError)
         }
     }
 }
@@ -161,9 +348,10 @@ fn enter<R: Wait, S: Shared>(
     key: &CacheKey,
     flight: Flight,
     sender: oneshot::Sender<()>,
+    progress: Option<Arc<Progress>>,
 ) -> Result<Vec<Field>, AllocError> {
     let mail = proxy.mail();
-    mail.begin(rt, wanted.fetch, key, flight, sender)?;
+    mail.begin(rt, wanted.fetch, key, flight, sender, progress)?;
     let asked = asked_about(rt, proxy.kept(), mail, wanted, key.as_slice());
     let fields = fields(rt, alloc, proxy, wanted, key.as_slice(), asked.as_ref());
     mail.note_asked(rt, wanted.fetch, asked);
@@ -190,9 +378,11 @@ fn send_to<R: Wait + Clock, S: Shared>(
     } = destination;
     let Entered {
         flight,
+        asker,
         deadline,
         fields,
         receiver,
+        progress,
     } = entered;
     let order = Order {
         fetch: wanted.fetch,
@@ -202,14 +392,19 @@ fn send_to<R: Wait + Clock, S: Shared>(
         fields,
         is_origin: flight.is_origin(),
         is_early: flight.mode == Mode::Shared && gives_early(proxy.passes()),
+        asker,
         deadline,
         wanted: receiver,
+        progress,
     };
-    if proxy.fetchers().send(rt, alloc, name, port, order) {
-        return Ok(());
+    match proxy.fetchers().send(rt, alloc, name, port, order) {
+        Ok(()) => Ok(()),
+        Err(fault) => {
+            tell_not_taken(rt, alloc, proxy, asker, fault);
+            proxy.mail().end(rt, wanted.fetch);
+            Err(AllocError)
+        }
     }
-    proxy.mail().end(rt, wanted.fetch);
-    Err(AllocError)
 }
 
 /// The object that the origin is asked about by a fetch of `key`: what is on the shelf, unless the client that owns the fetch
@@ -232,7 +427,7 @@ fn asked_about<R: Wait>(
 }
 
 /// The request fields of a fetch of `key` other than Host: those of the client that owns a private fetch, without Accept-Encoding
-/// where something is asked about, or the CDN-Loop fields of one that waits for a shared one and the fields of all shared ones; the conditions of the object that is asked about;
+/// where something is asked about, or the CDN-Loop fields of the one that began a shared one and the fields of all shared ones; the conditions of the object that is asked about;
 /// `only-if-cached` for a sibling; CDN-Loop and Via of this cache.
 fn fields<R: Wait, S: Shared>(
     rt: &R,
@@ -265,18 +460,20 @@ fn first_fields<R: Wait, S: Shared>(
     let mail = proxy.mail();
     match wanted.owner {
         Some(client) => mail.own_fields(rt, alloc, client, wanted.fetch, is_asking),
-        None => shared_fields(rt, alloc, proxy, key),
+        None => shared_fields(rt, alloc, proxy, wanted.marked, key),
     }
 }
 
-/// The fields of a shared fetch of `key`: the CDN-Loop fields of a client that waits for it, and those of all shared fetches.
+/// The fields of a shared fetch of `key`: the CDN-Loop fields of the client that began it, which is `marked` where its own request has it
+/// started, and those of all shared fetches.
 fn shared_fields<R: Wait, S: Shared>(
     rt: &R,
     alloc: Global,
     proxy: &S,
+    marked: Option<u64>,
     key: &[u8],
 ) -> Result<Vec<Field>, AllocError> {
-    let mut fields = proxy.mail().mailbox.lock(rt).loop_fields(alloc, key)?;
+    let mut fields = proxy.mail().marks(rt, alloc, marked, key)?;
     match proxy.outward().add_shared(alloc, &mut fields) {
         Ok(()) => Ok(fields),
         Err(fault) => {
@@ -306,11 +503,7 @@ fn octets_of(object: &Object) -> usize {
 }
 
 /// An answer of the node as the HTTP server takes it; status 503 if the object cannot get one more owner.
-fn outcome_of(
-    answer: &Answer,
-    supplier: Option<Supplier>,
-    tells_stored: Option<u32>,
-) -> serving::Outcome {
+fn outcome_of(answer: &Answer, cause: &Cause, tells_stored: Option<u32>) -> serving::Outcome {
     match answer {
         Answer::Hit { object, age } => match object.share() {
             Ok(object) => serving::Outcome::Hit { object, age: *age },
@@ -320,10 +513,11 @@ fn outcome_of(
             Ok(object) => serving::Outcome::Got {
                 is_stored: is_told(object.get(), tells_stored),
                 object,
-                supplier,
+                supplier: cause.supplier,
             },
             Err(_) => serving::Outcome::Fail(503),
         },
+        Answer::Fail(502) if cause.is_unwanted => serving::Outcome::Again,
         Answer::Fail(status) => serving::Outcome::Fail(*status),
     }
 }

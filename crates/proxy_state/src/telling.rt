@@ -15,6 +15,8 @@ pub struct Telling {
     pub ends: NeighbourEnds,
     /// The number of open connections of clients.
     pub connections: Arc<AtomicUsize>,
+    /// How many octets of bodies wait for room.
+    pub wanted_octets: Arc<AtomicU64>,
     /// How many answers clients were given.
     pub answered: AtomicU64,
     /// Where lines about answers go, if anywhere, and their form.
@@ -36,6 +38,7 @@ impl Drop for Telling {
             figures: _,
             ends: _,
             connections: _,
+            wanted_octets: _,
             answered: _,
             log: _,
             notices: _,

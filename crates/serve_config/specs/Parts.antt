@@ -32,6 +32,8 @@ pub record AreWebKeys (d : Data) (s : WebKeys) : Type 0 where
   pub tunnels : (1 ≤ s.passing.pace.tunnels) × (s.passing.pace.tunnels ≤ 4096)
   pub fetch_seconds : (1 ≤ s.passing.pace.fetch_seconds) × (s.passing.pace.fetch_seconds ≤ 86400)
   pub fetch_idle : IfSome s.passing.pace.fetch_idle (λ n. (1 ≤ n) × (n ≤ 86400))
+  pub fetch_speed : s.passing.pace.fetch_speed ≤ 1000000
+  pub quick_abort_octets : IfSome s.passing.pace.quick_abort_octets (λ n. (1 ≤ n) × (n ≤ 1073741824))
   pub keep_alive : s.passing.pace.keep_alive ≤ 3600
 
 -- what is behind the front
@@ -54,6 +56,7 @@ pub record AreKeys (d : Data) (s : Keys) : Type 0 where
   pub shelf_octets : IfSome s.loads.shelf_octets (λ n. n ≤ 1073741824)
   pub address_connections : IfSome s.loads.address_connections (λ n. (1 ≤ n) × (n ≤ 4096))
   pub client_threads : IfSome s.loads.client_threads (λ n. (1 ≤ n) × (n ≤ 16))
+  pub lookup_threads : IfSome s.loads.lookup_threads (λ n. (1 ≤ n) × (n ≤ 256))
   pub host : is_host s.front.address ≡ true
   pub name : IsVisible (string_bytes s.front.name)
   pub admin_token : IfSome s.front.admin_token (λ token. IsToken (string_bytes token))

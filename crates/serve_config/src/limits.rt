@@ -23,6 +23,7 @@ pub(crate) struct LoadKeys {
     pub(crate) shelf_octets: Option<u32>,
     pub(crate) address_connections: Option<u32>,
     pub(crate) client_threads: Option<u32>,
+    pub(crate) lookup_threads: Option<u32>,
     pub(crate) stop_after: u64,
 }
 
@@ -47,6 +48,7 @@ pub(crate) fn load_keys(alloc: Global, value: &Value) -> Result<LoadKeys, Fault>
     ensures shelf_octets { IfOk result (λ s. IfSome s.shelf_octets (λ n. n ≤ 1073741824)) }
     ensures address_connections { IfOk result (λ s. IfSome s.address_connections (λ n. (1 ≤ n) × (n ≤ 4096))) }
     ensures client_threads { IfOk result (λ s. IfSome s.client_threads (λ n. (1 ≤ n) × (n ≤ 16))) }
+    ensures lookup_threads { IfOk result (λ s. IfSome s.lookup_threads (λ n. (1 ≤ n) × (n ≤ 256))) }
 {
     let top = Place::whole();
     Ok(LoadKeys {
@@ -54,6 +56,7 @@ pub(crate) fn load_keys(alloc: Global, value: &Value) -> Result<LoadKeys, Fault>
         shelf_octets: optional(alloc, value, "shelf_octets", 0, 1_073_741_824)?,
         address_connections: optional(alloc, value, "address_connections", 1, 4096)?,
         client_threads: optional(alloc, value, "client_threads", 1, 16)?,
+        lookup_threads: optional(alloc, value, "lookup_threads", 1, 256)?,
         stop_after: number(alloc, value, top.key("stop_after"), 0, u64::MAX)?,
     })
 }

@@ -81,6 +81,8 @@ pub(crate) struct PaceKeys {
     pub(crate) tunnels: u32,
     pub(crate) fetch_seconds: u32,
     pub(crate) fetch_idle: Option<u32>,
+    pub(crate) fetch_speed: u32,
+    pub(crate) quick_abort_octets: Option<u32>,
     pub(crate) keep_alive: u32,
 }
 
@@ -93,6 +95,8 @@ pub(crate) fn passing_keys(alloc: Global, value: &Value) -> Result<PassingKeys, 
     ensures tunnels { IfOk result (λ s. (1 ≤ s.pace.tunnels) × (s.pace.tunnels ≤ 4096)) }
     ensures fetch_seconds { IfOk result (λ s. (1 ≤ s.pace.fetch_seconds) × (s.pace.fetch_seconds ≤ 86400)) }
     ensures fetch_idle { IfOk result (λ s. IfSome s.pace.fetch_idle (λ n. (1 ≤ n) × (n ≤ 86400))) }
+    ensures fetch_speed { IfOk result (λ s. s.pace.fetch_speed ≤ 1000000) }
+    ensures quick_abort_octets { IfOk result (λ s. IfSome s.pace.quick_abort_octets (λ n. (1 ≤ n) × (n ≤ 1073741824))) }
     ensures keep_alive { IfOk result (λ s. s.pace.keep_alive ≤ 3600) }
 {
     Ok(PassingKeys {
@@ -109,6 +113,8 @@ fn pace_keys(alloc: Global, value: &Value) -> Result<PaceKeys, Fault>
     ensures tunnels { IfOk result (λ s. (1 ≤ s.tunnels) × (s.tunnels ≤ 4096)) }
     ensures fetch_seconds { IfOk result (λ s. (1 ≤ s.fetch_seconds) × (s.fetch_seconds ≤ 86400)) }
     ensures fetch_idle { IfOk result (λ s. IfSome s.fetch_idle (λ n. (1 ≤ n) × (n ≤ 86400))) }
+    ensures fetch_speed { IfOk result (λ s. s.fetch_speed ≤ 1000000) }
+    ensures quick_abort_octets { IfOk result (λ s. IfSome s.quick_abort_octets (λ n. (1 ≤ n) × (n ≤ 1073741824))) }
     ensures keep_alive { IfOk result (λ s. s.keep_alive ≤ 3600) }
 {
     Ok(PaceKeys {
@@ -116,6 +122,8 @@ fn pace_keys(alloc: Global, value: &Value) -> Result<PaceKeys, Fault>
         tunnels: number_or(alloc, value, "tunnels", 4096, 1024)?,
         fetch_seconds: number_or(alloc, value, "fetch_seconds", 86_400, 30)?,
         fetch_idle: fetch_idle(alloc, value)?,
+        fetch_speed: fetch_speed(alloc, value)?,
+        quick_abort_octets: quick_abort_octets(alloc, value)?,
         keep_alive: keep_alive(alloc, value)?,
     })
 }
@@ -252,6 +260,28 @@ fn fetch_idle(alloc: Global, value: &Value) -> Result<Option<u32>, Fault>
     }
     let place = Place::whole().key("fetch_idle");
     Ok(Some(number(alloc, value, place, 1, 86_400)? as u32))
+}
+
+// Parses how many octets of a content have to come in a second; 0, as few as may be, if there is no such key.
+fn fetch_speed(alloc: Global, value: &Value) -> Result<u32, Fault>
+    ensures { IfOk result (λ n. n ≤ 1000000) }
+{
+    if value.get("fetch_speed").is_none() {
+        return Ok(0);
+    }
+    let place = Place::whole().key("fetch_speed");
+    Ok(number(alloc, value, place, 0, 1_000_000)? as u32)
+}
+
+// Parses under how many missing octets a fetch goes on whose last client has gone, if such fetches end.
+fn quick_abort_octets(alloc: Global, value: &Value) -> Result<Option<u32>, Fault>
+    ensures { IfOk result (λ given. IfSome given (λ n. (1 ≤ n) × (n ≤ 1073741824))) }
+{
+    if value.get("quick_abort_octets").is_none() {
+        return Ok(None);
+    }
+    let place = Place::whole().key("quick_abort_octets");
+    Ok(Some(number(alloc, value, place, 1, 1_073_741_824)? as u32))
 }
 
 // Parses how many seconds a connection is kept for further fetches; 0, none is, if there is no such key.

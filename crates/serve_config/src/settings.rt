@@ -85,6 +85,8 @@ pub struct Settings {
     pub address_connections: Option<u32>,
     /// Threads that serve clients, 1 to 16, if the configuration says it.
     pub client_threads: Option<u32>,
+    /// Threads that look up names of servers at most, 1 to 256, if the configuration says it.
+    pub lookup_threads: Option<u32>,
     /// The networks that are never fetched from as origins, if the configuration says it.
     pub deny_origins: Option<Vec<Network>>,
     /// The only ports that origins are fetched from, at least one and none of them 0, if the configuration says it.
@@ -123,6 +125,11 @@ pub struct Settings {
     pub fetch_seconds: u32,
     /// Seconds without an octet after which a fetch ends, 1 to 86,400, if the configuration says it.
     pub fetch_idle: Option<u32>,
+    /// The least octets of a content that come in a second, at most 1,000,000; with 0 as few come as may be.
+    pub fetch_speed: u32,
+    /// Under how many missing octets a fetch for all clients goes on whose last client has gone, 1 to 1,073,741,824, if the configuration
+    /// says it; otherwise each goes on.
+    pub quick_abort_octets: Option<u32>,
     /// Seconds that a connection is kept for further fetches, at most 3,600; with 0 none is.
     pub keep_alive: u32,
     /// The fields that the fetches for all clients send, at most 16.
@@ -148,6 +155,7 @@ impl Settings {
         ensures shelf_octets { IfOk result (λ s. IfSome s.shelf_octets (λ n. n ≤ 1073741824)) }
         ensures address_connections { IfOk result (λ s. IfSome s.address_connections (λ n. (1 ≤ n) × (n ≤ 4096))) }
         ensures client_threads { IfOk result (λ s. IfSome s.client_threads (λ n. (1 ≤ n) × (n ≤ 16))) }
+        ensures lookup_threads { IfOk result (λ s. IfSome s.lookup_threads (λ n. (1 ≤ n) × (n ≤ 256))) }
         ensures deny_origins { IfOk result (λ s. IfSome s.deny_origins (λ networks. AreNetworks networks.items)) }
         ensures origin_ports { IfOk result (λ s. IfSome s.origin_ports (λ ports. ArePorts ports.items)) }
         ensures origins6 { IfOk result (λ s. IfSome s.origins6 (λ networks. AreSixNetworks networks.items)) }
@@ -167,6 +175,8 @@ impl Settings {
         ensures tunnels { IfOk result (λ s. (1 ≤ s.tunnels) × (s.tunnels ≤ 4096)) }
         ensures fetch_seconds { IfOk result (λ s. (1 ≤ s.fetch_seconds) × (s.fetch_seconds ≤ 86400)) }
         ensures fetch_idle { IfOk result (λ s. IfSome s.fetch_idle (λ n. (1 ≤ n) × (n ≤ 86400))) }
+        ensures fetch_speed { IfOk result (λ s. s.fetch_speed ≤ 1000000) }
+        ensures quick_abort_octets { IfOk result (λ s. IfSome s.quick_abort_octets (λ n. (1 ≤ n) × (n ≤ 1073741824))) }
         ensures keep_alive { IfOk result (λ s. s.keep_alive ≤ 3600) }
         ensures shared_fields { IfOk result (λ s. AreSharedFields s.shared_fields.items) }
         ensures entries { IfOk result (λ s. (1 ≤ s.node.entries) × (s.node.entries ≤ 1000000)) }
@@ -214,7 +224,8 @@ impl Settings {
             .field("fetch_octets", &self.fetch_octets)
             .field("shelf_octets", &self.shelf_octets)
             .field("address_connections", &self.address_connections)
-            .field("client_threads", &self.client_threads);
+            .field("client_threads", &self.client_threads)
+            .field("lookup_threads", &self.lookup_threads);
     }
 
     // Which origins are fetched from, what is told, and for how long answers are fresh.
@@ -242,6 +253,8 @@ impl Settings {
             .field("tunnels", &self.tunnels)
             .field("fetch_seconds", &self.fetch_seconds)
             .field("fetch_idle", &self.fetch_idle)
+            .field("fetch_speed", &self.fetch_speed)
+            .field("quick_abort_octets", &self.quick_abort_octets)
             .field("keep_alive", &self.keep_alive)
             .field("shared_fields", &self.shared_fields);
     }
@@ -271,6 +284,7 @@ fn parse_values(alloc: Global, value: &Value) -> Result<Settings, Fault>
     ensures shelf_octets { IfOk result (λ s. IfSome s.shelf_octets (λ n. n ≤ 1073741824)) }
     ensures address_connections { IfOk result (λ s. IfSome s.address_connections (λ n. (1 ≤ n) × (n ≤ 4096))) }
     ensures client_threads { IfOk result (λ s. IfSome s.client_threads (λ n. (1 ≤ n) × (n ≤ 16))) }
+    ensures lookup_threads { IfOk result (λ s. IfSome s.lookup_threads (λ n. (1 ≤ n) × (n ≤ 256))) }
     ensures deny_origins { IfOk result (λ s. IfSome s.deny_origins (λ networks. AreNetworks networks.items)) }
     ensures origin_ports { IfOk result (λ s. IfSome s.origin_ports (λ ports. ArePorts ports.items)) }
     ensures origins6 { IfOk result (λ s. IfSome s.origins6 (λ networks. AreSixNetworks networks.items)) }
@@ -290,6 +304,8 @@ fn parse_values(alloc: Global, value: &Value) -> Result<Settings, Fault>
     ensures tunnels { IfOk result (λ s. (1 ≤ s.tunnels) × (s.tunnels ≤ 4096)) }
     ensures fetch_seconds { IfOk result (λ s. (1 ≤ s.fetch_seconds) × (s.fetch_seconds ≤ 86400)) }
     ensures fetch_idle { IfOk result (λ s. IfSome s.fetch_idle (λ n. (1 ≤ n) × (n ≤ 86400))) }
+    ensures fetch_speed { IfOk result (λ s. s.fetch_speed ≤ 1000000) }
+    ensures quick_abort_octets { IfOk result (λ s. IfSome s.quick_abort_octets (λ n. (1 ≤ n) × (n ≤ 1073741824))) }
     ensures keep_alive { IfOk result (λ s. s.keep_alive ≤ 3600) }
     ensures shared_fields { IfOk result (λ s. AreSharedFields s.shared_fields.items) }
     ensures entries { IfOk result (λ s. (1 ≤ s.node.entries) × (s.node.entries ≤ 1000000)) }
@@ -338,6 +354,7 @@ fn parse_values(alloc: Global, value: &Value) -> Result<Settings, Fault>
         shelf_octets: loads.shelf_octets,
         address_connections: loads.address_connections,
         client_threads: loads.client_threads,
+        lookup_threads: loads.lookup_threads,
         deny_origins: origins.deny_origins,
         origin_ports: origins.origin_ports,
         origins6: origins.origins6,
@@ -356,6 +373,8 @@ fn parse_values(alloc: Global, value: &Value) -> Result<Settings, Fault>
         tunnels: pace.tunnels,
         fetch_seconds: pace.fetch_seconds,
         fetch_idle: pace.fetch_idle,
+        fetch_speed: pace.fetch_speed,
+        quick_abort_octets: pace.quick_abort_octets,
         keep_alive: pace.keep_alive,
         shared_fields,
         filters: node.filters,

@@ -39,13 +39,14 @@ const TOP: [Known; 16] = [
 ];
 
 /// The keys that a configuration may leave out.
-const OPTIONAL: [Known; 29] = [
+const OPTIONAL: [Known; 32] = [
     ("receipt_octets", Kind::Number),
     ("book_octets", Kind::Number),
     ("fetch_octets", Kind::Number),
     ("shelf_octets", Kind::Number),
     ("address_connections", Kind::Number),
     ("client_threads", Kind::Number),
+    ("lookup_threads", Kind::Number),
     ("deny_origins", Kind::List),
     ("origin_ports", Kind::List),
     ("origins6", Kind::Truth),
@@ -65,6 +66,8 @@ const OPTIONAL: [Known; 29] = [
     ("tunnels", Kind::Number),
     ("fetch_seconds", Kind::Number),
     ("fetch_idle", Kind::Number),
+    ("fetch_speed", Kind::Number),
+    ("quick_abort_octets", Kind::Number),
     ("keep_alive", Kind::Number),
     ("shared_fields", Kind::Object),
     ("http_address6", Kind::Text),

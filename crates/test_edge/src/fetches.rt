@@ -7,7 +7,7 @@ use fetch_chain::Submit;
 use futures::channel::mpsc::{UnboundedReceiver, UnboundedSender, unbounded};
 use futures::channel::oneshot;
 use http_fetches::{FetchLimits, FetchRules, run_fetches};
-use http_traffic::{FetchEnd, FetchFault, Fetched, Job, Order, Server, Work};
+use http_traffic::{Ended, FetchEnd, FetchFault, Fetched, Job, Order, Server, Work};
 use std::alloc::{AllocGlobal, Global};
 use std::net::{Net, SocketAddr};
 use std::random::RandomSource;
@@ -28,9 +28,14 @@ impl Drop for Kept {
     }
 }
 
-impl Submit<Fetched> for Kept {
-    fn submit(&mut self, done: Fetched) {
-        let _ = self.all.push(done);
+impl Submit<Ended> for Kept {
+    fn submit(&mut self, done: Ended) {
+        match done {
+            Ended::Fetched(done) => {
+                let _ = self.all.push(done);
+            }
+            Ended::Left(left) => drop(left),
+        }
     }
 }
 
@@ -98,8 +103,10 @@ pub(crate) fn order_of<R: Clock>(
         fields: Vec::new(alloc),
         is_origin: true,
         is_early: false,
+        asker: None,
         deadline,
         wanted,
+        progress: None,
     };
     Ok((order, keep))
 }

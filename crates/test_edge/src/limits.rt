@@ -5,9 +5,11 @@ use client_streams::{ClientLimits, StreamTimeouts};
 use http_clients::ServeLimits;
 use http_fetches::{Budget, FetchLimits, FetchRules};
 use http_traffic::Admit;
+use server_connections::{KeptShare, ServerConnections};
 use std::alloc::{AllocError, Global};
 use std::net::SocketAddr;
 use std::sync::Arc;
+use std::sync::atomic::AtomicU64;
 use std::time::Duration;
 
 /// Limits of a server that are short enough for a test to wait until they pass, and long beside what a busy machine takes for a step.
@@ -44,6 +46,7 @@ pub(crate) fn fetch_limits(octets: usize, connecting: Duration) -> FetchLimits
         free: 0,
         connecting,
         idle: None,
+        speed: None,
         keep: None,
         at_once: 64,
     }
@@ -63,8 +66,11 @@ impl Admit for AllBut {
 
 /// A budget of this many octets, and no port that is not admitted.
 pub(crate) fn fetch_rules(alloc: Global, octets: usize) -> Result<FetchRules<AllBut>, AllocError> {
+    let servers = Arc::new(alloc, ServerConnections::new(alloc, 1)?)?;
+    let wanted = Arc::new(alloc, AtomicU64::new(0))?;
     Ok(FetchRules {
-        budget: Arc::new(alloc, Budget::new(alloc, octets))?,
+        budget: Arc::new(alloc, Budget::new(alloc, octets, wanted))?,
+        kept: KeptShare::new(&servers, 0)?,
         admit: AllBut { port: 0 },
     })
 }

@@ -27,6 +27,7 @@ fn has_none(settings: &Settings) -> bool {
     settings.fetch_octets.is_none()
         && settings.address_connections.is_none()
         && settings.client_threads.is_none()
+        && settings.lookup_threads.is_none()
         && settings.deny_origins.is_none()
         && settings.origin_ports.is_none()
         && settings.origins6.is_none()
@@ -34,6 +35,7 @@ fn has_none(settings: &Settings) -> bool {
         && settings.admin_token.is_none()
         && settings.shelf_octets.is_none()
         && settings.fetch_idle.is_none()
+        && settings.quick_abort_octets.is_none()
 }
 
 fn has_usual_words(settings: &Settings) -> bool {
@@ -51,6 +53,7 @@ fn has_usual_numbers(settings: &Settings) -> bool {
         && settings.streams == 256
         && settings.tunnels == 1024
         && settings.fetch_seconds == 30
+        && settings.fetch_speed == 0
         && settings.keep_alive == 0
 }
 
@@ -120,6 +123,8 @@ fn has_numbers(settings: &Settings) -> bool {
         && settings.tunnels == 3
         && settings.fetch_seconds == 4
         && settings.fetch_idle == Some(5)
+        && settings.fetch_speed == 7
+        && settings.quick_abort_octets == Some(7)
         && settings.keep_alive == 6
 }
 
@@ -136,7 +141,7 @@ fn has_fields(fields: &[SharedField]) -> bool {
 #[test]
 fn what_is_said(rt: HostRuntime) {
     let keys =
-        r#""methods": ["POST", "HEAD"], "connect_ports": [443, 8443], "large": "stream", "streams": 2, "tunnels": 3, "fetch_seconds": 4, "fetch_idle": 5, "keep_alive": 6, "shared_fields": {"user-agent": "Wabretos 1", "accept": "*/*"}, "volume""#;
+        r#""methods": ["POST", "HEAD"], "connect_ports": [443, 8443], "large": "stream", "streams": 2, "tunnels": 3, "fetch_seconds": 4, "fetch_idle": 5, "fetch_speed": 7, "quick_abort_octets": 7, "keep_alive": 6, "shared_fields": {"user-agent": "Wabretos 1", "accept": "*/*"}, "volume""#;
     let settings = settings_with(&rt, rt.alloc(), keys);
     let found = [
         has_lists(&settings),

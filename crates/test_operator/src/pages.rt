@@ -4,9 +4,9 @@ use json::Writer;
 use std::alloc::{AllocError, Global};
 use std::test::Fail;
 use traffic_figures::{
-    AnswerNote, Course, FetchNote, FetchOutcome, FetchedFrom, Figures, LogLines, NeighbourCounts,
-    NeighbourFigures, NeighbourState, Page, ReplyKind, Snapshot, SocketFigures, Sockets,
-    clients_text, metrics_text, write_neighbour_counts,
+    AnswerNote, AttemptFigures, Course, FetchNote, FetchOutcome, FetchedFrom, Figures, LogLines,
+    NeighbourCounts, NeighbourFigures, NeighbourState, Page, ReplyKind, ServerConnectionFigures,
+    Snapshot, SocketFigures, Sockets, clients_text, metrics_text, write_neighbour_counts,
 };
 
 /// Answers: course, status, octets and microseconds.
@@ -159,9 +159,22 @@ fn page(alloc: Global) -> Result<Page, AllocError> {
         neighbours,
         connections: Some(3),
         fetching: Some(2),
+        wanted_octets: Some(65_536),
         waiting: None,
         streams: Some(4),
         tunnels: None,
+        servers: Some(ServerConnectionFigures {
+            busy: 6,
+            idle: 32,
+            refused: 7,
+        }),
+        attempts: Some(AttemptFigures {
+            under_way: 6,
+            begun: 70,
+            held: 8,
+        }),
+        look_ups: None,
+        unwanted: Some(6),
         objects: None,
         stored: Some(7000),
         evictions: Some(0),
@@ -176,7 +189,7 @@ fn page(alloc: Global) -> Result<Page, AllocError> {
 }
 
 const JSON: &'static str =
-    "{\"uptime\":90,\"answers\":{\"hit\":3,\"miss\":2,\"collapsed\":1,\"bypass\":1,\"refused\":1},\"statuses\":{\"1xx\":0,\"2xx\":2,\"3xx\":2,\"4xx\":2,\"5xx\":1,\"none\":1},\"octets\":{\"clients\":1551,\"origins\":600,\"neighbours\":407},\"fetches\":{\"origins\":{\"whole\":1,\"refused\":1,\"failed\":0},\"neighbours\":{\"whole\":1,\"refused\":0,\"failed\":2}},\"seconds\":{\"hits\":{\"buckets\":[[0.001,1],[0.0025,2],[0.005,2],[0.01,2],[0.025,2],[0.05,2],[0.1,2],[0.25,2],[0.5,2],[1,2],[2.5,2],[5,2],[10,2],[30,2],[\"+Inf\",2]],\"sum\":0.002001,\"count\":2},\"forwarded\":{\"buckets\":[[0.001,0],[0.0025,0],[0.005,0],[0.01,0],[0.025,0],[0.05,0],[0.1,0],[0.25,1],[0.5,1],[1,1],[2.5,1],[5,1],[10,1],[30,1],[\"+Inf\",2]],\"sum\":40.250000,\"count\":2},\"fetches\":{\"buckets\":[[0.001,0],[0.0025,0],[0.005,0],[0.01,1],[0.025,1],[0.05,1],[0.1,1],[0.25,1],[0.5,1],[1,1],[2.5,1],[5,1],[10,2],[30,2],[\"+Inf\",2]],\"sum\":5.010001,\"count\":2}},\"connections\":3,\"waiting\":null,\"fetching\":2,\"streams\":4,\"log\":{\"written\":5,\"lost\":0}}\n";
+    "{\"uptime\":90,\"answers\":{\"hit\":3,\"miss\":2,\"collapsed\":1,\"bypass\":1,\"refused\":1},\"statuses\":{\"1xx\":0,\"2xx\":2,\"3xx\":2,\"4xx\":2,\"5xx\":1,\"none\":1},\"octets\":{\"clients\":1551,\"origins\":600,\"neighbours\":407},\"fetches\":{\"origins\":{\"whole\":1,\"refused\":1,\"failed\":0},\"neighbours\":{\"whole\":1,\"refused\":0,\"failed\":2}},\"seconds\":{\"hits\":{\"buckets\":[[0.001,1],[0.0025,2],[0.005,2],[0.01,2],[0.025,2],[0.05,2],[0.1,2],[0.25,2],[0.5,2],[1,2],[2.5,2],[5,2],[10,2],[30,2],[\"+Inf\",2]],\"sum\":0.002001,\"count\":2},\"forwarded\":{\"buckets\":[[0.001,0],[0.0025,0],[0.005,0],[0.01,0],[0.025,0],[0.05,0],[0.1,0],[0.25,1],[0.5,1],[1,1],[2.5,1],[5,1],[10,1],[30,1],[\"+Inf\",2]],\"sum\":40.250000,\"count\":2},\"fetches\":{\"buckets\":[[0.001,0],[0.0025,0],[0.005,0],[0.01,1],[0.025,1],[0.05,1],[0.1,1],[0.25,1],[0.5,1],[1,1],[2.5,1],[5,1],[10,2],[30,2],[\"+Inf\",2]],\"sum\":5.010001,\"count\":2}},\"connections\":3,\"waiting\":null,\"fetching\":2,\"waiting_octets\":65536,\"streams\":4,\"servers\":{\"busy\":6,\"idle\":32,\"refused\":7},\"attempts\":{\"beside\":6,\"begun\":70,\"held\":8},\"unwanted\":6,\"log\":{\"written\":5,\"lost\":0}}\n";
 
 // A page in JSON. What owns a page has no way out while it has it: each would drop all of it anew.
 fn page_as_json(alloc: Global) -> Result<Vec<u8>, AllocError> {
@@ -240,7 +253,7 @@ fn the_counts_of_neighbours_as_json(rt: HostRuntime) -> Result<(), Fail> {
 }
 
 /// Lines of the metrics.
-const LINES: [&'static str; 53] = [
+const LINES: [&'static str; 66] = [
     "wabretos_build_info{version=\"1.0 \\\"a\\\\b\\\"\\n\"} 1",
     "# HELP wabretos_uptime_seconds Seconds since the proxy was started.",
     "# TYPE wabretos_uptime_seconds gauge",
@@ -266,7 +279,20 @@ const LINES: [&'static str; 53] = [
     "wabretos_forwarded_duration_seconds_count 2",
     "wabretos_client_connections 3",
     "wabretos_pending_fetches 2",
+    "# HELP wabretos_waiting_octets Octets of bodies that wait for room among those under way.",
+    "# TYPE wabretos_waiting_octets gauge",
+    "wabretos_waiting_octets 65536",
     "wabretos_streams 4",
+    "# TYPE wabretos_refused_server_connections_total counter",
+    "wabretos_refused_server_connections_total 7",
+    "wabretos_busy_server_connections 6",
+    "wabretos_idle_server_connections 32",
+    "wabretos_connect_attempts 6",
+    "# TYPE wabretos_connect_attempts_begun_total counter",
+    "wabretos_connect_attempts_begun_total 70",
+    "wabretos_connect_attempts_held_total 8",
+    "# TYPE wabretos_fetches_unwanted_total counter",
+    "wabretos_fetches_unwanted_total 6",
     "wabretos_log_lines_written_total 5",
     "wabretos_log_lines_lost_total 0",
     "wabretos_stored_bytes 7000",
@@ -297,9 +323,10 @@ const LINES: [&'static str; 53] = [
 ];
 
 /// Samples of what isn't known.
-const ABSENT: [&'static str; 5] = [
+const ABSENT: [&'static str; 6] = [
     "wabretos_waiting_clients",
     "wabretos_tunnels",
+    "wabretos_waiting_lookups",
     "wabretos_stored_objects",
     "wabretos_neighbour_outstanding_queries",
     "wabretos_neighbour_up{neighbour=\"1\"",

@@ -38,6 +38,7 @@ fn write_page(alloc: Global, json: &mut Writer, page: &Page) -> Result<(), Alloc
     json.u64(page.uptime)?;
     write_figures(alloc, json, &page.figures)?;
     write_numbers(json, page)?;
+    write_look_ups(json, page)?;
     write_log(json, page)?;
     json.end_object()
 }
@@ -53,8 +54,37 @@ fn write_numbers(json: &mut Writer, page: &Page) -> Result<(), AllocError> {
     write_optional(json, "connections", page.connections)?;
     write_optional(json, "waiting", page.waiting)?;
     write_optional(json, "fetching", page.fetching)?;
+    write_optional(json, "waiting_octets", page.wanted_octets)?;
     write_known(json, "streams", page.streams)?;
-    write_known(json, "tunnels", page.tunnels)
+    write_known(json, "tunnels", page.tunnels)?;
+    write_servers(json, page)?;
+    write_attempts(json, page)?;
+    write_known(json, "unwanted", page.unwanted)
+}
+
+// Connections to servers, if they are known.
+fn write_servers(json: &mut Writer, page: &Page) -> Result<(), AllocError> {
+    let Some(servers) = page.servers else {
+        return Ok(());
+    };
+    json.key("servers")?;
+    json.begin_object()?;
+    write_count(json, "busy", servers.busy)?;
+    write_count(json, "idle", servers.idle)?;
+    write_count(json, "refused", servers.refused)?;
+    json.end_object()
+}
+
+fn write_attempts(json: &mut Writer, page: &Page) -> Result<(), AllocError> {
+    let Some(attempts) = page.attempts else {
+        return Ok(());
+    };
+    json.key("attempts")?;
+    json.begin_object()?;
+    write_count(json, "beside", attempts.under_way)?;
+    write_count(json, "begun", attempts.begun)?;
+    write_count(json, "held", attempts.held)?;
+    json.end_object()
 }
 
 /// Writes what is counted of a neighbour, as the members `queries`, `replies` (by kind) and `fetches` (by outcome) of the object that
@@ -199,6 +229,19 @@ fn write_number(json: &mut Writer, text: &str) -> Result<(), AllocError> {
     } else {
         json.string(text)
     }
+}
+
+fn write_look_ups(json: &mut Writer, page: &Page) -> Result<(), AllocError> {
+    let Some(look_ups) = page.look_ups else {
+        return Ok(());
+    };
+    json.key("lookups")?;
+    json.begin_object()?;
+    write_count(json, "waiting", look_ups.waiting)?;
+    write_count(json, "under_way", look_ups.under_way)?;
+    write_count(json, "failed", look_ups.failed)?;
+    write_count(json, "refused", look_ups.refused)?;
+    json.end_object()
 }
 
 fn write_log(json: &mut Writer, page: &Page) -> Result<(), AllocError> {

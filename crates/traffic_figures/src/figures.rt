@@ -89,6 +89,8 @@ pub struct Figures {
     fetches: [[AtomicU64; 3]; 2],
     // Octets of bodies, by kind of source.
     bodies: [AtomicU64; 2],
+    // Fetches that were ended for want of clients.
+    unwanted: AtomicU64,
     hits: Histogram,
     forwarded: Histogram,
     fetched: Histogram,
@@ -104,6 +106,7 @@ impl Drop for Figures {
             content: _,
             fetches: _,
             bodies: _,
+            unwanted: _,
             hits: _,
             forwarded: _,
             fetched: _,
@@ -128,6 +131,7 @@ impl Figures {
             content: zeros(),
             fetches: [zeros(), zeros()],
             bodies: zeros(),
+            unwanted: AtomicU64::new(0),
             hits: Histogram::new(),
             forwarded: Histogram::new(),
             fetched: Histogram::new(),
@@ -174,6 +178,16 @@ impl Figures {
         if let Some(micros) = fetch.micros {
             self.fetched.add(micros);
         }
+    }
+
+    /// Counts a fetch that was ended, or not begun, for want of clients.
+    pub fn note_unwanted(&self) {
+        self.unwanted.fetch_add(1, Ordering::SeqCst);
+    }
+
+    /// How many fetches were ended, or not begun, for want of clients.
+    pub fn unwanted(&self) -> u64 {
+        self.unwanted.load(Ordering::SeqCst)
     }
 
     /// Counts a query to the neighbour at this place of the configuration, from 0. Where there is none, nothing is counted.

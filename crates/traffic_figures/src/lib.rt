@@ -27,6 +27,9 @@ pub use figures::{AnswerNote, FetchNote, Figures, NeighbourCounts, Snapshot};
 pub use kinds::{Course, FetchOutcome, FetchedFrom, StatusClass, class_of};
 pub use laws::buckets_add_up;
 pub use metrics::metrics_text;
-pub use page::{LogLines, NeighbourFigures, NeighbourState, Page, SocketFigures, Sockets};
+pub use page::{
+    AttemptFigures, LogLines, LookUps, NeighbourFigures, NeighbourState, Page,
+    ServerConnectionFigures, SocketFigures, Sockets,
+};
 pub use replies::{ReplyKind, htcp_reply, icp_reply};
 pub use times::{Times, bucket_of};

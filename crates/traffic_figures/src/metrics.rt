@@ -187,7 +187,15 @@ fn put_present(out: &mut Vec<u8>, page: &Page) -> Result<(), AllocError> {
         "Fetches under way.",
         page.fetching,
     )?;
+    put_one(
+        out,
+        "wabretos_waiting_octets",
+        Kind::Gauge,
+        "Octets of bodies that wait for room among those under way.",
+        page.wanted_octets,
+    )?;
     put_passing(out, page)?;
+    put_look_ups(out, page)?;
     let Some(log) = page.log else {
         return Ok(());
     };
@@ -221,6 +229,103 @@ fn put_passing(out: &mut Vec<u8>, page: &Page) -> Result<(), AllocError> {
         Kind::Gauge,
         "Open tunnels.",
         page.tunnels,
+    )?;
+    put_one(
+        out,
+        "wabretos_fetches_unwanted_total",
+        Kind::Counter,
+        "Fetches that were ended for want of clients.",
+        page.unwanted,
+    )?;
+    put_servers(out, page)?;
+    put_attempts(out, page)
+}
+
+fn put_servers(out: &mut Vec<u8>, page: &Page) -> Result<(), AllocError> {
+    let Some(servers) = page.servers else {
+        return Ok(());
+    };
+    put_one(
+        out,
+        "wabretos_busy_server_connections",
+        Kind::Gauge,
+        "Connections to servers that carry something or are being made.",
+        Some(servers.busy),
+    )?;
+    put_one(
+        out,
+        "wabretos_idle_server_connections",
+        Kind::Gauge,
+        "Connections to servers that are kept while they are idle.",
+        Some(servers.idle),
+    )?;
+    put_one(
+        out,
+        "wabretos_refused_server_connections_total",
+        Kind::Counter,
+        "Connections to servers that were not made, as no open file was left for them.",
+        Some(servers.refused),
+    )
+}
+
+fn put_attempts(out: &mut Vec<u8>, page: &Page) -> Result<(), AllocError> {
+    let Some(attempts) = page.attempts else {
+        return Ok(());
+    };
+    put_one(
+        out,
+        "wabretos_connect_attempts",
+        Kind::Gauge,
+        "Attempts to connect that go beside another one of the same server.",
+        Some(attempts.under_way),
+    )?;
+    put_one(
+        out,
+        "wabretos_connect_attempts_begun_total",
+        Kind::Counter,
+        "Attempts to connect that have begun beside another one of the same server.",
+        Some(attempts.begun),
+    )?;
+    put_one(
+        out,
+        "wabretos_connect_attempts_held_total",
+        Kind::Counter,
+        "Attempts to connect that came after another one of the same server, since there were as many beside others as there may be.",
+        Some(attempts.held),
+    )
+}
+
+fn put_look_ups(out: &mut Vec<u8>, page: &Page) -> Result<(), AllocError> {
+    let Some(look_ups) = page.look_ups else {
+        return Ok(());
+    };
+    put_one(
+        out,
+        "wabretos_waiting_lookups",
+        Kind::Gauge,
+        "Names of servers that wait for their look-up.",
+        Some(look_ups.waiting),
+    )?;
+    put_one(
+        out,
+        "wabretos_pending_lookups",
+        Kind::Gauge,
+        "Look-ups of names of servers under way.",
+        Some(look_ups.under_way),
+    )?;
+    put_one(
+        out,
+        "wabretos_lookups_failed_total",
+        Kind::Counter,
+        "Names of servers that were not found within their time.",
+        Some(look_ups.failed),
+    )?;
+    put_one(
+        out,
+        "wabretos_lookups_refused_total",
+        Kind::Counter,
+        "Look-ups that were refused, since too many names wait.",
+        Some(look_ups.refused),
     )
 }
 

@@ -48,6 +48,19 @@ pub struct NeighbourFigures {
     pub state: Option<NeighbourState>,
 }
 
+/// Look-ups of names of servers.
+#[derive(Clone, Copy, Debug, PartialEq, Eq)]
+pub struct LookUps {
+    /// Names that wait for theirs.
+    pub waiting: u64,
+    /// Those under way.
+    pub under_way: u64,
+    /// Names that were not found within their time, since the start.
+    pub failed: u64,
+    /// Those who were not let wait for one, since the start.
+    pub refused: u64,
+}
+
 /// The lines of the access log since the start.
 #[derive(Clone, Copy, Debug, PartialEq, Eq)]
 pub struct LogLines {
@@ -55,6 +68,28 @@ pub struct LogLines {
     pub written: u64,
     /// Lines that were not written, since the log was too slow or failed.
     pub lost: u64,
+}
+
+/// What is counted of the attempts to connect to servers that go beside another one of the same server.
+#[derive(Clone, Copy, Debug)]
+pub struct AttemptFigures {
+    /// Those under way.
+    pub under_way: u64,
+    /// Those that have begun since the start.
+    pub begun: u64,
+    /// Those that came after the other one instead, since there were as many as there may be.
+    pub held: u64,
+}
+
+/// Connections to servers.
+#[derive(Clone, Copy, Debug, PartialEq, Eq)]
+pub struct ServerConnectionFigures {
+    /// Those that carry something, and those that are being made.
+    pub busy: u64,
+    /// Those that are kept while they are idle.
+    pub idle: u64,
+    /// Those that were not made since the start, as no open file was left for them.
+    pub refused: u64,
 }
 
 /// All that both texts show. What is `None` is left out of the metrics.
@@ -80,12 +115,22 @@ pub struct Page {
     pub connections: Option<u64>,
     /// Fetches under way.
     pub fetching: Option<u64>,
+    /// Octets of bodies that wait for room among those under way.
+    pub wanted_octets: Option<u64>,
     /// Clients that wait for an answer.
     pub waiting: Option<u64>,
     /// Requests that are being passed on. `None` if none ever are.
     pub streams: Option<u64>,
     /// Open tunnels. `None` if there never are any.
     pub tunnels: Option<u64>,
+    /// The attempts to connect that go beside others. `None` before there are fetches, and once there are none any more.
+    pub attempts: Option<AttemptFigures>,
+    /// Look-ups of names of servers.
+    pub look_ups: Option<LookUps>,
+    /// Connections to servers.
+    pub servers: Option<ServerConnectionFigures>,
+    /// Fetches that were ended for want of clients, since the start. `None` if none ever are.
+    pub unwanted: Option<u64>,
     /// Stored objects, those that are no longer fresh among them.
     pub objects: Option<u64>,
     /// Octets of the stored objects and their keys.
@@ -116,9 +161,14 @@ impl Drop for Page {
             neighbours: _,
             connections: _,
             fetching: _,
+            wanted_octets: _,
             waiting: _,
             streams: _,
             tunnels: _,
+            attempts: _,
+            look_ups: _,
+            servers: _,
+            unwanted: _,
             objects: _,
             stored: _,
             evictions: _,

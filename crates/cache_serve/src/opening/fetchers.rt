@@ -10,9 +10,11 @@ use name_lookup::NameDesk;
 use proxy_node::AtDesk;
 use proxy_site::{FETCHERS, ServeFault};
 use proxy_state::{Lanes, Shared};
+use server_connections::KeptShare;
 use std::alloc::{AllocError, AllocGlobal, Global};
 use std::net::Net;
 use std::random::RandomSource;
+use std::sync::atomic::AtomicU64;
 use std::sync::ledger::Ledger;
 use std::sync::{Arc, Wait};
 use std::thread::Threads;
@@ -42,10 +44,12 @@ impl Drop for LaneKit {
 }
 
 impl LaneKit {
-    /// What no thread was started with yet, with so many octets for bodies under way. Errors: out of memory.
-    fn new(alloc: Global, octets: usize) -> Result<LaneKit, AllocError> {
+    /// What no thread was started with yet, with so many octets for bodies under way, of which those that are waited for are kept in
+    /// `wanted`. Errors: out of memory.
+    fn new(alloc: Global, octets: usize, wanted: &Arc<AtomicU64>) -> Result<LaneKit, AllocError> {
         let (opened, heard) = bounded(alloc, FETCHERS)?;
-        let budget = Arc::new(alloc, Budget::new(alloc, octets))?;
+        let wanted = Arc::try_clone(wanted)?;
+        let budget = Arc::new(alloc, Budget::new(alloc, octets, wanted))?;
         Ok(LaneKit {
             jobs: Vec::with_capacity(alloc, FETCHERS)?,
             budget,
@@ -83,7 +87,7 @@ impl<R, S: Shared, L: Ledger> Opening<R, S, L> {
         names: Result<NameDesk, ServeFault>,
     ) -> Result<(LaneKit, NameDesk), ServeFault> {
         match names {
-            Ok(names) => match LaneKit::new(self.alloc, self.config.fetch_octets) {
+            Ok(names) => match self.kit() {
                 Ok(kit) => Ok((kit, names)),
                 Err(_) => {
                     drop(names);
@@ -92,6 +96,12 @@ impl<R, S: Shared, L: Ledger> Opening<R, S, L> {
             },
             Err(fault) => Err(fault),
         }
+    }
+
+    /// What no thread was started with yet. Errors: out of memory.
+    fn kit(&self) -> Result<LaneKit, AllocError> {
+        let wanted = &self.site.proxy.telling().wanted_octets;
+        LaneKit::new(self.alloc, self.config.fetch_octets, wanted)
     }
 
     /// The task of one more fetch thread.
@@ -108,7 +118,7 @@ impl<R, S: Shared, L: Ledger> Opening<R, S, L> {
 
     /// What one more fetch thread fetches with.
     fn fetching(&self, kit: &mut LaneKit) -> Result<Fetching<S>, ServeFault> {
-        let shares = self.fetch_shares(&kit.budget)?;
+        let shares = self.fetch_shares(kit)?;
         match self.lane(kit) {
             Ok(Lane { jobs, opened, end }) => Ok(Fetching {
                 jobs,
@@ -125,11 +135,14 @@ impl<R, S: Shared, L: Ledger> Opening<R, S, L> {
     }
 
     /// What one more fetch thread has together with others.
-    fn fetch_shares(&self, budget: &Arc<Budget>) -> Result<FetchShares<S>, ServeFault> {
+    fn fetch_shares(&self, kit: &LaneKit) -> Result<FetchShares<S>, ServeFault> {
         let Ok(changes) = Arc::try_clone(&self.site.proxy.mail().changes) else {
             return Err(ServeFault::NoMemory);
         };
-        let Ok(budget) = Arc::try_clone(budget) else {
+        let Ok(budget) = Arc::try_clone(&kit.budget) else {
+            return Err(ServeFault::NoMemory);
+        };
+        let Ok(kept) = KeptShare::new(&self.site.proxy.passes().servers, kit.jobs.len()) else {
             return Err(ServeFault::NoMemory);
         };
         Ok(FetchShares {
@@ -137,6 +150,7 @@ impl<R, S: Shared, L: Ledger> Opening<R, S, L> {
             judged: self.site.share()?,
             changes,
             budget,
+            kept,
         })
     }
 
@@ -210,8 +224,20 @@ where
         names: Result<NameDesk, ServeFault>,
     ) -> Result<(), ServeFault> {
         let (mut kit, names) = self.lane_kit(names)?;
+        self.divide();
         let begun = self.begin_fetchers(&mut kit);
         self.open_lanes(kit, names, begun)
+    }
+
+    /// Has no more connections to servers than there is room for by the files that the program may open.
+    fn divide(&self) {
+        let Some(division) = self.config.division else {
+            return;
+        };
+        let proxy = &self.site.proxy;
+        if let Ok(clients) = Arc::try_clone(&proxy.telling().connections) {
+            proxy.passes().servers.divide(&self.rt, division, clients);
+        }
     }
 
     /// Starts the fetch threads, to each of which the kit has the way then.

@@ -3,18 +3,17 @@ ghost use Rattle.futures.specs.Poll.{OnPending};
 ghost use Rattle.futures.specs.Task.{Covers, Keeps};
 
 use crate::fetching::FetchRules;
+use dialing::{Connected, DialFault, Dialing};
 use futures::Future;
 use futures::task::{Context, Poll};
 use http_traffic::{Addresses, Admit, FetchFault};
 use paced_stream::{FETCH_TURN, Paced};
-use std::io;
+use std::alloc::Global;
 use std::net::{Net, SocketAddr};
 use std::rc::Rc;
+use std::sync::Wait;
 use std::time::{Clock, Duration};
-use tokio::net::{ConnectFuture, TcpStream};
 use tokio::runtime::Handle;
-use tokio::time::Timeout;
-use tokio::time::error::Elapsed;
 
 /// Connects to servers. What makes calls is generic over this, since the prover does not look behind a type parameter (docs/GATE.md).
 pub trait Dial: Drop {
@@ -24,47 +23,51 @@ pub trait Dial: Drop {
     /// Whether this server may be connected to.
     fn admits(&self, server: SocketAddr) -> bool;
 
-    /// Has these addresses share the time to connect.
-    fn share(&mut self, servers: Addresses);
+    /// Connects to one of these addresses, with a timeout. Returns `None` if out of memory.
+    fn connect(&self, servers: &Addresses) -> Option<Self::Connecting>;
+}
 
-    /// Connects to this address, with a timeout. Returns `None` if out of memory.
-    fn connect(&self, server: SocketAddr) -> Option<Self::Connecting>;
+/// A connection that was made, and the address that it leads to.
+#[derive(Drop)]
+pub struct Reached {
+    pub socket: Paced,
+    pub server: SocketAddr,
 }
 
 /// A connection that is being made.
 pub trait Connect: Drop {
     /// Waits for the connection. Errors: there is none.
-    fn poll_connected(&mut self, cx: &mut Context<'_>) -> Poll<Result<Paced, FetchFault>>
+    fn poll_connected(&mut self, cx: &mut Context<'_>) -> Poll<Result<Reached, FetchFault>>
         ensures registered { OnPending result (Covers cx.new (λ _. ⊥)) }
         ensures kept { Keeps cx.old cx.new };
 }
 
-impl Connect for Timeout<ConnectFuture> {
-    fn poll_connected(&mut self, cx: &mut Context<'_>) -> Poll<Result<Paced, FetchFault>> {
+impl<R: Net + Wait + Clock + Copy> Connect for Dialing<R> {
+    fn poll_connected(&mut self, cx: &mut Context<'_>) -> Poll<Result<Reached, FetchFault>> {
         match self.poll(cx) {
-            Poll::Ready(connected) => Poll::Ready(paced(connected)),
+            Poll::Ready(connected) => Poll::Ready(server_reached(connected)),
             Poll::Pending => Poll::Pending,
         }
     }
 }
 
-// A connection that was made, if it was. Errors: it was not.
-fn paced(connected: Result<io::Result<TcpStream>, Elapsed>) -> Result<Paced, FetchFault> {
+// A connection that was made, if it was. Errors: why it was not.
+fn server_reached(connected: Result<Connected, DialFault>) -> Result<Reached, FetchFault> {
     match connected {
-        Ok(Ok(socket)) => {
+        Ok(Connected { socket, server }) => {
             let _ = socket.set_nodelay(true);
-            Ok(Paced::new(socket, FETCH_TURN))
+            let socket = Paced::new(socket, FETCH_TURN);
+            Ok(Reached { socket, server })
         }
-        failed => {
-            drop(failed);
-            Err(FetchFault::Connect)
-        }
+        Err(DialFault::NoMemory) => Err(FetchFault::NoMemory),
+        Err(DialFault::Failed | DialFault::Late) => Err(FetchFault::Connect),
     }
 }
 
 /// Connects to servers by these rules, on an event loop.
 pub struct Dialer<R, A> {
     pub rt: R,
+    pub alloc: Global,
     pub handle: Handle,
     pub connecting: Duration,
     pub rules: Rc<FetchRules<A>>,
@@ -76,6 +79,7 @@ impl<R: Drop, A: Drop> Drop for Dialer<R, A> {
     fn drop(self) {
         let Self {
             rt,
+            alloc: _,
             handle,
             connecting: _,
             rules,
@@ -87,20 +91,21 @@ impl<R: Drop, A: Drop> Drop for Dialer<R, A> {
     }
 }
 
-impl<R: Net + Clock + Copy, A: Admit> Dial for Dialer<R, A> {
-    type Connecting = Timeout<ConnectFuture>;
+impl<R: Net + Wait + Clock + Copy, A: Admit> Dial for Dialer<R, A> {
+    type Connecting = Dialing<R>;
 
     fn admits(&self, server: SocketAddr) -> bool {
         !self.is_origin || self.rules.admit.admits(server)
     }
 
-    fn share(&mut self, servers: Addresses) {
-        self.connecting = servers.share(self.connecting);
-    }
-
-    fn connect(&self, server: SocketAddr) -> Option<Timeout<ConnectFuture>> {
-        let connecting = TcpStream::connect(&self.rt, server, self.handle.reactor());
-        let time = self.handle.time();
-        time.timeout(&self.rt, self.connecting, connecting).ok()
+    fn connect(&self, servers: &Addresses) -> Option<Dialing<R>> {
+        let servers = servers.share(self.alloc).ok()?;
+        match self.handle.clone() {
+            Ok(handle) => Some(Dialing::new(self.rt, self.alloc, handle, servers, self.connecting)),
+            Err(_) => {
+                drop(servers);
+                None
+            }
+        }
     }
 }

@@ -1,0 +1,298 @@
+//! The race of the attempts to connect to a server.
+ghost use Rattle.futures.specs.Poll.{OnPending};
+ghost use Rattle.futures.specs.Task.{Covers, Keeps};
+
+use fair_use::{Move, Race};
+use futures::Future;
+use futures::task::{Context, Poll};
+use http_traffic::{Addresses, Ticket};
+use std::alloc::Global;
+use std::io;
+use std::net::{Net, SocketAddr};
+use std::sync::Wait;
+use std::time::{Clock, Duration, Instant};
+use tokio::net::{ConnectFuture, TcpStream};
+use tokio::runtime::Handle;
+use tokio::time::Sleep;
+
+/// A connection to a server, and the address at which it was reached.
+#[derive(Drop)]
+pub struct Connected {
+    pub socket: TcpStream,
+    pub server: SocketAddr,
+}
+
+/// Why a server was not connected to.
+#[derive(Clone, Copy, Debug, PartialEq, Eq)]
+pub enum DialFault {
+    /// The attempt at each address has failed.
+    Failed,
+    /// None has connected in time, or the clock cannot be read.
+    Late,
+    /// Out of memory.
+    NoMemory,
+}
+
+// An attempt.
+struct Attempt {
+    server: SocketAddr,
+    // While it is under way.
+    connecting: Option<ConnectFuture>,
+    // What it holds meanwhile where it goes beside another one.
+    ticket: Option<Ticket>,
+}
+
+// Written by hand, so that what lets it go is one call for the prover (docs/GATE.md).
+impl Drop for Attempt {
+    fn drop(self) {
+        let Self {
+            server: _,
+            connecting: _,
+            ticket: _,
+        } = self;
+    }
+}
+
+/// Connects to a server at its addresses, side by side.
+pub struct Dialing<R> {
+    rt: R,
+    handle: Handle,
+    servers: Addresses,
+    race: Race,
+    began: Option<Instant>,
+    attempts: Vec<Attempt>,
+    // Whether an attempt was refused that would have gone beside another one.
+    is_held: bool,
+    // Runs while there is nothing to be done.
+    sleep: Option<Sleep>,
+}
+
+// Written by hand, so that what lets it go is one call for the prover (docs/GATE.md).
+impl<R: Drop> Drop for Dialing<R> {
+    fn drop(self) {
+        let Self {
+            rt,
+            handle,
+            servers,
+            race: _,
+            began: _,
+            attempts,
+            is_held: _,
+            sleep,
+        } = self;
+        drop(rt);
+        drop(handle);
+        drop(servers);
+        drop(attempts);
+        drop(sleep);
+    }
+}
+
+impl<R: Net + Wait + Clock + Copy> Dialing<R> {
+    /// Connects to one of these addresses within this time, on the event loop of this handle. The first attempt begins at once.
+    pub fn new(
+        rt: R,
+        alloc: Global,
+        handle: Handle,
+        servers: Addresses,
+        limit: Duration,
+    ) -> Dialing<R> {
+        let race = Race::new(servers.as_slice().len(), millis(limit));
+        let mut dialing = Dialing {
+            rt,
+            handle,
+            servers,
+            race,
+            began: Instant::now(&rt).ok(),
+            attempts: Vec::new(alloc),
+            is_held: false,
+            sleep: None,
+        };
+        let _ = dialing.begin(0, None);
+        dialing
+    }
+
+    // Begins the next attempt. Errors: there is none, or out of memory.
+    fn begin(&mut self, now: u64, ticket: Option<Ticket>) -> Result<(), DialFault> {
+        let Some(server) = self.servers.as_slice().get(self.race.begun) else {
+            drop(ticket);
+            return Err(DialFault::Failed);
+        };
+        let server = *server;
+        let attempt = Attempt {
+            server,
+            connecting: Some(TcpStream::connect(&self.rt, server, self.handle.reactor())),
+            ticket,
+        };
+        match self.attempts.push(attempt) {
+            Ok(()) => {
+                self.race.note_begun(now);
+                Ok(())
+            }
+            Err(_) => Err(DialFault::NoMemory),
+        }
+    }
+
+    // Takes the next step of the race. Returns until when there is nothing to be done, or `None` if an attempt has begun. Errors: it is over.
+    fn step(&mut self) -> Result<Option<u64>, DialFault> {
+        let now = self.now();
+        let ticket = self.asked(now);
+        match self.race.next(now, !self.is_held) {
+            Move::Begin => {
+                self.begin(now, ticket)?;
+                Ok(None)
+            }
+            Move::Replace => {
+                drop(ticket);
+                self.give_up(now);
+                self.begin(now, None)?;
+                Ok(None)
+            }
+            Move::Wait(until) => Ok(Some(until)),
+            Move::Late => Err(DialFault::Late),
+            Move::Failed => Err(DialFault::Failed),
+        }
+    }
+}
+
+impl<R: Wait + Clock> Dialing<R> {
+    // The milliseconds since the race has begun; the most that there are if the clock cannot be read.
+    fn now(&self) -> u64 {
+        let Some(began) = self.began else {
+            return u64::MAX;
+        };
+        match Instant::now(&self.rt) {
+            Ok(now) => u64::try_from(now.saturating_duration_since(began).as_millis()).unwrap_or(
+                u64::MAX,
+            ),
+            Err(_) => u64::MAX,
+        }
+    }
+
+    // What the next attempt holds that would begin now beside another one. `None` if it may not, and where there is none.
+    // Where one was refused, no other is asked for: the addresses that are left are tried one after the other.
+    fn asked(&mut self, now: u64) -> Option<Ticket> {
+        if self.is_held || !self.race.is_asked(now) {
+            return None;
+        }
+        let ticket = self.servers.take_beside(&self.rt);
+        self.is_held = ticket.is_none();
+        ticket
+    }
+
+    // Gives up all attempts under way.
+    fn give_up(&mut self, now: u64) {
+        for _ in 0..self.attempts.len() {
+            self.race.note_ended(now);
+        }
+        self.attempts.clear();
+    }
+
+    // The address of the attempt at this place, which has ended.
+    fn server_at(&mut self, place: usize) -> Option<SocketAddr> {
+        let attempt = self.attempts.get_mut(place)?;
+        put(&mut attempt.connecting, None);
+        put(&mut attempt.ticket, None);
+        Some(attempt.server)
+    }
+
+    // Notes that the attempt at this place has ended so. Returns the connection, if it has connected; then the others are closed.
+    fn ended(&mut self, place: usize, connected: io::Result<TcpStream>) -> Option<Connected> {
+        let now = self.now();
+        self.race.note_ended(now);
+        let server = self.server_at(place)?;
+        let socket = connected.ok()?;
+        self.give_up(now);
+        put(&mut self.sleep, None);
+        self.servers.note_connected(server);
+        Some(Connected { socket, server })
+    }
+
+    // Polls the attempts under way. Returns the connection, if one has connected.
+    fn poll_attempts(&mut self, cx: &mut Context<'_>) -> Option<Connected>
+        ensures { Keeps cx.old cx.new }
+    {
+        for place in 0..self.attempts.len() {
+            if let Some(connected) = self.poll_attempt(place, cx) {
+                return Some(connected);
+            }
+        }
+        None
+    }
+
+    // Polls the attempt at this place. Returns the connection, if it has connected.
+    fn poll_attempt(&mut self, place: usize, cx: &mut Context<'_>) -> Option<Connected>
+        ensures { Keeps cx.old cx.new }
+    {
+        let attempt = self.attempts.get_mut(place)?;
+        let Some(connecting) = &mut attempt.connecting else {
+            return None;
+        };
+        match connecting.poll(cx) {
+            Poll::Ready(connected) => self.ended(place, connected),
+            Poll::Pending => None,
+        }
+    }
+
+    // Sets the timer to this time of the race.
+    fn set(&mut self, until: u64) {
+        let began = self.began;
+        let Some(deadline) = began.and_then(|it| it.checked_add(Duration::from_millis(until)))
+        else {
+            put(&mut self.sleep, None);
+            return;
+        };
+        if let Some(sleep) = &mut self.sleep {
+            if sleep.deadline() != deadline {
+                sleep.reset(deadline);
+            }
+            return;
+        }
+        let sleep = self.handle.time().sleep_until(deadline).ok();
+        put(&mut self.sleep, sleep);
+    }
+
+    // Waits until this time of the race. Ready only with why the race cannot go on.
+    fn poll_time(&mut self, until: u64, cx: &mut Context<'_>) -> Poll<DialFault>
+        ensures registered { OnPending result (Covers cx.new (λ _. ⊥)) }
+        ensures kept { Keeps cx.old cx.new }
+    {
+        self.set(until);
+        let Some(sleep) = &mut self.sleep else {
+            return Poll::Ready(DialFault::NoMemory);
+        };
+        match sleep.poll(cx) {
+            Poll::Ready(Ok(())) => cx.yield_now(),
+            Poll::Ready(Err(_)) => Poll::Ready(DialFault::Late),
+            Poll::Pending => Poll::Pending,
+        }
+    }
+}
+
+// Puts a value in the place of another, which is let go of by a call: an assignment would lay out its parts for the prover.
+fn put<T: Drop>(place: &mut T, value: T) {
+    *place = value;
+}
+
+// This time in milliseconds, at most as many as the number holds.
+fn millis(time: Duration) -> u32 {
+    u32::try_from(time.as_millis()).unwrap_or(u32::MAX)
+}
+
+impl<R: Net + Wait + Clock + Copy> Future for Dialing<R> {
+    type Output = Result<Connected, DialFault>;
+
+    fn poll(&mut self, cx: &mut Context<'_>) -> Poll<Result<Connected, DialFault>> {
+        if let Some(connected) = self.poll_attempts(cx) {
+            return Poll::Ready(Ok(connected));
+        }
+        match self.step() {
+            Ok(Some(until)) => match self.poll_time(until, cx) {
+                Poll::Ready(fault) => Poll::Ready(Err(fault)),
+                Poll::Pending => Poll::Pending,
+            },
+            Ok(None) => cx.yield_now(),
+            Err(fault) => Poll::Ready(Err(fault)),
+        }
+    }
+}

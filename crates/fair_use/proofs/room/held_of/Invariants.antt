@@ -1,0 +1,10 @@
+use Rattle.std.proofs.Common.{◌≡◌, ◌+◌, length}
+use Rattle.fair_use.specs.Room.{held_of}
+use Rattle.fair_use.proofs.room.held_of.Given as goal
+
+-- what was added and what is left are the whole
+abbrev pub invariant-loop-left : goal.invariant-loop-left
+invariant-loop-left l = l.held + held_of l.left ≡ held_of l.holders
+
+abbrev pub decreases-loop-left : goal.decreases-loop-left
+decreases-loop-left l = length l.left
