@@ -8,7 +8,7 @@ use Rattle.fair_use.specs.declared.descriptors.FileRoom.TheVariants.{Free, InPla
 abbrev pub left_of : ℕ → ℕ → ℕ
 left_of files threads = files - (36 + 6 * threads)
 
--- what is kept for clients: a quarter of what is beside 32 for the administration, or half of what is left where that is less
+-- what is kept for clients: a quarter of all files but 32, or half of what is left where that is less
 abbrev pub quarter_of : ℕ → ℕ → ℕ
 quarter_of files threads = min ((files - 32) / 4) (left_of files threads / 2)
 
