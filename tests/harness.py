@@ -724,11 +724,12 @@ def silent_names():
 
 
 class Names:
-    """A name server that tells 127.0.0.1 for every name, after some time; nothing for names that begin with 'silent', and that there is no
-    such name for those that are `gone`. It counts the questions for addresses of each."""
+    """A name server that tells 127.0.0.1 for every name, after some time; nothing for names that begin with 'silent', that there is no
+    such name for those that are `gone`, and of those that begin with 'held' once `tell` is called. It counts the questions for addresses of
+    each."""
 
     def __init__(self, delay=0.0):
-        self.delay, self.asked, self.gone, self.is_silent = delay, [], set(), False
+        self.delay, self.asked, self.gone, self.is_silent, self.held = delay, [], set(), False, {}
         self.socket = socket.socket(socket.AF_INET, socket.SOCK_DGRAM)
         self.socket.bind(("127.0.0.1", 53))
         threading.Thread(target=self.run, daemon=True).start()
@@ -746,7 +747,15 @@ class Names:
             told = b"\xc0\x0c\0\1\0\1\0\0\0\0\0\4\x7f\0\0\1" if is_told else b""
             flags = b"\x81\x83" if name in self.gone else b"\x81\x80"
             reply = octets[:2] + flags + b"\0\1" + (b"\0\1" if is_told else b"\0\0") + bytes(4) + octets[12:end] + told
+            if name.startswith("held"):
+                self.held.setdefault(name, []).append((reply, sender))
+                continue
             threading.Timer(self.delay, self.socket.sendto, (reply, sender)).start()
+
+    def tell(self, name):
+        """Answers the questions about a name that is held."""
+        for reply, sender in self.held.pop(name):
+            self.socket.sendto(reply, sender)
 
     def names(self):
         """The names that were asked for."""

@@ -1,6 +1,6 @@
 //! What `serve` tells of the start of a proxy, and of a failure.
 use crate::patience::tell;
-use fair_use::FewFiles;
+use fair_use::{Division, FewFiles};
 use filter_slots::End;
 use proxy_site::{Addresses, Port, ServeFault};
 use serve_config::Settings;
@@ -110,12 +110,9 @@ fn few_line(alloc: Global, few: Option<FewFiles>) -> Result<String, AllocError> 
     let Some(FewFiles { files, division }) = few else {
         return Ok(String::new(alloc));
     };
-    let (seats, servers) = (
-        division.seats,
-        division.together.saturating_sub(division.seats),
-    );
+    let Division { seats, servers } = division;
     format!(in alloc;
-        "{files} open files: {seats} clients at most, and {servers} connections to servers beside as many (LimitNOFILE)\n"
+        "{files} open files: {seats} clients at most, and {servers} connections to servers (LimitNOFILE)\n"
     )
 }
 

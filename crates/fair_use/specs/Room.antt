@@ -7,9 +7,11 @@ use Rattle.fair_use.specs.declared.room.Holder.{Holder}
 use Rattle.fair_use.specs.declared.room.Taken.{Taken}
 use Rattle.fair_use.specs.declared.room.Taken.TheVariants.{Given, Waits, Beyond}
 
--- what contracts see of a room: how many octets there are, and who holds some or waits, those that began first before others
+-- what contracts see of a room: how many octets there are, how many have entered so far (no more are counted than 64 bits hold), and who holds
+-- some or waits, those that began first before others
 pub record Shared : Type 0 where
   pub size : ℕ
+  pub entered : ℕ
   pub holders : List Holder
 
 -- the octets that all of these hold
@@ -21,6 +23,15 @@ held_of (holder ∷ holders) = holder.held + held_of holders
 abbrev pub IsKept : ℕ → List Holder → Type 0
 IsKept size [] = ⊤
 IsKept size (holder ∷ holders) = (holder.held ≤ holder.most) × (holder.most + held_of holders ≤ size) × IsKept size holders
+
+-- each of these has a number below this one
+abbrev pub AreBelow : ℕ → List Holder → Type 0
+AreBelow entered [] = ⊤
+AreBelow entered (holder ∷ holders) = (holder.number < entered) × AreBelow entered holders
+
+-- so who enters next has a number of its own, unless the numbers have run out
+abbrev pub IsNumbered : ℕ → List Holder → Type 0
+IsNumbered entered holders = entered < 18446744073709551615 → AreBelow entered holders
 
 -- whether so many octets more for the one at this place leave each that began before it room for all that it ever takes
 abbrev pub leaves_room : ℕ → ℕ → ℕ → List Holder → Bool
@@ -146,4 +157,4 @@ IsNobodyNext size holders = (place : ℕ) → place < length holders → is_next
 -- the room with one more, behind all others, which holds nothing as yet
 abbrev pub after_entering : Shared → ℕ → Option ℕ → ℕ → ℕ → Shared
 after_entering room number asker server most =
-    record room { holders = room.holders ++ record { number = number; asker = asker; server = server; most = most; held = 0; wanted = 0; turn = 0 } ∷ [] }
+    record room { entered = min (room.entered + 1) 18446744073709551615; holders = room.holders ++ record { number = number; asker = asker; server = server; most = most; held = 0; wanted = 0; turn = 0 } ∷ [] }

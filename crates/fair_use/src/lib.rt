@@ -17,8 +17,8 @@ mod unjoined;
 mod waiting_line;
 
 pub use descriptors::{
-    Division, FEW_FILES, FewFiles, FileRoom, OWN_FILES, SERVER_FILES, THREAD_FILES, division_of,
-    is_told, may_stay_idle, room_for,
+    ADMINISTRATION_FILES, Division, FEW_FILES, FewFiles, FileRoom, OWN_FILES, SERVER_FILES,
+    THREAD_FILES, division_of, is_told, may_be_one_more, room_for,
 };
 pub use keeping::{GivesWay, MOST_IDLE, MOST_TO_A_SERVER, gives_way};
 pub use laws::{first_law, free_law, none_law, passing_law};

@@ -1,5 +1,5 @@
 //! Room for octets that several share.
-ghost use Rattle.std.specs.Prelude.{◌≡◌, ◌↔◌, ℕ, ◌+◌, ◌≤◌, ◌<◌, ◌^◌, [], true, false, nat_lt, length, slice_get, Some, IsSome, IsSomeAnd, IfSome, IfNone, MatchOption, IsOk, IfOk, IfErr, OnErr};
+ghost use Rattle.std.specs.Prelude.{◌≡◌, ◌↔◌, ℕ, ◌+◌, ◌≤◌, ◌<◌, ◌^◌, [], None, true, false, nat_lt, length, slice_get, Some, IsSome, IsSomeAnd, IfSome, IfNone, MatchOption, IsOk, IfOk, IfErr, OnErr};
 ghost use Rattle.std.specs.List.{remove};
 ghost use Rattle.fair_use.specs.declared.room.EnterFault.TheVariants.{TooMuch};
 ghost use Rattle.fair_use.specs.Room.{held_of, held_for, held_from, other_asker_waits, other_server_waits, is_askers_share, is_servers_share, is_fair, IsKept, leaves_room, may_have, last_turn, wanted_of, place_of, taken_of, after_giving, after_waiting, after_taking, Takes, after_entering, is_next_at, turn_at, IsLongest, IsNobodyNext};
@@ -313,19 +313,19 @@ pub struct Room {
 }
 
 impl Model for Room {
-    ghost use Rattle.fair_use.specs.Room.{Shared, IsKept};
+    ghost use Rattle.fair_use.specs.Room.{Shared, IsKept, IsNumbered};
 
     ghost Value = { Shared };
 
-    ghost view = { λ r. record { size = r.size; holders = r.holders.items } };
+    ghost view = { λ r. record { size = r.size; entered = r.entered; holders = r.holders.items } };
 
-    ghost invariant = { λ r. IsKept r.size r.holders.items };
+    ghost invariant = { λ r. IsKept r.size r.holders.items × IsNumbered r.entered r.holders.items };
 }
 
 impl Room {
     /// Room for so many octets, which nobody shares as yet.
     pub fn new(alloc: Global, size: usize) -> Room
-        ensures { result ≡ record { size = size; holders = [] } }
+        ensures { result ≡ record { size = size; entered = 0; holders = [] } }
     {
         Room {
             size,
@@ -357,9 +357,10 @@ impl Room {
         wanted_of(self.holders.as_slice())
     }
 
-    /// One more shares the room, behind all others, which never takes more than `most`: its number. Errors: that is more than there is, or
+    /// One more shares the room, behind all others, which never takes more than `most`: its number, which nobody else has, unless 2^64 have
+    /// entered before. Errors: that is more than there is, or
     /// out of memory; nothing changes.
-    #[tactic(auto, using(crate::proofs::Kept::kept_more))]
+    #[tactic(auto, using(crate::proofs::Kept::kept_more, crate::proofs::Numbers::numbered_more, crate::proofs::Numbers::nobody_has))]
     pub fn enter(
         &mut self,
         asker: Option<u128>,
@@ -367,6 +368,8 @@ impl Room {
         most: usize,
     ) -> Result<u64, EnterFault>
         ensures entered { IfOk result (λ number. self.new ≡ after_entering self.old number asker server most) }
+        ensures fresh { IfOk result (λ number. number < 18446744073709551615 → place_of number self.old.holders ≡ None) }
+        ensures numbered { IfOk result (λ number. number ≡ self.old.entered) }
         ensures fits { IsOk result → most ≤ self.old.size }
         ensures too_much { IfErr result (λ fault. fault ≡ TooMuch ↔ self.old.size < most) }
         ensures unchanged { OnErr result (self.new ≡ self.old) }
@@ -431,7 +434,7 @@ impl Room {
     }
 
     // Gives so many octets to the one at this place.
-    #[tactic(auto, using(crate::proofs::Kept::kept_giving))]
+    #[tactic(auto, using(crate::proofs::Kept::kept_giving, crate::proofs::Numbers::numbered_set))]
     fn give(&mut self, place: usize, holder: Holder, octets: usize)
         requires there { slice_get self.old.holders place ≡ Some holder }
         requires within { holder.held + octets ≤ holder.most }
@@ -445,7 +448,7 @@ impl Room {
     }
 
     // Has the one at this place wait for so many octets, since when it waited if it did.
-    #[tactic(auto, using(crate::proofs::Kept::kept_same))]
+    #[tactic(auto, using(crate::proofs::Kept::kept_same, crate::proofs::Numbers::numbered_set))]
     fn delay(&mut self, place: usize, holder: Holder, octets: usize)
         requires there { slice_get self.old.holders place ≡ Some holder }
         ensures { self.new ≡ after_waiting self.old place holder octets }
@@ -459,7 +462,7 @@ impl Room {
     }
 
     /// The one with this number gives all that it holds back, and waits no more.
-    #[tactic(auto, using(crate::proofs::Kept::kept_less))]
+    #[tactic(auto, using(crate::proofs::Kept::kept_less, crate::proofs::Numbers::numbered_less))]
     pub fn leave(&mut self, number: u64)
         ensures { MatchOption (place_of number self.old.holders) (self.new ≡ self.old) (λ place. self.new ≡ record self.old { holders = remove self.old.holders place }) }
     {

@@ -1,5 +1,5 @@
 //! Whose turn it is where many ask for what a few threads do, each for as long as it takes.
-ghost use Rattle.std.specs.Prelude.{◌≡◌, OnErr, OnOk};
+ghost use Rattle.std.specs.Prelude.{◌≡◌, ◌<◌, ◌≤◌, OnErr, OnOk, length, vec_capacity, vec_len};
 ghost use Rattle.fair_use.specs.WaitingLine.{after_turn, begun, free_of, is_ready, may_end, may_one_more, needs_one, next_turn};
 
 use std::alloc::AllocError;
@@ -89,6 +89,8 @@ fn begun(standing: Standing) -> Standing
 pub fn take_turn(line: &mut Vec<Standing>, place: usize) -> Result<(), AllocError>
     ensures taken { OnOk result (line.new.items ≡ after_turn place line.old.items) }
     ensures refused { OnErr result (line.new.items ≡ line.old.items) }
+    ensures there { OnErr result (place < length line.old.items) }
+    ensures full { OnErr result (vec_capacity line.old ≤ vec_len line.old) }
 {
     let Some(standing) = line.get(place) else {
         return Ok(());

@@ -41,7 +41,8 @@ pub(crate) fn told_hit(alloc: Global, label: &[u8], ttl: u64) -> Result<Vec<u8>,
     let mut told = Vec::with_capacity(alloc, label.len().saturating_add(HIT_OCTETS))?;
     told.extend_from_slice(label)?;
     told.extend_from_slice(b"; hit; ttl=")?;
-    told.extend_from_slice(ttl.to_string(alloc)?.as_bytes())?;
+    let mut buffer = itoa::Buffer::new();
+    told.extend_from_slice(buffer.format(ttl).as_bytes())?;
     Ok(told)
 }
 

@@ -58,10 +58,10 @@ pub(crate) fn response_of<B: ResponseBody>(alloc: Global, given: Given) -> Optio
             age,
             told,
         } => {
-            let response = shaped_response(alloc, &object, &shape, age.is_some());
+            let response = object_response(alloc, &object, &shape, age, told);
             drop(shape);
             drop(object);
-            with_own_fields(alloc, response, age, told)
+            response
         }
         Given::Own(answer) => own_response(alloc, answer),
         Given::Passed(answer) => passed_response(alloc, answer),
@@ -137,10 +137,11 @@ fn add_own_fields(
     told: Vec<u8>,
 ) -> Option<()> {
     if let Some(age) = age {
-        let age = age.to_string(alloc).ok()?;
-        append_field(headers, header::AGE, age.into_bytes())?;
+        let mut buffer = itoa::Buffer::new();
+        let age = buffer.format(age).as_bytes().to_vec(alloc).ok()?;
+        append_field(headers, header::AGE, age)?;
     }
-    append_field(headers, HeaderName::from_static("cache-status"), told)
+    append_field(headers, header::CACHE_STATUS, told)
 }
 
 // Appends a field whose value is not copied. Returns `None` as `add_field` does.
@@ -155,52 +156,91 @@ fn append_field(headers: &mut HeaderMap, name: HeaderName, value: Vec<u8>) -> Op
     }
 }
 
-// The response with an object in this shape, without Age if `is_age_apart`. Returns `None` if out of memory, or if there are too many
-// fields.
-fn shaped_response<B: ResponseBody>(
+// The response with an object in this shape, this Age, if one is given, and this Cache-Status. Returns `None` if out of memory, or if there are
+// too many fields.
+fn object_response<B: ResponseBody>(
     alloc: Global,
     object: &SharedObject,
     shape: &Shape,
-    is_age_apart: bool,
+    age: Option<u32>,
+    told: Vec<u8>,
 ) -> Option<Response<B>> {
+    let Some(body) = body_in(alloc, object, shape) else {
+        drop(told);
+        return None;
+    };
+    let mut response = Response::new(alloc, B::of(body));
+    *response.status_mut() = status_of(status_in(object, shape));
+    let done = add_shaped_fields(alloc, response.headers_mut(), object, shape, age, told);
+    if_done(response, done)
+}
+
+// The body of an object in this shape. Returns `None` if it has too many owners.
+fn body_in(alloc: Global, object: &SharedObject, shape: &Shape) -> Option<Portions> {
     match shape {
         Shape::Whole => {
             let share = object.share().ok()?;
-            let body = Portions::of_object(alloc, share);
-            let status = object.get().status();
-            object_response(alloc, status, body, object.get().head(), is_age_apart)
+            Some(Portions::of_object(alloc, share))
         }
-        Shape::NotModified(fields) => {
-            let nothing = Portions::of_text(alloc, Vec::new(alloc));
-            object_response(alloc, 304, nothing, fields.as_slice(), is_age_apart)
-        }
-        Shape::Part { first, last, range } => {
+        Shape::Part { first, last, .. } => {
             let share = object.share().ok()?;
-            let body = Portions::of_part(alloc, share, *first, last.saturating_add(1));
-            let head = object.get().head();
-            let response = object_response(alloc, 206, body, head, is_age_apart);
-            with_field(alloc, response, b"content-range", range.as_slice())
+            Some(Portions::of_part(alloc, share, *first, last.saturating_add(1)))
         }
-        Shape::Unsatisfiable(range) => {
-            let response = Some(bare(alloc, 416));
-            with_field(alloc, response, b"content-range", range.as_slice())
+        Shape::NotModified(_) | Shape::Unsatisfiable(_) => {
+            Some(Portions::of_text(alloc, Vec::new(alloc)))
         }
     }
 }
 
-// The response with this status and body, and the fields of an object. Returns `None` if out of memory, or if there are too many
-// fields.
-fn object_response<B: ResponseBody>(
+// The status of an object in this shape.
+fn status_in(object: &SharedObject, shape: &Shape) -> u16 {
+    match shape {
+        Shape::Whole => object.get().status(),
+        Shape::NotModified(_) => 304,
+        Shape::Part { .. } => 206,
+        Shape::Unsatisfiable(_) => 416,
+    }
+}
+
+// Adds the fields of an object in this shape, this Age, if one is given, and this Cache-Status. Returns `None` as `add_field` does.
+fn add_shaped_fields(
     alloc: Global,
-    status: u16,
-    body: Portions,
-    fields: &[(Vec<u8>, Vec<u8>)],
+    headers: &mut HeaderMap,
+    object: &SharedObject,
+    shape: &Shape,
+    age: Option<u32>,
+    told: Vec<u8>,
+) -> Option<()> {
+    match add_fields_in(alloc, headers, object, shape, age.is_some()) {
+        Some(()) => add_own_fields(alloc, headers, age, told),
+        None => {
+            drop(told);
+            None
+        }
+    }
+}
+
+// Adds the fields of an object in this shape, without Age if `is_age_apart`. Returns `None` as `add_field` does.
+fn add_fields_in(
+    alloc: Global,
+    headers: &mut HeaderMap,
+    object: &SharedObject,
+    shape: &Shape,
     is_age_apart: bool,
-) -> Option<Response<B>> {
-    let mut response = Response::new(alloc, B::of(body));
-    *response.status_mut() = status_of(status);
-    let done = add_kept_fields(alloc, response.headers_mut(), fields, is_age_apart);
-    if_done(response, done)
+) -> Option<()> {
+    match shape {
+        Shape::Whole => add_kept_fields(alloc, headers, object.get().head(), is_age_apart),
+        Shape::NotModified(fields) => {
+            add_kept_fields(alloc, headers, fields.as_slice(), is_age_apart)
+        }
+        Shape::Part { range, .. } => {
+            add_kept_fields(alloc, headers, object.get().head(), is_age_apart)?;
+            add_field(alloc, headers, b"content-range", range.as_slice())
+        }
+        Shape::Unsatisfiable(range) => {
+            add_field(alloc, headers, b"content-range", range.as_slice())
+        }
+    }
 }
 
 // Adds the fields of an object, with room for Age and Cache-Status as well. Returns `None` as `add_object_fields` does.

@@ -1,10 +1,10 @@
 //! One request to a server, over a new connection or one that was kept.
-ghost use Rattle.std.specs.Prelude.{◌≡◌, IfOk, IfSome};
+ghost use Rattle.std.specs.Prelude.{◌≡◌, IfOk, IfSome, box_value};
 ghost use Rattle.futures.specs.Poll.{IfReady, OnPending};
 ghost use Rattle.futures.specs.Task.{Covers, Keeps};
 
 use crate::dialer::{Connect, Reached};
-use crate::fetching::put;
+use crate::fetching::{boxed, put};
 use crate::kept::Kept;
 use crate::moves::{Moves, Noted, Patience, Speed, Stillness};
 use crate::reply::{Answer, Reply};
@@ -104,6 +104,39 @@ pub trait Talk: Drop {
 
     /// Keeps the connection to this server that brought the page, if it may carry another request.
     fn keep(&mut self, server: SocketAddr, page: &mut Self::Page);
+}
+
+/// A future in a box, so that what has it is small where it is moved and cleared.
+pub struct Aside<F> {
+    future: Box<F>,
+}
+
+impl<F: Drop> Drop for Aside<F> {
+    fn drop(self) {
+        let Self { future } = self;
+        drop(future);
+    }
+}
+
+impl<F: Future> Aside<F> {
+    /// This future. Returns `None` if there is none, or if out of memory.
+    pub fn of(alloc: Global, future: Option<F>) -> Option<Aside<F>>
+        requires { IfSome future F.can_poll }
+        ensures { IfSome result (λ a. F.can_poll (box_value a.future)) }
+    {
+        let future = boxed(alloc, future?)?;
+        Some(Aside { future })
+    }
+}
+
+impl<F: Future> Future for Aside<F> {
+    type Output = F::Output;
+
+    ghost can_poll = { λ a. F.can_poll (box_value a.future) };
+
+    fn poll(&mut self, cx: &mut Context<'_>) -> Poll<F::Output> {
+        self.future.poll(cx)
+    }
 }
 
 // Starts an exchange over a connection to the first of these addresses to which one was kept. `None` if there is none.
@@ -397,7 +430,7 @@ impl<R: Wait + Clock + Copy, X: Ask> Get<R, X> {
 impl<R: Wait + Clock + Copy, P: Drop, X: Ask<Purse = P>> Talk for Get<R, X> {
     type Page = Paid<P>;
 
-    type Talking = Borne<R, X::Answer, X::Connection>;
+    type Talking = Aside<Borne<R, X::Answer, X::Connection>>;
 
     fn talk(&mut self, server: SocketAddr, socket: Paced) -> Option<Self::Talking> {
         put(&mut self.used, None);
@@ -407,7 +440,7 @@ impl<R: Wait + Clock + Copy, P: Drop, X: Ask<Purse = P>> Talk for Get<R, X> {
         };
         let begun = self.begin(server, Noted::new(socket, other), &moves);
         put(&mut self.fresh, Some(moves));
-        begun
+        Aside::of(self.alloc, begun)
     }
 
     fn resume(&mut self, server: SocketAddr) -> Option<Self::Talking> {
@@ -418,7 +451,7 @@ impl<R: Wait + Clock + Copy, P: Drop, X: Ask<Purse = P>> Talk for Get<R, X> {
         };
         let begun = self.begin(server, Noted::used(socket, other), &moves);
         put(&mut self.used, Some(moves));
-        begun
+        Aside::of(self.alloc, begun)
     }
 
     fn may_retry(&self, fault: FetchFault) -> bool {

@@ -14,8 +14,10 @@ mod exchange;
 mod fetching;
 mod kept;
 mod moves;
+mod outlet;
 mod passing;
 mod reply;
+mod sending;
 mod speaking;
 mod visit;
 

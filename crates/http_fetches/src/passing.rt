@@ -1,392 +1,32 @@
 //! One request that is passed on as it is, over a connection of its own, its content and that of the answer as they come.
-ghost use Rattle.std.specs.Prelude.{◌≡◌, IfSome, IsSomeAnd, box_value};
-ghost use Rattle.futures.specs.Channel.{readable_source};
+ghost use Rattle.std.specs.Prelude.{◌≡◌, IfSome, box_value};
 ghost use Rattle.futures.specs.Poll.{OnPending};
 ghost use Rattle.futures.specs.Task.{Covers, Keeps};
 
 use crate::dialer::Dial;
-use crate::exchange::{Beside, Talk};
+use crate::exchange::{Aside, Beside, Talk};
 use crate::fetching::{boxed, put};
 use crate::moves::{Moves, Noted, Patience};
+use crate::outlet::SharedOutlet;
 use crate::reply::Head;
+use crate::sending::{Line, Sent, Whole, request_of};
 use crate::speaking::Deliverer;
 use crate::visit::{Visit, Visited};
-use bytes::Bytes;
-use futures::channel::{mpsc, oneshot};
-use futures::stream::Stream;
+use futures::channel::mpsc;
 use futures::task::{Context, Poll};
 use futures::{Future, ready};
-use http_body::{Body, Frame, SizeHint};
-use http_content::{Relayed, add_field, add_fields};
-use http_traffic::{
-    Change, Coming, FetchFault, LeftChange, PassFault, Passage, PassedHead, Piece, Server, Ticket,
-};
+use http_content::Relayed;
+use http_traffic::{Change, FetchFault, LeftChange, PassFault, Passage, Piece, Server, Ticket};
+use hyper::Request;
 use hyper::client::conn::http1;
-use hyper::{HeaderMap, Method, Request, header};
 use paced_stream::Paced;
-use std::alloc::{AllocError, Global};
-use std::cell::{Cell, RefCell};
-use std::io;
-use std::io::ErrorKind;
+use std::alloc::Global;
 use std::net::SocketAddr;
-use std::rc::Rc;
 use std::time::{Clock, Duration};
 use tokio::time::Handle;
 
 // How long the answer to a request with an unsafe method is waited for whose client has gone, in seconds.
 const LEFT_SECONDS: u64 = 5;
-
-// Whether all of a request was sent. Reference-counted within one thread.
-struct Whole(Rc<Cell<bool>>);
-
-impl Drop for Whole {
-    fn drop(self) {
-        let Self(_) = self;
-    }
-}
-
-impl Whole {
-    // Not all was. Errors: out of memory.
-    fn new(alloc: Global) -> Result<Whole, AllocError> {
-        Ok(Whole(Rc::new(alloc, Cell::new(false))?))
-    }
-
-    // Another handle to the same. Errors: there are too many.
-    fn share(&self) -> Result<Whole, AllocError> {
-        Ok(Whole(self.0.clone()?))
-    }
-
-    // Notes that all was.
-    fn note(&self) {
-        self.0.set(true);
-    }
-
-    // Whether all was.
-    fn is_noted(&self) -> bool {
-        self.0.get()
-    }
-}
-
-/// The content of the request, as it comes.
-pub struct Sent {
-    // None if there is none, and once it is complete.
-    coming: Option<mpsc::Receiver<Piece>>,
-    // What is still to come, where that is known.
-    left: Option<u64>,
-    // Whether no field says that there is none.
-    is_bare: bool,
-    // Where is noted that all was sent. None if out of memory.
-    whole: Option<Whole>,
-}
-
-// Written by hand, as other drops of this file, so that what lets it go is one call for the prover (docs/GATE.md).
-impl Drop for Sent {
-    fn drop(self) {
-        let Self {
-            coming,
-            left: _,
-            is_bare: _,
-            whole,
-        } = self;
-        drop(coming);
-        drop(whole);
-    }
-}
-
-impl Sent {
-    // The content of a request with this method, which has none if nothing is coming.
-    fn new(method: &str, content: Option<Coming>, whole: Option<Whole>) -> Sent {
-        match content {
-            Some(Coming { length, pieces }) => Sent {
-                coming: Some(pieces),
-                left: length,
-                is_bare: false,
-                whole,
-            },
-            None => Sent {
-                coming: None,
-                left: Some(0),
-                is_bare: !matches!(method, "POST" | "PUT" | "PATCH"),
-                whole,
-            },
-        }
-    }
-
-    /// Notes that its request is given to a connection: that is all of it where nothing is coming.
-    pub(crate) fn note_delivered(&self) {
-        if self.coming.is_none() {
-            self.note_whole();
-        }
-    }
-
-    // Notes that all was sent.
-    fn note_whole(&self) {
-        if let Some(whole) = &self.whole {
-            whole.note();
-        }
-    }
-}
-
-impl Body for Sent {
-    type Data = Bytes;
-
-    type Error = io::Error;
-
-    ghost needs = { λ b s. IsSomeAnd b.coming (λ coming. s ≡ readable_source coming) };
-
-    fn poll_frame(
-        &mut self,
-        cx: &mut Context<'_>,
-    ) -> Poll<Option<Result<Frame<Bytes>, io::Error>>> {
-        let Some(coming) = &mut self.coming else {
-            return Poll::Ready(None);
-        };
-        match ready!(coming.poll_next(cx)) {
-            Some(Piece::Octets(octets)) => {
-                let count = octets.len() as u64;
-                if let Some(left) = self.left {
-                    self.left = Some(left.saturating_sub(count));
-                }
-                Poll::Ready(Some(frame_of(octets)))
-            }
-            Some(Piece::End) => {
-                put(&mut self.coming, None);
-                self.note_whole();
-                Poll::Ready(None)
-            }
-            // (a client may go as its last octets have come, of which the number was known)
-            None if self.left == Some(0) => {
-                put(&mut self.coming, None);
-                self.note_whole();
-                Poll::Ready(None)
-            }
-            None => Poll::Ready(Some(Err(io::Error::from(ErrorKind::UnexpectedEof)))),
-        }
-    }
-
-    fn is_end_stream(&self) -> bool {
-        self.is_bare
-    }
-
-    fn size_hint(&self) -> SizeHint {
-        match self.left {
-            Some(left) => SizeHint::with_exact(left),
-            None => SizeHint::new(),
-        }
-    }
-}
-
-// The frame of these octets. Errors: out of memory.
-fn frame_of(octets: Vec<u8>) -> io::Result<Frame<Bytes>> {
-    match Bytes::from_vec(octets) {
-        Ok(octets) => Ok(Frame::data(octets)),
-        Err(_) => Err(io::Error::from(ErrorKind::OutOfMemory)),
-    }
-}
-
-// What takes the answer.
-struct Outlet {
-    // Until there is a head, or a reason why there is none.
-    head: Option<oneshot::Sender<Result<PassedHead, PassFault>>>,
-    // Until there is a content.
-    pieces: Option<mpsc::Sender<Piece>>,
-    // Once there is a head: ready where nobody wants the answer any more.
-    wanted: Option<oneshot::Receiver<()>>,
-    // Whether the content waits for who takes it.
-    is_full: bool,
-    // The head that nobody has taken.
-    untaken: Option<(u16, HeaderMap)>,
-    // Whether nobody has heard why there is none.
-    is_unheard: bool,
-}
-
-impl Drop for Outlet {
-    fn drop(self) {
-        let Self {
-            head,
-            pieces,
-            wanted,
-            is_full: _,
-            untaken,
-            is_unheard: _,
-        } = self;
-        drop(head);
-        drop(pieces);
-        drop(wanted);
-        drop(untaken);
-    }
-}
-
-impl Outlet {
-    // Whether nobody wants the answer any more.
-    fn is_unwanted(&mut self, cx: &mut Context<'_>) -> bool
-        ensures { Keeps cx.old cx.new }
-    {
-        if let Some(head) = &mut self.head {
-            return matches!(head.poll_canceled(cx), Poll::Ready(()));
-        }
-        match &mut self.wanted {
-            Some(wanted) => matches!(wanted.poll(cx), Poll::Ready(_)),
-            None => false,
-        }
-    }
-
-    // Hands over a head, after which its content may be passed on. Returns `None` if nobody wants it, or if out of memory.
-    fn open(&mut self, alloc: Global, status: u16, head: HeaderMap) -> Option<mpsc::Sender<Piece>> {
-        let Ok((keep, wanted)) = oneshot::channel(alloc) else {
-            drop(head);
-            return None;
-        };
-        let length = length_of(&head);
-        let passed = PassedHead {
-            status,
-            head,
-            length,
-            wanted: keep,
-        };
-        put(&mut self.wanted, Some(wanted));
-        let Some(head) = self.head.take() else {
-            drop(passed);
-            return None;
-        };
-        match head.send(Ok(passed)) {
-            Ok(()) => self.pieces.take(),
-            Err(back) => {
-                self.keep(back);
-                None
-            }
-        }
-    }
-
-    // Keeps a head that nobody has taken.
-    fn keep(&mut self, back: Result<PassedHead, PassFault>) {
-        if let Ok(PassedHead { status, head, .. }) = back {
-            put(&mut self.untaken, Some((status, head)));
-        }
-    }
-
-    // Whether the head of the answer is awaited, which nobody wants any more.
-    fn is_before_head(&self) -> bool {
-        self.head.is_some()
-    }
-
-    // Says why there is no head, unless there was one.
-    fn fail(&mut self, fault: PassFault) {
-        if let Some(head) = self.head.take() {
-            let sent = head.send(Err(fault));
-            self.is_unheard = sent.is_err();
-            drop(sent);
-        }
-    }
-}
-
-// The length that a head says the content has.
-fn length_of(head: &HeaderMap) -> Option<u64> {
-    if head.contains_key(header::TRANSFER_ENCODING) {
-        return None;
-    }
-    head.get(header::CONTENT_LENGTH)?
-        .to_str()
-        .ok()?
-        .parse()
-        .ok()
-}
-
-// What takes the answer. Reference-counted within one thread.
-#[derive(Drop)]
-struct SharedOutlet(Rc<RefCell<Outlet>>);
-
-impl SharedOutlet {
-    // What takes an answer at these ends. Returns `None` if out of memory.
-    fn of(
-        alloc: Global,
-        head: oneshot::Sender<Result<PassedHead, PassFault>>,
-        pieces: mpsc::Sender<Piece>,
-    ) -> Option<SharedOutlet> {
-        let outlet = Outlet {
-            head: Some(head),
-            pieces: Some(pieces),
-            wanted: None,
-            is_full: false,
-            untaken: None,
-            is_unheard: false,
-        };
-        let shared = Rc::new(alloc, RefCell::new(outlet)).ok()?;
-        Some(SharedOutlet(shared))
-    }
-
-    // Another handle to the same. Errors: there are too many.
-    fn share(&self) -> Result<SharedOutlet, AllocError> {
-        Ok(SharedOutlet(self.0.clone()?))
-    }
-
-    // As `Outlet::is_unwanted`.
-    fn is_unwanted(&self, cx: &mut Context<'_>) -> bool
-        ensures { Keeps cx.old cx.new }
-    {
-        match self.0.try_borrow_mut() {
-            Ok(mut outlet) => outlet.is_unwanted(cx),
-            Err(_) => true,
-        }
-    }
-
-    // As `Outlet::open`.
-    fn open(&self, alloc: Global, status: u16, head: HeaderMap) -> Option<mpsc::Sender<Piece>> {
-        match self.0.try_borrow_mut() {
-            Ok(mut outlet) => outlet.open(alloc, status, head),
-            Err(_) => {
-                drop(head);
-                None
-            }
-        }
-    }
-
-    // As `Outlet::fail`.
-    fn fail(&self, fault: PassFault) {
-        if let Ok(mut outlet) = self.0.try_borrow_mut() {
-            outlet.fail(fault);
-        }
-    }
-
-    // As `Outlet::is_before_head`.
-    fn is_before_head(&self) -> bool {
-        match self.0.try_borrow_mut() {
-            Ok(outlet) => outlet.is_before_head(),
-            Err(_) => false,
-        }
-    }
-
-    // Whether nobody has heard why there is no head.
-    fn is_unheard(&self) -> bool {
-        match self.0.try_borrow_mut() {
-            Ok(outlet) => outlet.is_unheard,
-            Err(_) => false,
-        }
-    }
-
-    // The head that nobody has taken.
-    fn untaken(&self) -> Option<(u16, HeaderMap)> {
-        match self.0.try_borrow_mut() {
-            Ok(mut outlet) => outlet.untaken.take(),
-            Err(_) => None,
-        }
-    }
-
-    // Notes whether the content waits for who takes it.
-    fn note_full(&self, is_full: bool) {
-        if let Ok(mut outlet) = self.0.try_borrow_mut() {
-            outlet.is_full = is_full;
-        }
-    }
-
-    // Whether the content waits for who takes it.
-    fn is_full(&self) -> bool {
-        match self.0.try_borrow_mut() {
-            Ok(outlet) => outlet.is_full,
-            Err(_) => false,
-        }
-    }
-}
 
 /// Brings the answer to a request, whose content is passed on. What passes on requests is generic over this, since the prover does not look
 /// behind a type parameter (docs/GATE.md).
@@ -419,6 +59,12 @@ pub trait Deliver<Q>: Drop {
     /// Sends this request over this connection. Returns `None` if out of memory.
     fn deliver(&self, noted: Noted, request: Q) -> Option<(Self::Answer, Self::Connection)>
         ensures { IfSome result (λ ends. Self.Connection.can_poll ends.1) };
+
+    /// Whether the request, whose connection has ended after some of an answer or without any, may be sent once more.
+    fn may_repeat(&self, has_answer: bool) -> bool;
+
+    /// The request once more. `None` if it has a content, or if out of memory.
+    fn another(&self) -> Option<Q>;
 }
 
 /// Receives the answer and passes it on.
@@ -508,7 +154,7 @@ impl<A: Bring> Future for Answering<A> {
 pub struct Post<Y, Q> {
     alloc: Global,
     http: Y,
-    // Until the exchange begins. None if it cannot be made.
+    // Until an exchange begins. None also if it cannot be made.
     request: Option<Q>,
     outlet: SharedOutlet,
     moves: Moves,
@@ -530,13 +176,23 @@ impl<Y: Drop, Q: Drop> Drop for Post<Y, Q> {
     }
 }
 
+impl<Q: Drop, Y: Deliver<Q>> Post<Y, Q> {
+    // The request: made before, or once more. `None` if it cannot be made.
+    fn next_request(&mut self) -> Option<Q> {
+        match self.request.take() {
+            Some(request) => Some(request),
+            None => self.http.another(),
+        }
+    }
+}
+
 impl<Q: Drop, Y: Deliver<Q>> Talk for Post<Y, Q> {
     type Page = ();
 
-    type Talking = Beside<Answering<Y::Answer>, Y::Connection>;
+    type Talking = Aside<Beside<Answering<Y::Answer>, Y::Connection>>;
 
     fn talk(&mut self, _server: SocketAddr, socket: Paced) -> Option<Self::Talking> {
-        let Some(request) = self.request.take() else {
+        let Some(request) = self.next_request() else {
             drop(socket);
             return None;
         };
@@ -555,7 +211,7 @@ impl<Q: Drop, Y: Deliver<Q>> Talk for Post<Y, Q> {
             outlet,
             is_open: false,
         };
-        Some(Beside::new(answering, conn))
+        Aside::of(self.alloc, Some(Beside::new(answering, conn)))
     }
 
     // What is passed on has a connection of its own.
@@ -568,8 +224,8 @@ impl<Q: Drop, Y: Deliver<Q>> Talk for Post<Y, Q> {
         false
     }
 
-    fn may_go_on(&self, _fault: FetchFault) -> bool {
-        false
+    fn may_go_on(&self, fault: FetchFault) -> bool {
+        fault == FetchFault::Cut && self.http.may_repeat(self.moves.has_answer())
     }
 
     fn keep(&mut self, _server: SocketAddr, _page: &mut ()) {}
@@ -580,54 +236,6 @@ fn handles(moves: &Moves, outlet: &SharedOutlet) -> Option<(Moves, SharedOutlet)
     let moves = moves.share().ok()?;
     let outlet = outlet.share().ok()?;
     Some((moves, outlet))
-}
-
-// The head of a request that is passed on.
-#[derive(Drop)]
-struct Line {
-    method: String,
-    host: String,
-    target: String,
-    fields: Vec<(Vec<u8>, Vec<u8>)>,
-}
-
-// The request to be sent. A content of unknown length comes in chunks, which its head says, since otherwise the library sends no
-// content with a HEAD. Returns `None` if a part of it is no valid HTTP, or if out of memory.
-fn request_of(
-    alloc: Global,
-    line: &Line,
-    content: Option<Coming>,
-    whole: Option<Whole>,
-) -> Option<Request<Sent>> {
-    let is_chunked = matches!(&content, Some(coming) if coming.length.is_none());
-    let Ok(method) = Method::from_bytes(alloc, line.method.as_bytes()) else {
-        drop(content);
-        drop(whole);
-        return None;
-    };
-    let mut request = Request::builder(alloc)
-        .method(method)
-        .uri(line.target.as_str())
-        .header(header::HOST, line.host.as_str())
-        .body(Sent::new(line.method.as_str(), content, whole))
-        .ok()?;
-    match add_head(alloc, request.headers_mut(), line, is_chunked) {
-        Some(()) => Some(request),
-        None => {
-            drop(request);
-            None
-        }
-    }
-}
-
-// Adds the fields of this line, and that the content comes in chunks if it does. Returns `None` if one is no valid HTTP, or if out of
-// memory.
-fn add_head(alloc: Global, head: &mut HeaderMap, line: &Line, is_chunked: bool) -> Option<()> {
-    add_fields(alloc, head, line.fields.as_slice())?;
-    if is_chunked {
-        add_field(alloc, head, b"transfer-encoding", b"chunked")?;
-    }
-    Some(())
 }
 
 /// Watches over a request that is passed on.
@@ -793,9 +401,13 @@ pub fn plan_of<R: Clock + Copy>(
     let outlet = SharedOutlet::of(alloc, head, pieces);
     let moves = Moves::new(alloc).ok();
     let whole = Whole::new(alloc).ok();
+    let is_bare = content.is_none();
     let request = request_of(alloc, &line, content, other_of(&whole));
-    drop(line);
-    let http = Deliverer { alloc, http };
+    let http = Deliverer {
+        alloc,
+        http,
+        again: kept_if(is_bare, line),
+    };
     let others = match &timers {
         Some(timers) => timers.clone().ok(),
         None => None,
@@ -813,6 +425,15 @@ pub fn plan_of<R: Clock + Copy>(
         },
         ticket,
     }
+}
+
+// This head if it is wanted.
+fn kept_if(is_wanted: bool, line: Line) -> Option<Line> {
+    if is_wanted {
+        return Some(line);
+    }
+    drop(line);
+    None
 }
 
 // Another handle to the same, if there is one.

@@ -7,8 +7,10 @@ use crate::early::Offers;
 use crate::exchange::{Ask, Asked};
 use crate::fetching::put;
 use crate::moves::{Moves, Noted};
-use crate::passing::{Bring, Deliver, Sent};
+use crate::passing::{Bring, Deliver};
 use crate::reply::{Answer, Head};
+use crate::sending;
+use crate::sending::{Line, Sent};
 use bytes::Bytes;
 use futures::Future;
 use futures::channel::mpsc;
@@ -16,6 +18,7 @@ use futures::task::{Context, Poll};
 use http_body::Body;
 use http_body_util::Empty;
 use http_content::{Content, Gathered, Purse, ReadFault, Relay, Relayed, add_fields};
+use http_rules::may_retry;
 use http_traffic::{FetchFault, Piece};
 use hyper::body::Incoming;
 use hyper::client::conn::http1;
@@ -343,11 +346,18 @@ impl Bring for Relaying {
 pub struct Deliverer {
     pub alloc: Global,
     pub http: http1::Builder,
+    /// The head of a request without content, from which it can be made once more.
+    pub(crate) again: Option<Line>,
 }
 
 impl Drop for Deliverer {
     fn drop(self) {
-        let Self { alloc: _, http: _ } = self;
+        let Self {
+            alloc: _,
+            http: _,
+            again,
+        } = self;
+        drop(again);
     }
 }
 
@@ -379,6 +389,20 @@ impl Deliver<Request<Sent>> for Deliverer {
                 drop(request);
                 None
             }
+        }
+    }
+
+    fn may_repeat(&self, has_answer: bool) -> bool {
+        match &self.again {
+            Some(line) => may_retry(line.method.as_str(), true, has_answer),
+            None => false,
+        }
+    }
+
+    fn another(&self) -> Option<Request<Sent>> {
+        match &self.again {
+            Some(line) => sending::request_of(self.alloc, line, None, None),
+            None => None,
         }
     }
 }

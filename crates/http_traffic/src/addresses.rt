@@ -61,7 +61,7 @@ impl Beside {
     // As `take`, and nothing is counted.
     fn placed<R: Wait>(&self, rt: &R) -> Option<Ticket> {
         let ticket = Ticket::take(&self.0.under_way, MOST_BESIDE)?;
-        let place = self.0.servers.take(rt)?;
+        let place = self.0.servers.take_uncounted(rt)?;
         Some(ticket.with_place(place))
     }
 

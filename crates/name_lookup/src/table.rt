@@ -140,6 +140,11 @@ impl NameTable {
         self.alive
     }
 
+    /// Whether names wait for their turn.
+    pub fn has_queued(&self) -> bool {
+        !self.queue.is_empty()
+    }
+
     /// How much waits, is under way, and has failed.
     pub fn counts(&self) -> NameCounts {
         NameCounts {

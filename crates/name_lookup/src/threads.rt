@@ -11,6 +11,10 @@ use std::thread::Threads;
 use std::time::{Clock, Duration, Instant};
 use std::{io, thread};
 
+// As long as names are queued it is looked so often, in milliseconds, whether it is the turn of one: the end of one look-up may have it be
+// that of several.
+const LOOK: u64 = 50;
+
 // What a thread needs that looks up names.
 #[derive(Drop)]
 struct NameClerk {
@@ -81,14 +85,21 @@ impl NameWatch {
         }
     }
 
+    // Tells those who have waited for long enough. Returns in how many milliseconds to look again, if anybody waits.
+    fn time_left<R: Wait + Clock>(&self, rt: &R) -> Option<u64> {
+        let now = Instant::now(rt).ok()?;
+        let mut table = self.clerk.table.lock(rt);
+        let left = table.pass_time(now)?;
+        if table.has_queued() {
+            return Some(left.min(LOOK));
+        }
+        Some(left)
+    }
+
     // Tells those who have waited for long enough, and waits until something is queued or somebody else has. Returns `false` once the desk
     // is gone.
     fn wait<R: Wait + Clock>(&self, rt: &R) -> bool {
-        let left = match Instant::now(rt) {
-            Ok(now) => self.clerk.table.lock(rt).pass_time(now),
-            Err(_) => None,
-        };
-        let Some(left) = left else {
+        let Some(left) = self.time_left(rt) else {
             return self.bell.recv(rt).is_ok();
         };
         let rung = self.bell.recv_timeout(rt, Duration::from_millis(left));
@@ -123,10 +134,18 @@ impl NameClerk {
         self.table.lock(rt).next(now)
     }
 
-    // Waits until something is queued. Returns `false` if the thread is to end: it was idle for long, or the desk is gone.
+    // Waits until something is queued, or for a little while where something is whose turn it was not. Returns `false` if the thread is to
+    // end: it was idle for long, or the desk is gone.
     fn wait<R: Wait + Clock>(&self, rt: &R) -> bool {
-        match self.wakes.recv_timeout(rt, self.idle) {
+        let has_queued = self.table.lock(rt).has_queued();
+        let most = if has_queued {
+            Duration::from_millis(LOOK)
+        } else {
+            self.idle
+        };
+        match self.wakes.recv_timeout(rt, most) {
             Ok(()) => true,
+            Err(RecvTimeoutError::Timeout) if has_queued => true,
             Err(RecvTimeoutError::Timeout) => !self.table.lock(rt).dismiss(self.idle),
             Err(RecvTimeoutError::Disconnected) => false,
         }

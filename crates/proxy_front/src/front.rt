@@ -4,6 +4,7 @@ use crate::shapes::shape_of;
 use crossbeam_channel::Sender;
 use forwarding::{Field, KnownKeys, Profile, Service, Waiting, server_in_digits};
 use futures::channel::oneshot;
+use http_header::HOST;
 use http_rules::{
     Mirror, SixNetwork, TargetFault, has_come_back, has_long_name, is_host, is_plain_request,
     may_validate, mirrored,
@@ -140,7 +141,7 @@ fn key_for(
 /// Errors: 400 if the Host field of a request is no valid value (RFC 9112, section 3.2). A request with several is refused before it comes
 /// here.
 pub(crate) fn check_host(asked: &Asked) -> Result<(), u16> {
-    match asked.head.get("host") {
+    match asked.head.get(HOST) {
         Some(host) if !is_host(host.as_bytes()) => Err(400),
         _ => Ok(()),
     }

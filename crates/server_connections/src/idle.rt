@@ -80,8 +80,9 @@ impl Post {
 
     /// Has the thread look for connections that are to give way.
     pub(crate) fn ring<R: Wait>(&self, rt: &R) {
-        self.is_asked.store(true, Ordering::SeqCst);
         let mut bell = self.bell.lock(rt);
+        // Within the lock, so that a thread that is just beginning to listen does not take it back without having looked.
+        self.is_asked.store(true, Ordering::SeqCst);
         // A waker that is dropped wakes its task.
         *bell = None;
     }

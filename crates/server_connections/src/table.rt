@@ -1,33 +1,24 @@
 //! Connections to servers, over all threads.
 use crate::idle::{Listed, Post};
 use crate::place::ServerPlace;
-use fair_use::{Division, FileRoom, GivesWay, gives_way, may_stay_idle, room_for};
+use fair_use::{FileRoom, GivesWay, gives_way, may_be_one_more, room_for};
 use std::alloc::{AllocError, Global};
 use std::sync::atomic::{AtomicU64, AtomicUsize, Ordering};
 use std::sync::{Arc, Mutex, Wait};
 
-// What is kept, and for how many there is room.
+// Which are idle, and for how many there is room.
 #[derive(Drop)]
 struct Held {
-    division: Division,
-    // How many clients are connected. `None` where that is not counted.
-    clients: Option<Arc<AtomicUsize>>,
+    // How many there may be, those that carry something and the idle ones together.
+    most: usize,
     // The idle ones, in the order in which they became idle. Those that are gone stand there until one more comes.
     listed: Vec<Arc<Listed>>,
 }
 
 impl Held {
-    // How many clients are connected.
-    fn clients(&self) -> usize {
-        match &self.clients {
-            Some(clients) => clients.load(Ordering::SeqCst),
-            None => 0,
-        }
-    }
-
     // What becomes of one more connection beside so many that carry something.
     fn room(&self, busy: usize) -> FileRoom {
-        room_for(self.division, self.clients(), busy, self.listed.len())
+        room_for(self.most, busy, self.listed.len())
     }
 
     // Forgets those that carry a request again or are closed.
@@ -99,12 +90,7 @@ impl ServerConnections {
             posts.push(Post::new())?;
         }
         let held = Held {
-            division: Division {
-                seats: 0,
-                servers: usize::MAX,
-                together: usize::MAX,
-            },
-            clients: None,
+            most: usize::MAX,
             listed: Vec::new(alloc),
         };
         Ok(ServerConnections {
@@ -115,16 +101,24 @@ impl ServerConnections {
         })
     }
 
-    /// Has there be room for so many from now on; so many clients are connected.
-    pub fn divide<R: Wait>(&self, rt: &R, division: Division, clients: Arc<AtomicUsize>) {
+    /// Has there be so many at most from now on.
+    pub fn limit<R: Wait>(&self, rt: &R, most: usize) {
         let mut held = self.held.lock(rt);
-        held.division = division;
-        held.clients = Some(clients);
+        held.most = most;
     }
 
     /// A place for one more connection. Where there is no room the one that has been idle for longest, of whichever thread, is closed for it.
-    /// `None` if none is idle either.
+    /// `None` if none is idle either, which is counted.
     pub fn take<R: Wait>(&self, rt: &R) -> Option<ServerPlace> {
+        let place = self.take_uncounted(rt);
+        if place.is_none() {
+            self.refused.fetch_add(1, Ordering::SeqCst);
+        }
+        place
+    }
+
+    /// As `take`, for an attempt that can as well be made after another one: nothing is counted.
+    pub fn take_uncounted<R: Wait>(&self, rt: &R) -> Option<ServerPlace> {
         let place = ServerPlace::new(&self.busy).ok()?;
         let mut held = self.held.lock(rt);
         held.forget_gone();
@@ -137,7 +131,6 @@ impl ServerConnections {
             }
             FileRoom::Nothing => {
                 drop(place);
-                self.refused.fetch_add(1, Ordering::SeqCst);
                 None
             }
         }
@@ -187,7 +180,7 @@ impl ServerConnections {
             drop(oldest);
         }
         let busy = self.busy.load(Ordering::SeqCst).saturating_sub(1);
-        if !may_stay_idle(held.division, busy, held.listed.len()) {
+        if !may_be_one_more(held.most, busy, held.listed.len()) {
             if held.listed.is_empty() {
                 drop(new);
                 return false;

@@ -224,19 +224,16 @@ where
         names: Result<NameDesk, ServeFault>,
     ) -> Result<(), ServeFault> {
         let (mut kit, names) = self.lane_kit(names)?;
-        self.divide();
+        self.limit_servers();
         let begun = self.begin_fetchers(&mut kit);
         self.open_lanes(kit, names, begun)
     }
 
     /// Has no more connections to servers than there is room for by the files that the program may open.
-    fn divide(&self) {
-        let Some(division) = self.config.division else {
-            return;
-        };
-        let proxy = &self.site.proxy;
-        if let Ok(clients) = Arc::try_clone(&proxy.telling().connections) {
-            proxy.passes().servers.divide(&self.rt, division, clients);
+    fn limit_servers(&self) {
+        if let Some(division) = self.config.division {
+            let servers = &self.site.proxy.passes().servers;
+            servers.limit(&self.rt, division.servers);
         }
     }
 
