@@ -6,7 +6,7 @@ use crossbeam_channel::Sender;
 use forwarding::KnownKeys;
 use http_clients::{ClientSocket, ServeLimits, serve_clients};
 use http_traffic::{FollowUp, Front, PassOn};
-use proxy_front::{FrontRules, NodeFront, ServeFront};
+use proxy_front::{FrontRules, GoodTexts, NodeFront, ServeFront};
 use proxy_node::{AtDesk, NodeHandle, Outbox, ThreadSeat};
 use proxy_site::{Ending, Port};
 use proxy_state::{Shared, TakeEvents};
@@ -158,6 +158,8 @@ where
         node,
         rules,
         keys: KnownKeys::new(alloc),
+        hosts: GoodTexts::new(alloc),
+        servers: GoodTexts::new(alloc),
         last: number,
         step: config.client_threads as u64,
         stop_after: config.stop_after,

@@ -1,4 +1,5 @@
 //! Client requests on their way to the node.
+use crate::good_texts::GoodTexts;
 use crate::handing::{Call, Returned, TakeCalls, hand_over};
 use crate::shapes::shape_of;
 use crossbeam_channel::Sender;
@@ -69,6 +70,10 @@ pub struct NodeFront<R, S, N> {
     pub rules: Arc<FrontRules>,
     /// The keys of targets that were asked for before.
     pub keys: KnownKeys,
+    /// Values of Host that were found valid.
+    pub hosts: GoodTexts,
+    /// Servers of URLs that may be fetched from. Each address is judged once more where it is connected to.
+    pub servers: GoodTexts,
     /// The number of the last client. It begins with the thread's own, which is less than `step`.
     pub last: u64,
     /// What each client's number is more than that of the one before: how many threads serve clients, so that no two have a number.
@@ -89,6 +94,8 @@ impl<R: Drop, S: Drop, N: Drop> Drop for NodeFront<R, S, N> {
             node: _,
             rules: _,
             keys: _,
+            hosts: _,
+            servers: _,
             last: _,
             step: _,
             stop_after: _,
@@ -144,6 +151,31 @@ pub(crate) fn check_host(asked: &Asked) -> Result<(), u16> {
     match asked.head.get(HOST) {
         Some(host) if !is_host(host.as_bytes()) => Err(400),
         _ => Ok(()),
+    }
+}
+
+/// As `check_host`, where these values were found valid before.
+fn check_host_by(hosts: &mut GoodTexts, asked: &Asked) -> Result<(), u16> {
+    let Some(host) = asked.head.get(HOST) else {
+        return Ok(());
+    };
+    if hosts.has(host.as_bytes()) {
+        return Ok(());
+    }
+    check_host(asked)?;
+    hosts.note(host.as_bytes());
+    Ok(())
+}
+
+/// The server of an `http://` URL, its name and port, as they are written; nothing of another one.
+fn server_in(key: &[u8]) -> &[u8] {
+    let Some(behind) = key.strip_prefix(b"http://".as_slice()) else {
+        return &[];
+    };
+    let end = behind.iter().position(|it| *it == b'/');
+    match end {
+        Some(end) => behind.get(..end).unwrap_or(&[]),
+        None => behind,
     }
 }
 
@@ -364,7 +396,7 @@ impl<R: Wait + Clock + Drop, S: Shared, N: TakeEvents> NodeFront<R, S, N> {
     /// The key of what a request asks for. Errors: the HTTP status to answer, 400 if its Host is no valid value or the name of the server is
     /// longer than any can be.
     pub(crate) fn key(&mut self, asked: &Asked) -> Result<CacheKey, u16> {
-        check_host(asked)?;
+        check_host_by(&mut self.hosts, asked)?;
         let mirrors = self.rules.mirrors.as_slice();
         let key = key_for(self.alloc, mirrors, &mut self.keys, asked.target.as_str())?;
         if MOST_NAME_OCTETS < key.as_slice().len() && has_long_name(&key) {
@@ -443,16 +475,27 @@ impl<R: Wait + Clock + Drop, S: Shared, N: TakeEvents> NodeFront<R, S, N> {
         }
     }
 
+    /// As `check`, where the server of the URL was found to be one that may be fetched from before.
+    fn check_known(&mut self, asked: &Asked, key: &CacheKey, is_marked: bool) -> Result<(), u16> {
+        let server = server_in(key.as_slice());
+        if !is_marked && self.servers.has(server) {
+            return Ok(());
+        }
+        self.check(asked, key, is_marked)?;
+        self.servers.note(server);
+        Ok(())
+    }
+
     /// What a fetch for a request forwards, if the request may be taken, as `check` says. Errors: the HTTP status to answer.
     fn forwarded(
-        &self,
+        &mut self,
         asked: &Asked,
         key: &CacheKey,
         mode: Mode,
         is_marked: bool,
     ) -> Result<Forwarded, u16> {
         let forwarded = forwarded_of(self.alloc, asked, key, mode, is_marked)?;
-        match self.check(asked, key, is_marked) {
+        match self.check_known(asked, key, is_marked) {
             Ok(()) => Ok(forwarded),
             Err(status) => {
                 drop(forwarded);

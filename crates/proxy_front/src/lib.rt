@@ -9,8 +9,10 @@ mod front;
 mod front_modes;
 mod front_passes;
 mod front_stale;
+mod good_texts;
 mod handing;
 mod shapes;
 
 pub use front::{FrontRules, NodeFront, ServeFront};
+pub use good_texts::GoodTexts;
 pub use handing::{Call, Handed, Returned, TakeCalls};
