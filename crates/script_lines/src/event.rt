@@ -15,7 +15,7 @@ use super::slot::neighbour_slot;
 use bpf_check::Insn;
 use bpf_run::packet::MOST_PAYLOAD;
 use filter_slots::Slot;
-use node_core::{Event, Outcome};
+use node_words::{Event, Outcome};
 use object_store::{Object, SharedObject};
 use std::alloc::{AllocError, Global};
 use std::sync::Arc;
