@@ -12,7 +12,7 @@ use filter_slots::End;
 use futures::channel::oneshot;
 use http_rules::SixEnd;
 use name_lookup::NameDesk;
-use node_core::Event;
+use node_words::Event;
 use proxy_node::{AtDesk, NodeHandle, ThreadSeat};
 use proxy_panel::Overseen;
 use proxy_setup::{Orders, ServerOrders};

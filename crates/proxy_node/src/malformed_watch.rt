@@ -1,5 +1,5 @@
 //! Telling of datagrams that are no messages.
-use node_core::Stats;
+use node_words::Stats;
 use proxy_panel::Overseen;
 use proxy_state::Shared;
 use std::alloc::Global;

@@ -11,7 +11,7 @@ use http_header::HeaderMap;
 use http_rules::{StaleUse, changed_keys, complete_length, is_error, supersedes};
 use http_traffic::{Change, Ended, FetchEnd, FetchFault, Fetched, LeftChange, Page, Supplier};
 use httpdate::HttpDate;
-use node_core::{Event, Mode, Outcome};
+use node_words::{Event, Mode, Outcome};
 use object_store::{CacheKey, SharedObject};
 use proxy_state::{
     Cause, RETRIES, RETRY_MILLIS, Shared, Stale, TakeEvents, begin_again, date_seconds,

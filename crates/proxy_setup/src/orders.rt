@@ -6,7 +6,7 @@ use filter_files::Filter;
 use futures::channel::oneshot;
 use http_rules::{Mirror, SixNetwork, written_name};
 use log_writer::LogTask;
-use node_core::{Config, Network};
+use node_words::{Config, Network};
 use proxy_front::FrontRules;
 use proxy_site::Equipment;
 use proxy_state::Purger;

@@ -12,7 +12,8 @@ use http_rules::{
 };
 use mio_queries::Timeline;
 use node_book::{BOOK_OCTETS, BookFault, Booked, Desk, RECEIPT_OCTETS, Seat};
-use node_core::{Config, Node};
+use node_core::Node;
+use node_words::Config;
 use object_shelf::Shelf;
 use object_store::{KeyHashes, MOST_KEY_OCTETS};
 use proxy_node::ProxyState;

@@ -30,7 +30,7 @@ use crate::shared_fields::SharedField;
 use crate::six_clients::SixClients;
 use crate::web::{SiteKeys, WebKeys};
 use json_fault::{Expected, expected_at, offset_of};
-use node_core::{Config, Network};
+use node_words::{Config, Network};
 use serde_json::Value;
 use std::alloc::Global;
 use std::fmt;

@@ -1,13 +1,22 @@
 //! The events that a node takes.
 ghost use Rattle.std.specs.Prelude.{◌∷◌, []};
-ghost use Rattle.node_core.specs.Happening.{happening};
-ghost use Rattle.node_core.specs.Swaps.{PutsInAccepted};
+ghost use Rattle.node_words.specs.Happening.{happening};
+ghost use Rattle.node_words.specs.Installs.{PutsInAccepted};
 
 use bpf_check::Checked;
 use filter_slots::{Datagram, Moment, Slot};
-use object_store::CacheKey;
-use plain_node::{Mode, Outcome};
+use node_terms::Mode;
+use object_store::{CacheKey, SharedObject};
 use std::sync::Arc;
+
+/// How an attempt of a fetch ended.
+#[derive(Drop)]
+pub enum Outcome {
+    /// With this object.
+    Object(SharedObject),
+    /// Without an object.
+    Failed,
+}
 
 /// An input of the node's state machine. `now` is the event's time in milliseconds, from an origin of the
 /// caller's choice.

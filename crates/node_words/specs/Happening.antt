@@ -5,10 +5,10 @@ use Rattle.std.specs.Arc.{arc_value}
 use Rattle.bpf_check.specs.declared.insn.Insn.{Insn}
 use Rattle.filter_slots.specs.Datagram.{DatagramFields}
 use Rattle.filter_slots.specs.declared.slot.Slot.{Slot}
-use Rattle.node_core.specs.declared.event.Event.{Event}
-use Rattle.node_core.specs.declared.event.Event.TheVariants as event
+use Rattle.node_words.specs.declared.event.Event.{Event}
+use Rattle.node_words.specs.declared.event.Event.TheVariants as event
 use Rattle.node_terms.specs.declared.mode.Mode.{Mode}
-use Rattle.plain_node.specs.declared.event.Outcome.{Outcome}
+use Rattle.node_words.specs.declared.event.Outcome.{Outcome}
 
 -- a datagram arrives; a client requests a key; the clock reaches a time; a fetch attempt ends; a client disconnects; or a slot's
 -- program is replaced or removed
