@@ -1,8 +1,4 @@
 //! A TCP connection that lets other tasks of its thread run, however much its peer sends.
-//!
-//! The contracts see only which socket event a read or write waits for. Tested by: tests/serve_attacks.
-#![tactic(auto)]
-
 ghost use Rattle.std.specs.Prelude.{◌≡◌, ◌≤◌, ⊤, length};
 ghost use Rattle.tokio.specs.Io.Moved.{count_moved};
 ghost use Rattle.tokio.specs.Net.{stream_readable, stream_writable};

@@ -1,10 +1,4 @@
 //! Runs many jobs concurrently on one thread. How a job starts and what takes its result are behind traits.
-//!
-//! The contracts see only that the future of a job may be polled, and require a limit of at least one job.
-//!
-//! Tested by: crates/test_edge.
-#![tactic(auto)]
-
 ghost use Rattle.std.specs.Prelude.{◌<◌};
 ghost use Rattle.futures.specs.Task.{Keeps};
 
@@ -75,7 +69,7 @@ impl<F: Future, T: Tend> Future for Tended<F, T> {
 /// Runs the jobs of a channel, at most `most` concurrently, until all its senders are gone and the last job has ended. Tells `seat` once
 /// it takes them, passes each result to it as soon as it is ready, and has `tend` look after what they leave. Errors: the event loop
 /// failed, or out of memory.
-pub fn run<R, B, S, T>(
+pub fn run_jobs<R, B, S, T>(
     rt: &R,
     runtime: &mut LocalRuntime,
     jobs: UnboundedReceiver<B::Job>,
