@@ -1,6 +1,6 @@
 //! What became of a datagram.
 ghost use Rattle.std.specs.Prelude.{◌≡◌};
-ghost use Rattle.capture_file.specs.Blocks.{interface};
+ghost use Rattle.capture.specs.Written.{interface};
 
 /// What the filters made of a datagram.
 #[derive(Clone, Copy, Debug, PartialEq, Eq)]

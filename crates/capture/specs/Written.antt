@@ -3,9 +3,9 @@
 use Rattle.std.specs.Prelude.{ℕ, ◌+◌, ◌-◌, ◌%◌, ◌^◌, List, [], ◌∷◌, ◌++◌, length, replicate}
 use Rattle.byteorder.specs.Endian.{big_bytes}
 use Rattle.bpf_run.specs.declared.ends.End.{End}
-use Rattle.capture_file.specs.declared.fate.Fate.{Fate}
-use Rattle.capture_file.specs.declared.fate.Fate.TheVariants.{Accepted, Cut, Rejected}
-use Rattle.capture_file.specs.Datagram.{headers}
+use Rattle.capture.specs.declared.fate.Fate.{Fate}
+use Rattle.capture.specs.declared.fate.Fate.TheVariants.{Accepted, Cut, Rejected}
+use Rattle.capture.specs.Headers.{headers}
 
 -- the number of octets after which something of this length ends at a multiple of four
 abbrev pub padding : ℕ → ℕ

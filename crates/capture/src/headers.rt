@@ -1,6 +1,6 @@
-//! The headers of the IPv4 packet that holds a datagram.
+//! The headers of the IPv4 packet that a written file has a datagram in.
 ghost use Rattle.std.specs.Prelude.{◌≡◌, ◌+◌, ◌<◌, ◌≤◌, length};
-ghost use Rattle.capture_file.specs.Datagram.{checksum, header_front, pair, udp_header, word_sum};
+ghost use Rattle.capture.specs.Headers.{checksum, header_front, pair, udp_header, word_sum};
 
 use bpf_run::End;
 use byteorder::{BigEndian, ByteOrder};

@@ -1,11 +1,11 @@
-//! The blocks of a file.
+//! The blocks of a file that is written.
 ghost use Rattle.std.specs.Prelude.{◌≡◌, ◌+◌, ◌++◌, ◌<◌, ◌≤◌, length, replicate, IfOk, OnOk};
 ghost use Rattle.byteorder.specs.Endian.{big_bytes};
-ghost use Rattle.capture_file.specs.Blocks.{counts_block, datagram_block, front, head, padding};
-ghost use Rattle.capture_file.specs.Datagram.{headers};
+ghost use Rattle.capture.specs.Written.{counts_block, datagram_block, front, head, padding};
+ghost use Rattle.capture.specs.Headers.{headers};
 
 use crate::fate::Fate;
-use crate::packet::{checksum, header_front, udp_header};
+use crate::headers::{checksum, header_front, udp_header};
 use bpf_run::End;
 use byteorder::{BigEndian, ByteOrder};
 use std::alloc::{AllocError, Global};
