@@ -1,6 +1,6 @@
 //! The thread that writes.
-use crate::desk::{LogDesk, MOST_LINES, Message, Shared};
-use crate::file::{LogPlace, Opened, open_place, write_out};
+use super::desk::{LogDesk, MOST_LINES, Message, Shared};
+use super::file::{LogPlace, Opened, open_place, write_out};
 use crossbeam_channel::{Receiver, bounded};
 use std::alloc::Global;
 use std::fs::Files;
