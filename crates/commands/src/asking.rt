@@ -1,9 +1,9 @@
 //! Which argument lists ask for something of this crate, and for what.
 ghost use Rattle.std.specs.Prelude.{◌≡◌, None, Ok, false, drop, string_bytes};
 ghost use Rattle.std.specs.List.{list_any};
-ghost use Rattle.command_line.specs.Asking.{is_asking_word};
+ghost use Rattle.commands.specs.Asking.{is_asking_word};
 
-use crate::commands::program;
+use crate::program::program;
 use clap::error::ErrorKind;
 use clap::{ArgMatches, Error};
 use std::alloc::{AllocError, Global};
