@@ -1,6 +1,6 @@
 use Rattle.std.proofs.Common.{rules, drop, inr, refl}
-use Rattle.object_body.proofs.PieceLemmas.{gives_piece, left_of}
-use Rattle.object_body.proofs.PortionsBody.poll_frame.Goals as goal
+use Rattle.http_content.proofs.PieceLemmas.{gives_piece, left_of}
+use Rattle.http_content.proofs.portions.PortionsBody.poll_frame.Goals as goal
 
 pub returns-in-Ok-clause-value : goal.returns-in-Ok-clause-value
 returns-in-Ok-clause-value c = (left_of c.most-most.result (drop c.min-end.result c.as_slice-content.result.now), search (rules, gives_piece))

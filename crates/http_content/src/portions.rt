@@ -4,14 +4,10 @@
 //! Contracts see a body as the octets that remain and the most of them that a frame may hold. They prove that the frames are those octets
 //! in order, none longer than that, that the body ends only when none remain, and that the size hint is exact; an allocation failure loses
 //! nothing.
-//!
-//! Tested by: tests/serve and tests/serve_freshness, which run the built program over loopback.
-#![tactic(auto)]
-
 ghost use Rattle.std.specs.Prelude.{◌≡◌, ◌≤◌, Some, IfOk, length, take, drop, slice_range, nat_lt};
 ghost use Rattle.http_body.specs.SizeHint.{exact};
-ghost use Rattle.object_body.specs.Octets.{source_octets, frame_limit, limit_of};
-ghost use Rattle.object_body.specs.Pieces.{in_pieces};
+ghost use Rattle.http_content.specs.Octets.{source_octets, frame_limit, limit_of};
+ghost use Rattle.http_content.specs.Pieces.{in_pieces};
 
 use bytes::Bytes;
 use futures::task::{Context, Poll};
@@ -108,8 +104,8 @@ pub struct Portions {
 
 impl Model for Portions {
     ghost use Rattle.std.specs.Prelude.{drop};
-    ghost use Rattle.object_body.specs.Octets.{source_octets, frame_limit};
-    ghost use Rattle.object_body.specs.Pieces.{Rest};
+    ghost use Rattle.http_content.specs.Octets.{source_octets, frame_limit};
+    ghost use Rattle.http_content.specs.Pieces.{Rest};
 
     ghost Value = { Rest };
 

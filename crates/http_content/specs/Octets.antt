@@ -1,7 +1,7 @@
 -- The octets of a body, and how many of them a frame may hold.
 use Rattle.std.specs.Prelude.{ℕ, List, take, length, nat_lt, if◌then◌else◌}
-use Rattle.object_body.specs.declared.Source.{Source}
-use Rattle.object_body.specs.declared.Source.TheVariants.{Object, Front, Text}
+use Rattle.http_content.specs.declared.portions.Source.{Source}
+use Rattle.http_content.specs.declared.portions.Source.TheVariants.{Object, Front, Text}
 
 abbrev pub source_octets : Source → List ℕ
 source_octets (Object object) = object.body

@@ -2,7 +2,7 @@
 use Rattle.std.proofs.Common.{◌≡◌, ◌≤◌, ◌<◌, ◌++◌, ◌+◌, ◌-◌, ℕ, List, length, take, drop, Ok, refl, sym, ap, ◌∙◌, inl, arith}
 use Rattle.std.proofs.lemmas.List.{take-append-drop, drop-drop, length-take-le, length-drop}
 use Rattle.http_body.specs.Frame.{data_frame}
-use Rattle.object_body.specs.Pieces.{Gives, Rest}
+use Rattle.http_content.specs.Pieces.{Gives, Rest}
 
 piece_length : (octets : List ℕ) (next end : ℕ) → next < end → end ≤ length octets
     → length (take (end - next) (drop next octets)) ≡ end - next
