@@ -1,6 +1,6 @@
 //! What would have been right at a place.
 
-use crate::front::Front;
+use super::front::Front;
 use std::fmt;
 
 /// What would have been right at the place where a text stops to be JSON. It prints as what goes on from `expected`.

@@ -1,6 +1,6 @@
 //! Texts that are no JSON by RFC 8259, each with the octet at which that shows, and what its grammar has there.
 
-use crate::{Expected, expected_at, offset_of};
+use serve_config::{Expected, expected_at, offset_of};
 
 const ROWS: [(&str, usize, Expected); 27] = [
     ("", 0, Expected::Value),

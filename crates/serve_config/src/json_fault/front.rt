@@ -1,6 +1,6 @@
 //! How far a beginning of a JSON text goes.
 
-use crate::expected::Expected;
+use super::expected::Expected;
 
 // The most objects and lists in one another that the kit's reader takes.
 const MOST_NESTED: u32 = 127;
