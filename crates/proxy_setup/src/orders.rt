@@ -2,10 +2,10 @@
 use crate::own_key::settle_keys;
 use crate::passing::allows_own;
 use crate::state::{Given, Logs, six_networks};
+use access_log::writer::LogTask;
 use filter_files::Filter;
 use futures::channel::oneshot;
 use http_rules::{Mirror, SixNetwork, written_name};
-use log_writer::LogTask;
 use node_words::{Config, Network};
 use proxy_front::FrontRules;
 use proxy_site::Equipment;
