@@ -1,5 +1,4 @@
 //! Administration of the node: filters, counters and captures.
-use crate::overseen::Overseen;
 use crate::overview::page_of;
 use bpf_asm::to_text;
 use bpf_check::Checked;
@@ -13,6 +12,7 @@ use http_traffic::{Asked, CaptureFault, Figures, Panel, PutFault, StoreFault, St
 use node_figures::{neighbour_figures_text, neighbours_text, stats_text, store_text, stored_text};
 use node_words::{Event, NeighbourView};
 use object_store::{CacheKey, Entry};
+use proxy_node::Overseen;
 use proxy_state::{
     Obstacle, Purger, RETRIES, RETRY_MILLIS, Shared, TakeEvents, key_in, limit_of, stays, withdraw,
 };
