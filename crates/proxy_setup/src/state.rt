@@ -10,7 +10,6 @@ use futures::channel::oneshot;
 use http_rules::{
     OriginRules, RefreshRule, SixNetwork, UrlPlace, loop_mark, usual_denials, usual_six_denials,
 };
-use mio_queries::Timeline;
 use node_book::{BOOK_OCTETS, BookFault, Booked, Desk, RECEIPT_OCTETS, Seat};
 use node_core::{Config, Node};
 use object_shelf::Shelf;
@@ -21,6 +20,7 @@ use proxy_state::{
     AccessLog, Fetchers, Kept, Mail, NeighbourEnds, Notices, Outward, PartKeys, Passes, Stopping,
     Telling, UnaskedKeys,
 };
+use query_handles::Timeline;
 use serve_config::{Freshness, Settings, SharedField, UrlPart};
 use std::alloc::{AllocError, Global};
 use std::mem;

@@ -1,7 +1,6 @@
 //! A handle that wakes a wire.
 use crate::NoMemory;
-use crate::sockets::BindFault;
-use mio::{Registry, Token, Waker};
+use mio::Waker;
 use std::alloc::Global;
 use std::sync::Arc;
 
@@ -13,14 +12,11 @@ pub struct Bell {
 }
 
 impl Bell {
-    pub(crate) fn new(alloc: Global, registry: &Registry, token: Token) -> Result<Bell, BindFault> {
-        let Ok(waker) = Waker::new(registry, token) else {
-            return Err(BindFault::Io);
-        };
-        match Arc::new(alloc, waker) {
-            Ok(waker) => Ok(Bell { waker }),
-            Err(_) => Err(BindFault::NoMemory),
-        }
+    /// A bell that wakes whatever polls by the registry of this waker. Errors: out of memory.
+    pub fn new(alloc: Global, waker: Waker) -> Result<Bell, NoMemory> {
+        Ok(Bell {
+            waker: Arc::new(alloc, waker)?,
+        })
     }
 
     /// Wakes `receive`. Doesn't block. If the system call fails, `receive` returns by itself within 100 milliseconds.

@@ -1,6 +1,6 @@
 //! The moments of the events of a process.
 use crate::NoMemory;
-use filter_slots::Moment;
+use bpf_run::Moment;
 use std::alloc::Global;
 use std::io;
 use std::io::ErrorKind;
