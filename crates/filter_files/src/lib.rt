@@ -3,10 +3,12 @@
 //! Nothing is proved of files. Tested by: tests/serve_operator, cases/serve.
 #![tactic(auto)]
 
+mod file;
+
 use bpf_check::Checked;
+pub use file::FilterFile;
 use filter_slots::{Slot, Socket};
 use filter_text::{ProgramFault, read_program};
-use serve_config::FilterFile;
 use std::alloc::AllocGlobal;
 use std::fs::{File, Files};
 use std::io::Read;

@@ -3,7 +3,7 @@ use crate::overview::page_of;
 use bpf_asm::to_text;
 use bpf_check::Checked;
 use capture_tap::{CaptureLimits, QUERY_LINE, TapFault};
-use filter_files::{FilesFault, Filter, read_filters};
+use filter_files::{FilesFault, Filter, FilterFile, read_filters};
 use filter_slots::{Moment, Slot, Slots};
 use filter_text::{ProgramFault, read_program};
 use futures::channel::mpsc;
@@ -17,7 +17,6 @@ use proxy_node::Overseen;
 use proxy_state::{
     Obstacle, Purger, RETRIES, RETRY_MILLIS, Shared, TakeEvents, key_in, limit_of, stays, withdraw,
 };
-use serve_config::FilterFile;
 use std::alloc::{AllocError, AllocGlobal, Global};
 use std::fs::Files;
 use std::sync::atomic::Ordering;

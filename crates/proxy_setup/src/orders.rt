@@ -2,14 +2,14 @@
 use crate::own_key::settle_keys;
 use crate::passing::allows_own;
 use crate::state::{Given, Logs, six_networks};
-use filter_files::Filter;
+use filter_files::{Filter, FilterFile};
 use futures::channel::oneshot;
 use http_rules::{Mirror, SixNetwork, written_name};
 use log_writer::LogTask;
 use node_core::{Config, Network};
 use proxy_site::Equipment;
 use proxy_state::{FrontRules, Purger};
-use serve_config::{FilterFile, MirrorPath, Settings};
+use serve_config::{MirrorPath, Settings};
 use std::alloc::{AllocError, Global};
 use std::mem;
 use std::random::RandomSource;

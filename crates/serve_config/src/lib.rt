@@ -31,7 +31,6 @@ mod value;
 mod web;
 
 pub use fault::Fault;
-pub use filters::FilterFile;
 pub use freshness::{Freshness, RefreshRule, UrlPart};
 pub use mirrors::MirrorPath;
 pub use origins::SixNetwork;

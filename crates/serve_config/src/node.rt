@@ -5,7 +5,7 @@ ghost use Rattle.serve_config.specs.Files.{AreFiles};
 ghost use Rattle.serve_config.specs.Group.{IsReachable, IsSecret};
 
 use crate::fault::Fault;
-use crate::filters::{FilterFile, filters};
+use crate::filters::filters;
 use crate::group::{keys, neighbours};
 use crate::place::Place;
 use crate::value::{address, networks, number, port, truth};

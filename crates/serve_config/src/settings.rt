@@ -18,7 +18,6 @@ ghost use Rattle.serve_config.specs.Tokens.{IsToken};
 ghost use Rattle.serve_config.specs.Words.{form_said, freshness_said, level_said};
 
 use crate::fault::Fault;
-use crate::filters::FilterFile;
 use crate::freshness::{Freshness, RefreshRule};
 use crate::keys::{BackKeys, Keys, keys_in};
 use crate::mirrors::MirrorPath;
@@ -29,6 +28,7 @@ use crate::shape::check;
 use crate::shared_fields::SharedField;
 use crate::six_clients::SixClients;
 use crate::web::{SiteKeys, WebKeys};
+use filter_files::FilterFile;
 use http_traffic::PassedMethod;
 use json_fault::{Expected, expected_at, offset_of};
 use node_core::{Config, Network};
