@@ -14,4 +14,4 @@ mod state;
 
 pub use orders::{Keeping, LogTasks, Orders, ServerOrders, equipped, server_orders};
 pub use passing::lacks_own_address;
-pub use state::{Given, site_of};
+pub use state::{Given, Proxy, site_of};

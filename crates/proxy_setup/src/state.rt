@@ -31,6 +31,19 @@ use std::sync::{Arc, Mutex};
 use std::time::{Clock, Duration, Instant};
 use traffic_figures::Figures;
 
+/// The shared state of a proxy.
+pub type Proxy<L> = ProxyState<
+    Desk<L>,
+    Mail,
+    Fetchers,
+    Outward,
+    Kept,
+    Passes,
+    Tap,
+    Telling,
+    Stopping,
+>;
+
 /// What the shared state of a proxy is given beside its settings.
 #[derive(Drop)]
 pub struct Given {
@@ -92,7 +105,7 @@ pub fn site_of<R: RandomSource + Clock, L: Ledger>(
     blank: Blank,
     settings: Settings,
     given: Given,
-) -> Result<Site<ProxyState<L>, L>, ServeFault>
+) -> Result<Site<Proxy<L>, L>, ServeFault>
     requires name { blank.name ≡ L.name }
     requires parts { blank.parts ≡ L.parts }
     requires seats { blank.parts ≡ SEATS }
@@ -118,7 +131,7 @@ fn proxy_of<R: RandomSource + Clock, L: Ledger>(
     mut settings: Settings,
     given: Given,
     end: Sender<(), Global>,
-) -> Result<(ProxyState<L>, Vec<Seat<L>>), ServeFault>
+) -> Result<(Proxy<L>, Vec<Seat<L>>), ServeFault>
     requires name { blank.name ≡ L.name }
     requires parts { blank.parts ≡ L.parts }
     requires seats { blank.parts ≡ SEATS }
@@ -206,7 +219,7 @@ fn state_around<L: Ledger>(
     opened: Result<(Desk<L>, Vec<Seat<L>>), ServeFault>,
     around: Around,
     stopping: Stopping,
-) -> Result<(ProxyState<L>, Vec<Seat<L>>), ServeFault> {
+) -> Result<(Proxy<L>, Vec<Seat<L>>), ServeFault> {
     match opened {
         Ok((desk, seats)) => Ok((state_of(desk, around, stopping), seats)),
         Err(fault) => {
@@ -218,7 +231,7 @@ fn state_around<L: Ledger>(
 }
 
 /// The shared state around this desk.
-fn state_of<L: Ledger>(desk: Desk<L>, around: Around, stopping: Stopping) -> ProxyState<L> {
+fn state_of<L: Ledger>(desk: Desk<L>, around: Around, stopping: Stopping) -> Proxy<L> {
     let Around {
         timeline,
         mail,
