@@ -21,7 +21,7 @@ pub trait Part<X>: Drop {
 
 /// The node and its event log, as a part.
 pub trait Desks: Drop {
-    /// Where its log keeps what stays for good.
+    /// The ledger of its log.
     type Ledger: Ledger;
 
     /// The desk.
