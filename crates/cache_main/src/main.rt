@@ -16,7 +16,7 @@ use command_line::{Question, asked};
 use commands::{NO_OUTPUT, check_configuration, run_check, settings_of};
 use feed_script::feed;
 use filter_replay::{run_explain, run_replay};
-use proxy_site::SEATS;
+use proxy_setup::SEATS;
 use serve_command::run_serve;
 use standard_files::take_closed;
 use std::env::Env;

@@ -8,7 +8,7 @@ use http_clients::{ClientSocket, ServeLimits, serve_clients};
 use http_traffic::{FollowUp, Front, PassOn};
 use proxy_front::{GoodTexts, NodeFront, ServeFront};
 use proxy_node::{AtDesk, NodeHandle, Outbox, ThreadSeat};
-use proxy_site::{Ending, Port};
+use proxy_setup::{Ending, Port};
 use proxy_state::{FrontRules, Shared, TakeEvents};
 use std::alloc::{AllocError, AllocGlobal, Global};
 use std::io;

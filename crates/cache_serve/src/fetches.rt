@@ -11,7 +11,7 @@ use http_traffic::Job;
 use plain_node::MAX_PENDING_FETCHES;
 use proxy_node::{AtDesk, NodeHandle, ThreadSeat};
 use proxy_results::Results;
-use proxy_site::{Ending, ServeFault};
+use proxy_setup::{Ending, ServeFault};
 use proxy_state::{Origins, Shared, TakeEvents};
 use server_connections::KeptShare;
 use std::alloc::{AllocGlobal, Global};

@@ -9,8 +9,10 @@ use crossbeam_channel::{Receiver, Sender, bounded};
 use log_writer::{LogTask, run_log};
 use name_lookup::{NameDesk, NameLimits, NameWatch, open_names, watch_names};
 use proxy_node::{AtDesk, Overseen};
-use proxy_setup::{LogTasks, Orders, Proxy, equipped, server_orders, site_of};
-use proxy_site::{Equipment, SEATS, ServeFault, Site, Writing, Writings};
+use proxy_setup::{
+    Equipment, LogTasks, Orders, Proxy, SEATS, ServeFault, Site, Writing, Writings, equipped,
+    server_orders, site_of,
+};
 use proxy_state::{Passes, Shared};
 use serve_config::Settings;
 use std::alloc::{AllocError, AllocGlobal, Global};

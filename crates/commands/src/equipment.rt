@@ -2,7 +2,7 @@
 use access_log::Form;
 use filter_files::{FilesFault, Filter, read_filters};
 use log_writer::{LogPlace, LogTask, open_log};
-use proxy_site::Equipment;
+use proxy_setup::Equipment;
 use proxy_state::{AccessLog, Notices};
 use serve_config::{LogFormat, LogLevel, Settings};
 use std::alloc::AllocGlobal;

@@ -1,4 +1,5 @@
 //! What the threads of a proxy are started with.
+use crate::equipment::Equipment;
 use crate::own_key::settle_keys;
 use crate::passing::allows_own;
 use crate::state::{Given, Logs, six_networks};
@@ -7,7 +8,6 @@ use futures::channel::oneshot;
 use http_rules::{Mirror, SixNetwork, written_name};
 use log_writer::LogTask;
 use node_core::{Config, Network};
-use proxy_site::Equipment;
 use proxy_state::{FrontRules, Purger};
 use serve_config::{MirrorPath, Settings};
 use std::alloc::{AllocError, Global};

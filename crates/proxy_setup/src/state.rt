@@ -2,7 +2,10 @@
 ghost use Rattle.std.specs.Prelude.{◌≡◌, IfOk};
 ghost use Rattle.node_book.specs.Book.{count_of};
 
+use crate::fault::{ServeFault, no_memory};
+use crate::limits::SEATS;
 use crate::passing::passes_of;
+use crate::site::{Site, ends_of};
 use capture_tap::Tap;
 use crossbeam_channel::Sender;
 use forwarding::{Field, Peer, Profile};
@@ -15,7 +18,6 @@ use node_core::{Config, Node};
 use object_shelf::Shelf;
 use object_store::{KeyHashes, MOST_KEY_OCTETS};
 use proxy_node::ProxyState;
-use proxy_site::{SEATS, ServeFault, Site, ends_of, no_memory};
 use proxy_state::{
     AccessLog, Fetchers, Kept, Mail, NeighbourEnds, Notices, Outward, PartKeys, Passes, Stopping,
     Telling, UnaskedKeys,
