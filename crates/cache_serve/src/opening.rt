@@ -7,8 +7,8 @@ mod queries;
 
 use crate::config::ThreadConfig;
 use crossbeam_channel::{Receiver, Sender, unbounded};
-use filter_files::Filter;
 use filter_slots::End;
+use filter_text::Filter;
 use futures::channel::oneshot;
 use http_rules::SixEnd;
 use name_lookup::NameDesk;

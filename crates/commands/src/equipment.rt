@@ -1,6 +1,6 @@
 //! The filters and the logs that a proxy is given at its start.
 use access_log::Form;
-use filter_files::{FilesFault, Filter, read_filters};
+use filter_text::{FilesFault, Filter, read_filters};
 use log_writer::{LogPlace, LogTask, open_log};
 use proxy_setup::Equipment;
 use proxy_state::{AccessLog, Notices};

@@ -1,5 +1,5 @@
 //! What a proxy is given at its start.
-use filter_files::Filter;
+use filter_text::Filter;
 use log_writer::LogTask;
 use proxy_state::{AccessLog, Notices};
 

@@ -3,7 +3,7 @@ use crate::equipment::Equipment;
 use crate::own_key::settle_keys;
 use crate::passing::allows_own;
 use crate::state::{Given, Logs, six_networks};
-use filter_files::{Filter, FilterFile};
+use filter_text::{Filter, FilterFile};
 use futures::channel::oneshot;
 use http_rules::{Mirror, SixNetwork, written_name};
 use log_writer::LogTask;

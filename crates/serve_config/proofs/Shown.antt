@@ -11,8 +11,8 @@ use Rattle.std.specs.Prelude.{String}
 use Rattle.std.specs.String.{string_bytes}
 use Rattle.std.proofs.lemmas.Fmt.{decimal_is_IsNumeral}
 use Rattle.std.proofs.lemmas.List.{map-append}
-use Rattle.filter_files.specs.declared.file.FilterFile.{FilterFile}
 use Rattle.filter_slots.specs.declared.slot.Slot.TheVariants as slots
+use Rattle.filter_text.specs.declared.file.FilterFile.{FilterFile}
 use Rattle.serde_json.specs.Data.{Data, null, boolean, number, string, array, object}
 use Rattle.serde_json.specs.Find.{as_str}
 use Rattle.serde_json.specs.View.{members_view}

@@ -9,8 +9,8 @@ ghost use Rattle.serve_config.specs.Files.{AreFiles, IsFile, all_keys, has_slot,
 
 use crate::fault::Fault;
 use crate::place::Place;
-use filter_files::FilterFile;
 use filter_slots::{Slot, Socket};
+use filter_text::FilterFile;
 use serde_json::{Map, Value};
 use std::alloc::{AllocError, Global};
 

@@ -28,7 +28,7 @@ use crate::shape::check;
 use crate::shared_fields::SharedField;
 use crate::six_clients::SixClients;
 use crate::web::{SiteKeys, WebKeys};
-use filter_files::FilterFile;
+use filter_text::FilterFile;
 use http_traffic::PassedMethod;
 use json_fault::{Expected, expected_at, offset_of};
 use node_core::{Config, Network};

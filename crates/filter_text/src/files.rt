@@ -1,14 +1,9 @@
-//! Filter programs in the files that a configuration names.
-//!
-//! Nothing is proved of files. Tested by: tests/serve_operator, cases/serve.
-#![tactic(auto)]
-
-mod file;
-
+//! Filter programs in the files that a configuration names. Nothing is proved of files.
+use crate::fault::ProgramFault;
+use crate::file::FilterFile;
+use crate::reading::read_program;
 use bpf_check::Checked;
-pub use file::FilterFile;
 use filter_slots::{Slot, Socket};
-use filter_text::{ProgramFault, read_program};
 use std::alloc::AllocGlobal;
 use std::fs::{File, Files};
 use std::io::Read;
