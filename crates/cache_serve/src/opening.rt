@@ -12,7 +12,7 @@ use filter_text::Filter;
 use futures::channel::oneshot;
 use http_rules::SixEnd;
 use name_lookup::NameDesk;
-use node_core::Event;
+use node_words::Event;
 use proxy_node::{AtDesk, NodeHandle, Overseen, ThreadSeat};
 use proxy_setup::{Ending, Orders, ServeFault, ServerOrders, Site, no_memory};
 use proxy_state::{Shared, TakeEvents, add_own, note_own_six};

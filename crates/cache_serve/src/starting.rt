@@ -5,8 +5,8 @@ use crate::config::thread_config;
 use crate::limits::ProxyLimits;
 use crate::opening::{Begun, Opening, opening_of};
 use crate::tasks::Work;
+use access_log::writer::{LogTask, run_log};
 use crossbeam_channel::{Receiver, Sender, bounded};
-use log_writer::{LogTask, run_log};
 use name_lookup::{NameDesk, NameLimits, NameWatch, open_names, watch_names};
 use proxy_node::{AtDesk, Overseen};
 use proxy_setup::{

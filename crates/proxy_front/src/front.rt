@@ -11,7 +11,7 @@ use http_rules::{
     may_validate, mirrored,
 };
 use http_traffic::{Asked, Asking, FollowUp, Forward, Front, How, Outcome, PassOn, Shape, Told};
-use node_core::{Event, Mode, Network};
+use node_words::{Event, Mode, Network};
 use object_store::{CacheKey, Object};
 use proxy_state::{
     FrontRules, Given, Shared, TakeEvents, has_marks, loop_fields, micros_since, passed_on,

@@ -7,7 +7,8 @@ use capture_tap::Recorder;
 use crossbeam_channel::Sender;
 use filter_slots::{Datagram, End, Judged, Moment, Socket};
 use node_book::{Clerk, Programs, Seat, SubmitFault};
-use node_core::{Action, Answer, Event, NoMemory, Out, Outcome};
+use node_core::Out;
+use node_words::{Action, Answer, Event, NoMemory, Outcome};
 use object_store::CacheKey;
 use proxy_state::{
     Attempt, Cause, Given, Shared, TakeEvents, Unstarted, note_query, note_reply, perform,

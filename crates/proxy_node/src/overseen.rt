@@ -1,7 +1,6 @@
 //! What an administrator asks about the node.
 use filter_slots::Slots;
-use node_book::{NeighbourView, Sizes};
-use node_core::{NoMemory, Stats};
+use node_words::{NeighbourView, NoMemory, Sizes, Stats};
 use object_store::{CacheKey, Entry};
 use proxy_state::Shared;
 use std::alloc::Global;

@@ -2,8 +2,8 @@
 use crate::overseen::Overseen;
 use capture_tap::Tap;
 use filter_slots::{Moment, Slots};
-use node_book::{Desk, NeighbourView, Sizes};
-use node_core::{NoMemory, Stats};
+use node_book::Desk;
+use node_words::{NeighbourView, NoMemory, Sizes, Stats};
 use object_store::{CacheKey, Entry};
 use proxy_state::{Fetchers, Kept, Mail, Outward, Passes, Shared, Stopping, Telling};
 use query_handles::Timeline;

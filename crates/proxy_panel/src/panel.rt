@@ -8,9 +8,8 @@ use filter_text::{FilesFault, Filter, FilterFile, ProgramFault, read_filters, re
 use futures::channel::mpsc;
 use http_rules::{is_administrator, is_authorized};
 use http_traffic::{Asked, CaptureFault, Figures, Panel, PutFault, StoreFault, StoreOrder};
-use node_book::NeighbourView;
-use node_core::Event;
 use node_figures::{neighbour_figures_text, neighbours_text, stats_text, store_text, stored_text};
+use node_words::{Event, NeighbourView};
 use object_store::{CacheKey, Entry};
 use proxy_node::Overseen;
 use proxy_state::{

@@ -14,7 +14,8 @@ use http_rules::{
     OriginRules, RefreshRule, SixNetwork, UrlPlace, loop_mark, usual_denials, usual_six_denials,
 };
 use node_book::{BOOK_OCTETS, BookFault, Booked, Desk, RECEIPT_OCTETS, Seat};
-use node_core::{Config, Node};
+use node_core::Node;
+use node_words::Config;
 use object_shelf::Shelf;
 use object_store::{KeyHashes, MOST_KEY_OCTETS};
 use proxy_node::ProxyState;

@@ -12,6 +12,7 @@ mod filters;
 mod freshness;
 mod front;
 mod group;
+mod json_fault;
 mod keys;
 mod limits;
 mod logs;
@@ -32,6 +33,7 @@ mod web;
 
 pub use fault::Fault;
 pub use freshness::{Freshness, RefreshRule, UrlPart};
+pub use json_fault::{Expected, expected_at, offset_of};
 pub use mirrors::MirrorPath;
 pub use origins::SixNetwork;
 pub use own_key::{has_key, has_own_key, is_known, keep_keys, stays};

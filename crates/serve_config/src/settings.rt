@@ -19,6 +19,7 @@ ghost use Rattle.serve_config.specs.Words.{form_said, freshness_said, level_said
 
 use crate::fault::Fault;
 use crate::freshness::{Freshness, RefreshRule};
+use crate::json_fault::{Expected, expected_at, offset_of};
 use crate::keys::{BackKeys, Keys, keys_in};
 use crate::mirrors::MirrorPath;
 use crate::origins::SixNetwork;
@@ -30,8 +31,7 @@ use crate::six_clients::SixClients;
 use crate::web::{SiteKeys, WebKeys};
 use filter_text::FilterFile;
 use http_traffic::PassedMethod;
-use json_fault::{Expected, expected_at, offset_of};
-use node_core::{Config, Network};
+use node_words::{Config, Network};
 use serde_json::Value;
 use std::alloc::Global;
 use std::fmt;
