@@ -8,7 +8,6 @@ use crate::passing::passes_of;
 use crate::site::{Site, ends_of};
 use capture_tap::Tap;
 use crossbeam_channel::Sender;
-use forwarding::{Field, Peer, Profile};
 use futures::channel::oneshot;
 use http_rules::{
     OriginRules, RefreshRule, SixNetwork, UrlPlace, loop_mark, usual_denials, usual_six_denials,
@@ -20,8 +19,8 @@ use object_shelf::Shelf;
 use object_store::{KeyHashes, MOST_KEY_OCTETS};
 use proxy_node::ProxyState;
 use proxy_state::{
-    AccessLog, Fetchers, Kept, Mail, NeighbourEnds, Notices, Outward, PartKeys, Passes, Stopping,
-    Telling, UnaskedKeys,
+    AccessLog, Fetchers, Field, Kept, Mail, NeighbourEnds, Notices, Outward, PartKeys, Passes,
+    Peer, Profile, Stopping, Telling, UnaskedKeys,
 };
 use query_handles::Timeline;
 use serve_config::{Freshness, Settings, SharedField, UrlPart};
