@@ -2,7 +2,6 @@
 use crate::overview::page_of;
 use bpf_asm::to_text;
 use bpf_check::Checked;
-use capture_tap::{CaptureLimits, QUERY_LINE, TapFault};
 use filter_slots::{Moment, Slot, Slots};
 use filter_text::{FilesFault, Filter, FilterFile, ProgramFault, read_filters, read_program};
 use futures::channel::mpsc;
@@ -13,7 +12,8 @@ use node_words::{Event, NeighbourView};
 use object_store::{CacheKey, Entry};
 use proxy_node::Overseen;
 use proxy_state::{
-    Obstacle, Purger, RETRIES, RETRY_MILLIS, Shared, TakeEvents, key_in, limit_of, stays, withdraw,
+    CaptureLimits, Obstacle, Purger, QUERY_LINE, RETRIES, RETRY_MILLIS, Shared, TakeEvents,
+    TapFault, key_in, limit_of, stays, withdraw,
 };
 use std::alloc::{AllocError, AllocGlobal, Global};
 use std::fs::Files;

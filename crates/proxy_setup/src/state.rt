@@ -6,7 +6,6 @@ use crate::fault::{ServeFault, no_memory};
 use crate::limits::SEATS;
 use crate::passing::passes_of;
 use crate::site::{Site, ends_of};
-use capture_tap::Tap;
 use crossbeam_channel::Sender;
 use futures::channel::oneshot;
 use http_rules::{
@@ -20,7 +19,7 @@ use object_store::{KeyHashes, MOST_KEY_OCTETS};
 use proxy_node::ProxyState;
 use proxy_state::{
     AccessLog, Fetchers, Field, Kept, Mail, NeighbourEnds, Notices, Outward, PartKeys, Passes,
-    Peer, Profile, Stopping, Telling, UnaskedKeys,
+    Peer, Profile, Stopping, Tap, Telling, UnaskedKeys,
 };
 use query_handles::Timeline;
 use serve_config::{Freshness, Settings, SharedField, UrlPart};
