@@ -9,6 +9,7 @@ use crate::filters::filters;
 use crate::group::{keys, neighbours};
 use crate::place::Place;
 use crate::value::{address, networks, number, port, truth};
+use filter_text::FilterFile;
 use neighbours::End;
 use node_words::Config;
 use serde_json::Value;
