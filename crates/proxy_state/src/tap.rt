@@ -1,6 +1,6 @@
 //! Captures of the datagrams that come in, for the administration: the query thread writes the file's blocks, and hands them over
 //! in pieces through a bounded channel.
-use crate::limits::CaptureLimits;
+use crate::capture_limits::CaptureLimits;
 use capture::{COUNTS_OCTETS, Fate, HEAD_OCTETS, counts_block, datagram_block, head};
 use filter_slots::{Datagram, Judged, cut};
 use futures::channel::mpsc;
