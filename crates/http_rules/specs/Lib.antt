@@ -30,6 +30,7 @@ pub mod Responses
 pub mod Retrying
 pub mod Reuse
 pub mod Stale
+pub mod Storing
 pub mod Targets
 pub mod Text
 pub mod Updating

@@ -42,6 +42,7 @@ mod retrying;
 mod reuse;
 mod seconds;
 mod stale;
+mod storing;
 mod target;
 mod text;
 mod updating;
@@ -76,6 +77,7 @@ pub use reuse::accepts;
 pub use stale::{
     StaleUse, has_stale_use, is_error, may_serve_stale, stale_use, supersedes, takes_stale,
 };
+pub use storing::Storable;
 pub use target::{TargetFault, key_of, key_of_url};
 pub use updating::updated;
 pub use validation::{conditions_for, has_validator, is_about, may_validate};

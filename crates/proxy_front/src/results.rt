@@ -3,15 +3,15 @@ use crossbeam_channel::Sender;
 use fair_use::{SharedEnd, Upload, may_have_changed};
 use filter_slots::Moment;
 use http_header::HeaderMap;
-use http_rules::{StaleUse, changed_keys, complete_length, is_error, supersedes};
+use http_rules::{StaleUse, Storable, age_of, changed_keys, complete_length, is_error, supersedes};
 use http_traffic::{Change, Ended, FetchEnd, FetchFault, Fetched, LeftChange, Page, Supplier};
 use httpdate::HttpDate;
 use node_words::{Event, Mode, Outcome};
 use object_store::{CacheKey, SharedObject};
 use proxy_state::{
-    Cause, Exchange, Flight, Landed, Life, Profile, RETRIES, RETRY_MILLIS, Shared, Stale,
+    Cause, Exchange, Flight, Landed, Profile, RETRIES, RETRY_MILLIS, Received, Shared, Stale,
     TakeEvents, Unwanted, begin_again, confirmed, date_seconds, has_other_rules, hides_rules,
-    micros_since, object_of, refusal, stale_object, unkept_object, withdraw,
+    micros_since, refusal, stale_object, stored_object, unkept_object, unstored_object, withdraw,
 };
 use shared_thread::Submit;
 use std::alloc::Global;
@@ -378,10 +378,16 @@ impl<R: Wait + Clock + Drop, S: Shared, N: TakeEvents> Results<R, S, N> {
         }
     }
 
-    // The age of a response, and for how long it may be stored.
-    fn life_of(&self, key: Option<&CacheKey>, flight: Flight, page: &Page) -> Life {
+    // What there is to show that a response with this status and head may be stored.
+    fn storable<'a>(
+        &self,
+        key: Option<&CacheKey>,
+        flight: Flight,
+        status: u16,
+        head: &'a HeaderMap,
+    ) -> Option<Storable<'a>> {
         let exchange = self.exchange(key, flight);
-        self.proxy.kept().profile.life_of(exchange, page)
+        self.proxy.kept().profile.storable(exchange, status, head)
     }
 
     // Notes the length of what a part has come of, if the whole may be stored.
@@ -438,12 +444,24 @@ impl<R: Wait + Clock + Drop, S: Shared, N: TakeEvents> Results<R, S, N> {
         page: Page,
         date: &[u8],
     ) -> Option<SharedObject> {
-        let mut life = self.life_of(key, flight, &page);
-        if is_unkept {
-            life.left = 0;
-        }
+        let Page { status, head, body } = page;
         let name = self.proxy.outward().name.as_bytes();
-        object_of(self.alloc, name, life, page, date).ok()
+        let storable = self.storable(key, flight, status, &head);
+        let age = match &storable {
+            Some(storable) => storable.age(),
+            None => age_of(&head),
+        };
+        let object = match &storable {
+            Some(storable) if !is_unkept => stored_object(self.alloc, name, storable, body, date),
+            _ => {
+                let head = &head;
+                let received = Received { status, head, age };
+                unstored_object(self.alloc, name, received, body, date)
+            }
+        };
+        drop(storable);
+        drop(head);
+        object.ok()
     }
 
     // Whether the object of a response is not to be kept.

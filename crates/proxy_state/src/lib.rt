@@ -50,7 +50,7 @@ pub use early::gives_early;
 pub use fields::{add_field, add_values, has_marks, loop_fields, passed_on, status_of};
 pub use front_rules::FrontRules;
 pub use in_flight::{Flight, Unwanted};
-pub use keeping::{Exchange, Life, Profile};
+pub use keeping::{Exchange, Profile};
 pub use kept::{Kept, Stale};
 pub use known_keys::KnownKeys;
 pub use lanes::{Fetchers, Lanes};
@@ -60,7 +60,9 @@ pub use mail::{Attempt, Mail};
 pub use mailbox::{Field, Landed, Led, Mailbox, Service, Waiting};
 pub use neighbour_counts::{NeighbourEnds, note_query, note_reply};
 pub use notices::Notices;
-pub use objects::{add_ours, object_of, refusal, stale_object, unkept_object, via};
+pub use objects::{
+    Received, add_ours, refusal, stale_object, stored_object, unkept_object, unstored_object, via,
+};
 pub use origins::Origins;
 pub use outward::Outward;
 pub use parts::PartKeys;
