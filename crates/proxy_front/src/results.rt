@@ -3,7 +3,9 @@ use crossbeam_channel::Sender;
 use fair_use::{SharedEnd, Upload, may_have_changed};
 use filter_slots::Moment;
 use http_header::HeaderMap;
-use http_rules::{StaleUse, Storable, age_of, changed_keys, complete_length, is_error, supersedes};
+use http_rules::{
+    Revalidated, StaleUse, Storable, age_of, changed_keys, complete_length, is_error, supersedes,
+};
 use http_traffic::{Change, Ended, FetchEnd, FetchFault, Fetched, LeftChange, Page, Supplier};
 use httpdate::HttpDate;
 use node_words::{Event, Mode, Outcome};
@@ -338,10 +340,9 @@ impl<R: Wait + Clock + Drop, S: Shared, N: TakeEvents> Results<R, S, N> {
 
     // What was asked about with the fields of this 304, if it fits that.
     fn confirmed_by(&self, landed: &Landed, page: &Page) -> Option<Page> {
-        match &landed.asked {
-            Some(asked) => confirmed(self.alloc, &page.head, asked.get()),
-            None => None,
-        }
+        let asked = landed.asked.as_ref()?;
+        let revalidated = Revalidated::by(page.status, &page.head, asked.get())?;
+        confirmed(self.alloc, &revalidated)
     }
 
     // Puts an object on the shelf that is stored. Returns whether it is there, as `Kept::shelve` says.

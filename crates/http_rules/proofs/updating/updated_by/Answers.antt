@@ -3,7 +3,7 @@ use Rattle.http_rules.specs.Fields.{Field, fields_of}
 use Rattle.http_rules.specs.Forwarding.{end_to_end}
 use Rattle.http_rules.specs.Validators.{stored_fields}
 use Rattle.http_rules.specs.Updating.{is_of_body, staying, updated}
-use Rattle.http_rules.proofs.updating.updated.Goals as goal
+use Rattle.http_rules.proofs.updating.updated_by.Goals as goal
 
 -- what is provided, behind the stored fields that stay
 is_updated : (response object kept given stays both : List Field) → kept ≡ end_to_end response → given ≡ filter (λ f. not (is_of_body f.0)) kept
