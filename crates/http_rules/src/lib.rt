@@ -77,7 +77,8 @@ pub use response::may_store;
 pub use retrying::{lasts, may_retry};
 pub use reuse::accepts;
 pub use stale::{
-    StaleUse, has_stale_use, is_error, may_serve_stale, stale_use, supersedes, takes_stale,
+    SourceEnd, StaleUse, has_stale_use, is_error, may_serve_stale, stale_use, supersedes,
+    takes_stale, takes_the_place,
 };
 pub use storing::Storable;
 pub use target::{TargetFault, key_of, key_of_url};

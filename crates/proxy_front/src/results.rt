@@ -1,10 +1,11 @@
 //! Results of fetches on their way to the node.
+use crate::ends::{end_of, is_down};
 use crossbeam_channel::Sender;
 use fair_use::{SharedEnd, Upload, may_have_changed};
 use filter_slots::Moment;
 use http_header::HeaderMap;
 use http_rules::{
-    Revalidated, StaleUse, Storable, age_of, changed_keys, complete_length, is_error, supersedes,
+    Revalidated, SourceEnd, StaleUse, Storable, age_of, changed_keys, complete_length, supersedes,
 };
 use http_traffic::{Change, Ended, FetchEnd, FetchFault, Fetched, LeftChange, Page, Supplier};
 use httpdate::HttpDate;
@@ -50,30 +51,6 @@ fn supplier_of(landed: &Landed, end: &FetchEnd) -> Option<Supplier> {
     }
 }
 
-/// Whether a stale object may be served in place of what came: a fetch for all clients from the origin brought an error, or no response
-/// that could be read. A body that is too long is no error: it is passed on.
-fn is_down(flight: Flight, end: &FetchEnd) -> bool {
-    if !flight.is_origin() || flight.mode != Mode::Shared {
-        return false;
-    }
-    match end {
-        FetchEnd::Whole(page) => is_error(page.status),
-        FetchEnd::Failed(fault) => matches!(
-            fault,
-            FetchFault::Lookup
-                | FetchFault::Connect
-                | FetchFault::NoFile
-                | FetchFault::Cut
-                | FetchFault::NotHttp
-                | FetchFault::LargeHead
-                | FetchFault::Time
-                | FetchFault::Room
-                | FetchFault::Slow
-        ),
-        FetchEnd::Refused => false,
-    }
-}
-
 /// Whether an origin has a response for all clients that is too long to be kept, in place of what was kept before.
 fn is_too_long(flight: Flight, end: &FetchEnd) -> bool {
     flight.is_origin()
@@ -85,19 +62,10 @@ fn is_too_long(flight: Flight, end: &FetchEnd) -> bool {
 /// conditions, so the next fetch has none.
 fn is_unanswered(landed: &Landed, end: &FetchEnd) -> bool {
     landed.asked.is_some()
-        && match end {
-            FetchEnd::Whole(page) => page.status == PRECONDITION_FAILED,
-            FetchEnd::Failed(fault) => matches!(
-                fault,
-                FetchFault::Cut
-                    | FetchFault::NotHttp
-                    | FetchFault::LargeHead
-                    | FetchFault::Time
-                    | FetchFault::Room
-                    | FetchFault::Slow
-            ),
-            FetchEnd::Refused => false,
-        }
+        && matches!(
+            end_of(end),
+            SourceEnd::Answered(PRECONDITION_FAILED) | SourceEnd::Unread
+        )
 }
 
 /// What the shelf does after a response that stands for nothing.
@@ -543,7 +511,8 @@ impl<R: Wait + Clock + Drop, S: Shared, N: TakeEvents> Results<R, S, N> {
     // What is served in place of what the origin could not give, if there is something. After a change there is nothing: the shelf has
     // not got anything of this key since then, and what it had before is not given.
     fn stale(&self, key: Option<&CacheKey>, landed: &Landed, end: &FetchEnd) -> Option<Delivery> {
-        if landed.is_outdated || !is_down(landed.flight, end) {
+        let flight = landed.flight;
+        if landed.is_outdated || !is_down(flight.is_origin(), flight.mode, end) {
             return None;
         }
         let (kept, now) = (self.proxy.kept(), self.proxy.now(&self.rt));
