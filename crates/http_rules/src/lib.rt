@@ -54,7 +54,7 @@ pub use administrator::is_administrator;
 pub use age::age_of;
 pub use authority::{Authority, authority_of};
 pub use authorization::is_authorized;
-pub use changes::changed_keys;
+pub use changes::{Changed, changed_keys};
 pub use choice::{Stored, choose, is_for_a_part};
 pub use conditions::{StoredAnswer, answer_to, is_for_origin, is_in_not_modified};
 pub use confirming::Revalidated;

@@ -5,7 +5,8 @@ use fair_use::{SharedEnd, Upload, may_have_changed};
 use filter_slots::Moment;
 use http_header::HeaderMap;
 use http_rules::{
-    Revalidated, SourceEnd, StaleUse, Storable, age_of, changed_keys, complete_length, supersedes,
+    Changed, Revalidated, SourceEnd, StaleUse, Storable, age_of, changed_keys, complete_length,
+    supersedes,
 };
 use http_traffic::{Change, Ended, FetchEnd, FetchFault, Fetched, LeftChange, Page, Supplier};
 use httpdate::HttpDate;
@@ -830,17 +831,27 @@ impl<R: Wait + Clock + Drop, S: Shared, N: TakeEvents> Results<R, S, N> {
         drop(change);
     }
 
-    // Takes out what a request has changed whose answer has this head, or what it names if there is none. Where memory is short, it stays
-    // until it is stale.
+    // Takes out what a request has changed whose answer has this head, or what it names if there is none. Where memory is short, what its
+    // answer names stays until it is stale.
     fn clear_change(&mut self, change: &Change, head: &Option<(u16, HeaderMap)>) {
         let Some((status, fields)) = head else {
             self.clear(&change.key);
             return;
         };
         let method = change.method.as_str();
-        if let Ok(changed) = changed_keys(self.alloc, &change.key, method, *status, fields) {
-            self.clear_all(changed.as_slice());
-            drop(changed);
+        let Changed { own, others } = changed_keys(
+            self.alloc,
+            &change.key,
+            method,
+            *status,
+            fields,
+        );
+        if own {
+            self.clear(&change.key);
+        }
+        if let Ok(others) = others {
+            self.clear_all(others.as_slice());
+            drop(others);
         }
     }
 
