@@ -29,6 +29,7 @@ pub mod Requests
 pub mod Responses
 pub mod Retrying
 pub mod Reuse
+pub mod Sharing
 pub mod Stale
 pub mod Targets
 pub mod Text

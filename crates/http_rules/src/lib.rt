@@ -41,6 +41,7 @@ mod response;
 mod retrying;
 mod reuse;
 mod seconds;
+mod sharing;
 mod stale;
 mod target;
 mod text;
@@ -73,6 +74,7 @@ pub use request::classify;
 pub use response::may_store;
 pub use retrying::{lasts, may_retry};
 pub use reuse::accepts;
+pub use sharing::is_only_for_who_began;
 pub use stale::{
     StaleUse, has_stale_use, is_error, may_serve_stale, stale_use, supersedes, takes_stale,
 };
