@@ -4,6 +4,7 @@ pub mod Authorization
 pub mod Changes
 pub mod Choice
 pub mod Conditions
+pub mod Destinations
 pub mod Directives
 pub mod Elements
 pub mod EntityTags

@@ -387,7 +387,7 @@ impl<R: Wait + Clock + Drop, S: Shared, N: TakeEvents> NodeFront<R, S, N> {
         if is_marked && has_come_back(&asked.head, self.proxy.outward().loop_mark.as_slice()) {
             return Err(508);
         }
-        match server_in_digits(key.as_slice()) {
+        match server_in_digits(key) {
             Some(server) if self.proxy.outward().refuses(&self.rt, server) => Err(403),
             _ => Ok(()),
         }

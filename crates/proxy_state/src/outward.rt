@@ -6,7 +6,7 @@ use forwarding::{Destination, Field, Peer, add_ours, origin_of, peer_of, via};
 use http_rules::{OriginRules, SixEnd, conditions_for};
 use http_traffic::Early;
 use httpdate::HttpDate;
-use object_store::SharedObject;
+use object_store::{CacheKey, SharedObject};
 use peer_select::Source;
 use std::alloc::{AllocError, Global};
 use std::net::SocketAddr;
@@ -50,7 +50,12 @@ impl Outward {
     }
 
     /// The destination of a fetch of `key` from `source`.
-    pub fn destination(&self, alloc: Global, source: Source, key: &[u8]) -> Option<Destination> {
+    pub fn destination(
+        &self,
+        alloc: Global,
+        source: Source,
+        key: &CacheKey,
+    ) -> Option<Destination> {
         match source {
             Source::Origin => origin_of(alloc, key),
             Source::Peer(place) => peer_of(alloc, key, *self.peers.get(place)?),

@@ -252,9 +252,9 @@ impl Passes {
     /// Where a request for this URL goes that is passed on. `None` if there is nobody to pass it on to, or if out of memory.
     pub fn onwards(&self, alloc: Global, key: &CacheKey) -> Option<Onwards> {
         let destination = if self.is_direct {
-            origin_of(alloc, key.as_slice())
+            origin_of(alloc, key)
         } else {
-            peer_of(alloc, key.as_slice(), self.parent?)
+            peer_of(alloc, key, self.parent?)
         };
         Some(Onwards {
             destination: destination?,
