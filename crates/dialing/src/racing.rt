@@ -5,10 +5,11 @@ ghost use Rattle.futures.specs.Task.{Covers, Keeps};
 use fair_use::{Move, Race};
 use futures::Future;
 use futures::task::{Context, Poll};
-use http_traffic::{Addresses, Ticket};
+use http_traffic::{AdmittedAddresses, Ticket};
+use origin_rules::Admitted;
 use std::alloc::Global;
 use std::io;
-use std::net::{Net, SocketAddr};
+use std::net::Net;
 use std::sync::Wait;
 use std::time::{Clock, Duration, Instant};
 use tokio::net::{ConnectFuture, TcpStream};
@@ -26,7 +27,7 @@ const FILE_PATIENCE: u64 = 1_000;
 #[derive(Drop)]
 pub struct Connected {
     pub socket: TcpStream,
-    pub server: SocketAddr,
+    pub server: Admitted,
 }
 
 /// Why a server was not connected to.
@@ -42,7 +43,7 @@ pub enum DialFault {
 
 // An attempt.
 struct Attempt {
-    server: SocketAddr,
+    server: Admitted,
     // While it is under way.
     connecting: Option<ConnectFuture>,
     // Whether it found no open file, and is made again.
@@ -67,7 +68,7 @@ impl Drop for Attempt {
 pub struct Dialing<R> {
     rt: R,
     handle: Handle,
-    servers: Addresses,
+    servers: AdmittedAddresses,
     race: Race,
     began: Option<Instant>,
     attempts: Vec<Attempt>,
@@ -107,7 +108,7 @@ impl<R: Net + Wait + Clock + Copy> Dialing<R> {
         rt: R,
         alloc: Global,
         handle: Handle,
-        servers: Addresses,
+        servers: AdmittedAddresses,
         limit: Duration,
     ) -> Dialing<R> {
         let race = Race::new(servers.as_slice().len(), millis(limit));
@@ -135,7 +136,7 @@ impl<R: Net + Wait + Clock + Copy> Dialing<R> {
         let server = *server;
         let attempt = Attempt {
             server,
-            connecting: Some(TcpStream::connect(&self.rt, server, self.handle.reactor())),
+            connecting: Some(TcpStream::connect(&self.rt, server.address(), self.handle.reactor())),
             lacks_file: false,
             ticket,
         };
@@ -162,7 +163,7 @@ impl<R: Net + Wait + Clock + Copy> Dialing<R> {
                 attempt.lacks_file = false;
                 let connecting = TcpStream::connect(
                     &self.rt,
-                    attempt.server,
+                    attempt.server.address(),
                     self.handle.reactor(),
                 );
                 put(&mut attempt.connecting, Some(connecting));
@@ -231,7 +232,7 @@ impl<R: Wait + Clock> Dialing<R> {
     }
 
     // The address of the attempt at this place, which has ended.
-    fn server_at(&mut self, place: usize) -> Option<SocketAddr> {
+    fn server_at(&mut self, place: usize) -> Option<Admitted> {
         let attempt = self.attempts.get_mut(place)?;
         put(&mut attempt.connecting, None);
         put(&mut attempt.ticket, None);
@@ -246,7 +247,7 @@ impl<R: Wait + Clock> Dialing<R> {
         let socket = connected.ok()?;
         self.give_up(now);
         put(&mut self.sleep, None);
-        self.servers.note_connected(server);
+        self.servers.note_connected(server.address());
         Some(Connected { socket, server })
     }
 

@@ -16,6 +16,7 @@ use crossbeam_channel::Sender;
 use futures::channel::oneshot;
 use futures::task::{Context, Poll};
 use futures::{Future, ready};
+use http_rules::AdmittedOrigin;
 use http_traffic::{
     Asking, Coming, FetchFault, FollowUp, Forward, Front, Outcome, PassFault, PassOn, PassedHead,
     Passing, Road, Shape, Told, TunnelEnd,
@@ -239,10 +240,10 @@ impl<F: Front + FollowUp + PassOn> Answers for FrontAnswers<F> {
         }
     }
 
-    fn admits(&self, server: SocketAddr) -> bool {
+    fn admitted(&self, server: SocketAddr) -> Option<AdmittedOrigin> {
         match self.context.front.try_borrow_mut() {
-            Ok(mut front) => front.admits(server),
-            Err(_) => false,
+            Ok(mut front) => front.admitted(server),
+            Err(_) => None,
         }
     }
 

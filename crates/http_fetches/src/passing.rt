@@ -191,7 +191,7 @@ impl<Q: Drop, Y: Deliver<Q>> Talk for Post<Y, Q> {
 
     type Talking = Aside<Beside<Answering<Y::Answer>, Y::Connection>>;
 
-    fn talk(&mut self, _server: SocketAddr, socket: Paced) -> Option<Self::Talking> {
+    fn talk(&mut self, _server: Admitted, socket: Paced) -> Option<Self::Talking> {
         let Some(request) = self.next_request() else {
             drop(socket);
             return None;
@@ -215,7 +215,7 @@ impl<Q: Drop, Y: Deliver<Q>> Talk for Post<Y, Q> {
     }
 
     // What is passed on has a connection of its own.
-    fn resume(&mut self, _server: SocketAddr) -> Option<Self::Talking> {
+    fn resume(&mut self, _server: Admitted) -> Option<Self::Talking> {
         None
     }
 
@@ -228,7 +228,7 @@ impl<Q: Drop, Y: Deliver<Q>> Talk for Post<Y, Q> {
         fault == FetchFault::Cut && self.http.may_repeat(self.moves.has_answer())
     }
 
-    fn keep(&mut self, _server: SocketAddr, _page: &mut ()) {}
+    fn keep(&mut self, _server: Admitted, _page: &mut ()) {}
 }
 
 // Other handles to both. Returns `None` if there are too many.

@@ -18,8 +18,6 @@ pub mod HostFields
 pub mod Loops
 pub mod Mirrors
 pub mod Options
-pub mod Origins
-pub mod OriginsSix
 pub mod Parts
 pub mod Passing
 pub mod Plain

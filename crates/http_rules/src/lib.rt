@@ -29,8 +29,6 @@ mod loops;
 mod mirrors;
 mod named_directive;
 mod options;
-mod origins;
-mod origins_six;
 mod parts;
 mod passing;
 mod plain;
@@ -64,8 +62,10 @@ pub use freshness::{Kept, may_keep};
 pub use host_field::{has_long_name, is_host};
 pub use loops::{has_come_back, loop_mark};
 pub use mirrors::{Mirror, mirrored};
-pub use origins::{OriginRules, usual_denials};
-pub use origins_six::{SixEnd, SixNetwork, embedded_law, usual_six_denials};
+pub use origin_rules::{
+    Admitted, AdmittedOrigin, OriginRules, SixEnd, SixNetwork, embedded_law, usual_denials,
+    usual_six_denials,
+};
 pub use parts::PartRequests;
 pub use passing::{is_for_server, is_unsafe, onward};
 pub use plain::is_plain_request;

@@ -11,7 +11,7 @@ mod orders;
 mod panel;
 mod passing;
 
-pub use addresses::{Addresses, AdmitFault, Beside, Found};
+pub use addresses::{Addresses, AdmitFault, AdmittedAddresses, Beside, Found};
 pub use asking::{
     Asked, Asking, FollowUp, Forward, Front, How, Outcome, PassOn, Shape, Supplier, Told,
 };

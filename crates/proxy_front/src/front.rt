@@ -7,8 +7,8 @@ use forwarding::{Field, KnownKeys, Profile, Service, Waiting, server_in_digits};
 use futures::channel::oneshot;
 use http_header::HOST;
 use http_rules::{
-    Mirror, SixNetwork, TargetFault, has_come_back, has_long_name, is_host, is_plain_request,
-    may_validate, mirrored,
+    AdmittedOrigin, Mirror, SixNetwork, TargetFault, has_come_back, has_long_name, is_host,
+    is_plain_request, may_validate, mirrored,
 };
 use http_traffic::{Asked, Asking, FollowUp, Forward, Front, How, Outcome, PassOn, Shape, Told};
 use node_core::{Event, Mode, Network};
@@ -590,7 +590,7 @@ impl<R: Wait + Clock + Drop, S: Shared, N: TakeEvents> TakeCalls for NodeFront<R
             Call::IsLarge(asked) => Returned::Whether(self.is_beside_node(asked).unwrap_or(false)),
             Call::PassOn(asked, content) => Returned::Passing(self.pass(asked, content)),
             Call::Tunnel(asked) => Returned::Tunnel(self.lead(asked)),
-            Call::Admits(server) => Returned::Whether(self.admits(server)),
+            Call::Admitted(server) => Returned::Admitted(self.admitted(server)),
             Call::Gone(client) => self.gone(client),
             Call::Answered => self.answered(),
             Call::Tell(told) => self.tell(told),
@@ -650,8 +650,8 @@ impl<R: Wait + Clock + Drop, S: Shared, N: TakeEvents> NodeFront<R, S, N> {
         }
     }
 
-    fn admits(&mut self, server: SocketAddr) -> bool {
-        self.proxy.passes().admits(&self.rt, server)
+    fn admitted(&mut self, server: SocketAddr) -> Option<AdmittedOrigin> {
+        self.proxy.passes().admitted(&self.rt, server)
     }
 
     fn gone(&mut self, client: u64) -> Returned {

@@ -3,7 +3,7 @@ use crate::clock::date_seconds;
 use crate::fields::add_field;
 use filter_slots::End;
 use forwarding::{Destination, Field, Peer, add_ours, origin_of, peer_of, via};
-use http_rules::{OriginRules, SixEnd, conditions_for};
+use http_rules::{AdmittedOrigin, OriginRules, SixEnd, conditions_for};
 use http_traffic::Early;
 use httpdate::HttpDate;
 use object_store::{CacheKey, SharedObject};
@@ -113,9 +113,9 @@ impl Outward {
         add_ours(alloc, fields, self.name.as_bytes(), date.as_slice()).ok()
     }
 
-    /// Whether a server may be fetched from as an origin.
-    pub fn admits<R: Wait>(&self, rt: &R, server: SocketAddr) -> bool {
-        self.origins.lock(rt).admits_at(server)
+    /// This server, if it may be fetched from as an origin.
+    pub fn admitted<R: Wait>(&self, rt: &R, server: SocketAddr) -> Option<AdmittedOrigin> {
+        self.origins.lock(rt).admitted(server)
     }
 
     /// Whether a server that a request names by its address is not fetched from as an origin.

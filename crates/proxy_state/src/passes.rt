@@ -3,7 +3,7 @@
 use crate::storage::Purger;
 use filter_slots::End;
 use forwarding::{Destination, Peer, origin_of, peer_of};
-use http_rules::{OriginRules, SixEnd};
+use http_rules::{AdmittedOrigin, OriginRules, SixEnd};
 use http_traffic::Ticket;
 use lru::LruCache;
 use object_store::{CacheKey, KeyHashes};
@@ -206,9 +206,9 @@ impl Passes {
         false
     }
 
-    /// Whether a tunnel may lead to this server.
-    pub fn admits<R: Wait>(&self, rt: &R, server: SocketAddr) -> bool {
-        self.ends.lock(rt).admits_at(server)
+    /// This server, if a tunnel may lead to it.
+    pub fn admitted<R: Wait>(&self, rt: &R, server: SocketAddr) -> Option<AdmittedOrigin> {
+        self.ends.lock(rt).admitted(server)
     }
 
     /// Whether no tunnel may lead to this server, which a request names by its address.
