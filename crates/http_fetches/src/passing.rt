@@ -16,12 +16,12 @@ use futures::channel::mpsc;
 use futures::task::{Context, Poll};
 use futures::{Future, ready};
 use http_content::Relayed;
+use http_rules::Admitted;
 use http_traffic::{Change, FetchFault, LeftChange, PassFault, Passage, Piece, Server, Ticket};
 use hyper::Request;
 use hyper::client::conn::http1;
 use paced_stream::Paced;
 use std::alloc::Global;
-use std::net::SocketAddr;
 use std::time::{Clock, Duration};
 use tokio::time::Handle;
 
