@@ -5,6 +5,7 @@ pub mod Changes
 pub mod Choice
 pub mod Conditions
 pub mod Confirming
+pub mod Destinations
 pub mod Directives
 pub mod Elements
 pub mod EntityTags
@@ -18,8 +19,6 @@ pub mod HostFields
 pub mod Loops
 pub mod Mirrors
 pub mod Options
-pub mod Origins
-pub mod OriginsSix
 pub mod Parts
 pub mod Passing
 pub mod Plain
@@ -30,6 +29,7 @@ pub mod Requests
 pub mod Responses
 pub mod Retrying
 pub mod Reuse
+pub mod Sharing
 pub mod Stale
 pub mod Storing
 pub mod Targets

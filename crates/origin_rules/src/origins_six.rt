@@ -1,8 +1,8 @@
 //! Which servers with an address of IPv6 may be fetched from as origins.
 ghost use Rattle.std.specs.Prelude.{◌≡◌, ◌<◌, ◌≤◌, ◌+◌, ◌-◌, ◌*◌, ◌%◌, ◌^◌, ◌||◌, ℕ, IfOk, true};
 ghost use Rattle.std.specs.List.{list_any};
-ghost use Rattle.http_rules.specs.declared.origins.OriginRules.{OriginRules};
-ghost use Rattle.http_rules.specs.OriginsSix.{
+ghost use Rattle.origin_rules.specs.declared.origins.OriginRules.{OriginRules};
+ghost use Rattle.origin_rules.specs.OriginsSix.{
   admits_at,
   admits_four,
   admits_six,

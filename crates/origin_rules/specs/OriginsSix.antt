@@ -7,10 +7,10 @@ use Rattle.std.specs.declared.net.ip_addr.IpAddr.TheVariants.{V4, V6}
 use Rattle.std.specs.declared.net.socket_addr.SocketAddr.{SocketAddr}
 use Rattle.std.specs.Net.Addr.{is_ipv4, ipv4_octets, ipv6_bits}
 use Rattle.std.specs.Net.Socket.{socket_ip, socket_port}
-use Rattle.http_rules.specs.Origins.{admits, is_port}
-use Rattle.http_rules.specs.declared.origins.OriginRules.{OriginRules}
-use Rattle.http_rules.specs.declared.origins_six.SixEnd.{SixEnd}
-use Rattle.http_rules.specs.declared.origins_six.SixNetwork.{SixNetwork}
+use Rattle.origin_rules.specs.Origins.{admits, is_port}
+use Rattle.origin_rules.specs.declared.origins.OriginRules.{OriginRules}
+use Rattle.origin_rules.specs.declared.origins_six.SixEnd.{SixEnd}
+use Rattle.origin_rules.specs.declared.origins_six.SixNetwork.{SixNetwork}
 
 -- the first `prefix` bits of an address
 abbrev pub first_bits : ℕ → ℕ → ℕ

@@ -4,7 +4,7 @@ use Rattle.std.specs.List.{list_any}
 use Rattle.bpf_run.specs.declared.ends.End.{End}
 use Rattle.node_terms.specs.declared.network.Network.{Network}
 use Rattle.node_terms.specs.Networks.{is_inside}
-use Rattle.http_rules.specs.declared.origins.OriginRules.{OriginRules}
+use Rattle.origin_rules.specs.declared.origins.OriginRules.{OriginRules}
 
 -- the address that a connection to an address reaches: Linux takes 0.0.0.0 for 127.0.0.1
 abbrev pub reached : List ℕ → List ℕ

@@ -1,7 +1,7 @@
 //! Which servers may be fetched from as origins.
 ghost use Rattle.std.specs.Prelude.{◌≡◌, ◌==◌, IfOk};
 ghost use Rattle.std.specs.List.{list_any};
-ghost use Rattle.http_rules.specs.Origins.{admits, is_own, is_denied, is_port, reached, usual_denials};
+ghost use Rattle.origin_rules.specs.Origins.{admits, is_own, is_denied, is_port, reached, usual_denials};
 
 use crate::origins_six::{SixEnd, SixNetwork};
 use filter_slots::End;
