@@ -6,9 +6,9 @@ use Rattle.bpf_run.specs.declared.ends.Socket.{Socket}
 use Rattle.bpf_run.specs.declared.ends.Socket.TheVariants.{Icp, Htcp}
 use Rattle.bpf_run.specs.Packet.{most_payload}
 use Rattle.capture.specs.Udp.{UdpFields}
-use Rattle.capture_script.specs.declared.part.Part.{Part}
-use Rattle.capture_script.specs.declared.part.Part.TheVariants.{Received, Sent, Partial, Other}
-use Rattle.capture_script.specs.declared.part.Sockets.{Sockets}
+use Rattle.filter_replay.specs.declared.part.Part.{Part}
+use Rattle.filter_replay.specs.declared.part.Part.TheVariants.{Received, Sent, Partial, Other}
+use Rattle.filter_replay.specs.declared.part.Sockets.{Sockets}
 
 -- the socket with this port, if there is one
 abbrev pub socket_at : Sockets → ℕ → Option Socket

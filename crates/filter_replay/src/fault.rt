@@ -37,7 +37,7 @@ impl fmt::Display for ScriptFault {
 
 impl From<AllocError> for ScriptFault {
     ghost use Rattle.std.specs.Prelude.{◌≡◌};
-    ghost use Rattle.capture_script.specs.declared.fault.ScriptFault.TheVariants.{NoMemory};
+    ghost use Rattle.filter_replay.specs.declared.fault.ScriptFault.TheVariants.{NoMemory};
 
     ghost from_gives = { λ _ e. e ≡ NoMemory };
 

@@ -2,8 +2,8 @@
 
 ghost use Rattle.std.specs.Prelude.{◌≡◌, ◌++◌, OnOk};
 ghost use Rattle.capture.specs.Udp.{udp_at};
-ghost use Rattle.capture_script.specs.Taking.{clock_by, lines_of, part_in};
-ghost use Rattle.capture_script.specs.Tally.{counted};
+ghost use Rattle.filter_replay.specs.Taking.{clock_by, lines_of, part_in};
+ghost use Rattle.filter_replay.specs.Tally.{counted};
 
 use crate::fault::ScriptFault;
 use crate::line::{push_address, push_datagram, push_number};

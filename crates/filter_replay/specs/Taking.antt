@@ -1,13 +1,13 @@
 -- What a packet adds to a script: a datagram that the cache received is one line, and any other packet none.
 use Rattle.std.specs.Prelude.{ℕ, List, [], ◌++◌, codes, Option, Some, None}
 use Rattle.capture.specs.Udp.{UdpFields}
-use Rattle.capture_script.specs.declared.part.Sockets.{Sockets}
-use Rattle.capture_script.specs.declared.moment.Clock.{Clock}
-use Rattle.capture_script.specs.declared.part.Part.{Part}
-use Rattle.capture_script.specs.declared.part.Part.TheVariants.{Received, Other}
-use Rattle.capture_script.specs.Line.{datagram_text}
-use Rattle.capture_script.specs.Moment.{moment_at, start_after}
-use Rattle.capture_script.specs.Part.{part_of}
+use Rattle.filter_replay.specs.declared.part.Sockets.{Sockets}
+use Rattle.filter_replay.specs.declared.moment.Clock.{Clock}
+use Rattle.filter_replay.specs.declared.part.Part.{Part}
+use Rattle.filter_replay.specs.declared.part.Part.TheVariants.{Received, Other}
+use Rattle.filter_replay.specs.Line.{datagram_text}
+use Rattle.filter_replay.specs.Moment.{moment_at, start_after}
+use Rattle.filter_replay.specs.Part.{part_of}
 
 -- the part of a packet, by the datagram in it
 abbrev pub part_in : Sockets → Option UdpFields → Part

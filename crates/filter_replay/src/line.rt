@@ -1,7 +1,7 @@
 //! The lines of a script.
 
 ghost use Rattle.std.specs.Prelude.{◌≡◌, ◌++◌, codes, decimal, OnOk};
-ghost use Rattle.capture_script.specs.Line.{address_text, datagram_text, end_text, octets_text, socket_text};
+ghost use Rattle.filter_replay.specs.Line.{address_text, datagram_text, end_text, octets_text, socket_text};
 
 use bpf_run::{End, Moment, Socket};
 use std::alloc::{AllocError, Global};

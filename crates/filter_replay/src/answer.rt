@@ -2,7 +2,7 @@
 
 ghost use Rattle.std.specs.Prelude.{◌≡◌, ◌≤◌, drop, length};
 ghost use Rattle.std.specs.List.{position};
-ghost use Rattle.capture_script.specs.Answer.{answer_of, before_zero, htcp_code, is_question, is_zero, kind_of, same_answer, url_of};
+ghost use Rattle.filter_replay.specs.Answer.{answer_of, before_zero, htcp_code, is_question, is_zero, kind_of, same_answer, url_of};
 
 use bpf_run::Socket;
 use byteorder::{BigEndian, ByteOrder};

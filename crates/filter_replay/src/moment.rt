@@ -1,7 +1,7 @@
 //! When a packet came, and the moment of its event.
 
 ghost use Rattle.std.specs.Prelude.{◌≡◌, ◌+◌, ◌*◌, ◌/◌, min, None, Some, if◌then◌else◌};
-ghost use Rattle.capture_script.specs.Moment.{moment_at, start_after};
+ghost use Rattle.filter_replay.specs.Moment.{moment_at, start_after};
 
 use bpf_run::Moment;
 use bpf_run::moment::LAST_MOMENT;

@@ -2,7 +2,7 @@
 
 ghost use Rattle.std.specs.Prelude.{◌≡◌};
 ghost use Rattle.capture.specs.View.{shown};
-ghost use Rattle.capture_script.specs.Part.{is_complete, part_of, socket_at, socket_of};
+ghost use Rattle.filter_replay.specs.Part.{is_complete, part_of, socket_at, socket_of};
 
 use bpf_run::packet::MOST_PAYLOAD;
 use bpf_run::{End, Socket};

@@ -8,9 +8,9 @@ use Rattle.std.specs.Str.{bytes_eq}
 use Rattle.byteorder.specs.Endian.{big_number}
 use Rattle.bpf_run.specs.declared.ends.Socket.{Socket}
 use Rattle.bpf_run.specs.declared.ends.Socket.TheVariants.{Icp, Htcp}
-use Rattle.capture_script.specs.declared.answer.Answer.{Answer}
-use Rattle.capture_script.specs.declared.answer.Kind.{Kind}
-use Rattle.capture_script.specs.declared.answer.Kind.TheVariants.{Equal, Alike, Other}
+use Rattle.filter_replay.specs.declared.answer.Answer.{Answer}
+use Rattle.filter_replay.specs.declared.answer.Kind.{Kind}
+use Rattle.filter_replay.specs.declared.answer.Kind.TheVariants.{Equal, Alike, Other}
 
 -- opcode and response of an HTCP message, and 256 more where the response is about the message as a whole (MO)
 abbrev pub htcp_code : List ℕ → ℕ

@@ -1,11 +1,11 @@
 -- Counts of packets, and of answers.
 use Rattle.std.specs.Prelude.{ℕ, ◌+◌, ◌==◌, ◌&&◌, min, Bool}
-use Rattle.capture_script.specs.declared.answer.Kind.{Kind}
-use Rattle.capture_script.specs.declared.answer.Kind.TheVariants.{Equal, Alike, Other, CaptureAlone, NodeAlone}
-use Rattle.capture_script.specs.declared.part.Part.{Part}
-use Rattle.capture_script.specs.declared.part.Part.TheVariants as parts
-use Rattle.capture_script.specs.declared.tally.Answers.{Answers}
-use Rattle.capture_script.specs.declared.tally.Counts.{Counts}
+use Rattle.filter_replay.specs.declared.answer.Kind.{Kind}
+use Rattle.filter_replay.specs.declared.answer.Kind.TheVariants.{Equal, Alike, Other, CaptureAlone, NodeAlone}
+use Rattle.filter_replay.specs.declared.part.Part.{Part}
+use Rattle.filter_replay.specs.declared.part.Part.TheVariants as parts
+use Rattle.filter_replay.specs.declared.tally.Answers.{Answers}
+use Rattle.filter_replay.specs.declared.tally.Counts.{Counts}
 
 -- one more, at most 2^64 - 1
 abbrev pub one_more : ℕ → ℕ

@@ -1,7 +1,7 @@
 //! Counts of datagrams and of answers.
 
 ghost use Rattle.std.specs.Prelude.{◌≡◌};
-ghost use Rattle.capture_script.specs.Tally.{answered, are_equal, counted};
+ghost use Rattle.filter_replay.specs.Tally.{answered, are_equal, counted};
 
 use crate::answer::Kind;
 use crate::part::Part;
