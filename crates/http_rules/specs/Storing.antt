@@ -1,6 +1,6 @@
 -- Which answers may be stored, and what there is to show for it: an answer whose head tells where its body ends, and which the published
 -- rules or those of RFC 9111 have stored.
-use Rattle.std.specs.Prelude.{◌≡◌, ◌⊎◌, ℕ, List, Bool, true, Option, Some, None, option_map, if◌then◌else◌}
+use Rattle.std.specs.Prelude.{◌≡◌, ◌⊎◌, ℕ, List, true, Option, Some, None, option_map, if◌then◌else◌}
 use Rattle.node_terms.specs.declared.mode.Mode.{Mode}
 use Rattle.http_rules.specs.declared.freshness.Kept.{Kept}
 use Rattle.http_rules.specs.declared.refresh.RefreshRule.{RefreshRule}
