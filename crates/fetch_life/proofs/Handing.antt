@@ -1,6 +1,7 @@
 -- What is done when a result is handed in.
 use Rattle.std.proofs.Common.{◌≡◌, ◌==◌, ℕ, ◌+◌, ◌*◌, ◌≤◌, List, [], ◌∷◌, ◌++◌, Option, Some, None, Bool, true, false, not, ◌&&◌, ◌||◌, cond, count_by, refl, sym, ◌∙◌, ap, arith}
 use Rattle.fetch_life.specs.declared.facts.End.{End}
+use Rattle.fetch_life.specs.declared.facts.End.TheVariants as ends
 use Rattle.fetch_life.specs.declared.commands.BroughtObject.{BroughtObject}
 use Rattle.fetch_life.specs.declared.commands.Brought.{Brought}
 use Rattle.fetch_life.specs.declared.commands.Brought.TheVariants.{Object, Nothing, Unwanted}
@@ -9,8 +10,9 @@ use Rattle.fetch_life.specs.declared.commands.Command.TheVariants as does
 use Rattle.fetch_life.specs.declared.stages.Fetch.{Fetch}
 use Rattle.fetch_life.specs.declared.stages.Flight.{Flight}
 use Rattle.fetch_life.specs.declared.stages.Stage.TheVariants as stages
-use Rattle.fetch_life.specs.Table.{Turn, listed, hands_in, shelf_step, follows, is_own_supplier, is_superseded, is_gone, is_origin, where_so, is_unanswered, is_changed}
-use Rattle.fetch_life.specs.Laws.{one, is_kept_object, is_shelve, keeps, keeps_or_confirms}
+use Rattle.fetch_life.specs.Table.{Turn, listed, hands_in, shelf_step, follows, is_own_supplier, is_superseded, is_gone, is_origin, where_so, is_unanswered, is_changed, brought, is_replaced, is_for_all, is_too_large}
+use Rattle.fetch_life.specs.Laws.{one, is_kept_object, is_shelve, is_unshelve, keeps, keeps_or_confirms}
+use Rattle.fetch_life.proofs.Measures.{is_telling}
 use Rattle.fetch_life.proofs.Walk.{split, both}
 use Rattle.fetch_life.proofs.Induction.{count_append}
 
@@ -47,6 +49,17 @@ shelves_of_origin f end b =
 pub shelves_other : (is : Command → Bool) (f : Flight) (end : End) (b : Brought) → is does.Shelve ≡ false → is does.Unshelve ≡ false → on_shelf is f end b ≡ 0
 shelves_other is f end b no_put no_gone =
     shelf_case (λ o. count_by is (listed o []) ≡ 0) f end b refl (λ _ _. ap (λ v. 0 + cond {A = ℕ} v 1 0) no_put) (ap (λ v. 0 + cond {A = ℕ} v 1 0) no_gone)
+
+-- it takes off what is there only where an answer, or one that is too long, tells of something else
+pub takes_off : (f : Flight) (o : Bool) (end : End) → on_shelf is_unshelve f end (brought f o end) ≤ one (is_telling end)
+unfolding brought
+takes_off f o (ends.Whole p) =
+    shelf_case (λ c. count_by is_unshelve (listed c []) ≤ 1) f (ends.Whole p) (brought f o (ends.Whole p)) (omega arith) (λ _ _. omega arith) (omega arith)
+takes_off f o ends.Refused = omega arith
+takes_off f o (ends.Failed x) =
+    split (λ b. on_shelf is_unshelve f (ends.Failed x) b ≤ one (is_too_large x.fault)) (is_replaced f o (ends.Failed x)) _ _ (λ _. omega arith)
+    (λ _. split (λ c. count_by is_unshelve (listed c []) ≤ one (is_too_large x.fault)) (is_gone f (ends.Failed x)) _ _
+    (λ e. at_least (is_too_large x.fault) (both (is_for_all f) (is_too_large x.fault) e).1) (λ _. omega arith))
 
 count_listed : (is : Command → Bool) (o : Option Command) (rest : List Command) → count_by is (listed o rest) ≡ count_by is (listed o []) + count_by is rest
 count_listed is None rest = omega arith

@@ -87,7 +87,7 @@ not_origin Origin = refl
 not_origin Parent = refl
 not_origin Sibling = refl
 
-same_origin : (s : Source) → is_from_origin s ≡ is_origin s
+pub same_origin : (s : Source) → is_from_origin s ≡ is_origin s
 same_origin Origin = refl
 same_origin Parent = refl
 same_origin Sibling = refl
@@ -463,7 +463,7 @@ or_turned false true = refl
 or_turned false false = refl
 
 -- what the table waits for is what the law counts
-same_awaited : (event : Event) (f : Flight) (stage : Stage) → is_awaited (at f stage) event ≡ awaits f stage event
+pub same_awaited : (event : Event) (f : Flight) (stage : Stage) → is_awaited (at f stage) event ≡ awaits f stage event
 same_awaited (events.Ordered o) f stages.Ordering = refl
 same_awaited (events.Ordered o) f stages.Renewing = refl
 same_awaited (events.Ordered o) f stage = refl
