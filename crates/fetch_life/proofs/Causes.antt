@@ -19,11 +19,11 @@ use Rattle.fetch_life.specs.declared.stages.Stage.TheVariants as stages
 use Rattle.fetch_life.specs.Table.{Turn, brought, hands_in, is_cut, is_connect, is_sibling, is_too_large}
 use Rattle.fetch_life.specs.Rows.{Row, awaits}
 use Rattle.fetch_life.specs.Rows as rows
-use Rattle.fetch_life.specs.Laws.{one, same, counts_as, is_success, is_refusal, is_failure, is_want, is_count, is_answer, is_fault, is_denial, is_desertion, is_cut_off, is_cut_short, is_unreached, is_unconnected, is_either, is_exchanging, is_connecting, is_in_flight, is_under_way, is_unordered, is_unshelve, is_not_telling, is_too_long, is_asked_for_stored, sends_unlike, tries, goes_to, hands, comes_from, is_misnamed, is_question, is_asked, is_told, is_awaited}
-use Rattle.fetch_life.proofs.Measures.{harm_telling, is_telling}
+use Rattle.fetch_life.specs.Laws.{is_ask_no_more, is_note_changed, is_not_asking, is_not_private, one, same, counts_as, is_success, is_refusal, is_failure, is_want, is_count, is_answer, is_fault, is_denial, is_desertion, is_cut_off, is_cut_short, is_unreached, is_unconnected, is_either, is_exchanging, is_connecting, is_in_flight, is_under_way, is_unordered, is_unshelve, is_not_telling, is_too_long, is_asked_for_stored, sends_unlike, tries, goes_to, hands, comes_from, is_misnamed, is_question, is_asked, is_told, is_awaited}
+use Rattle.fetch_life.proofs.Measures.{harm_telling, is_telling, harm_asking, harm_private}
 use Rattle.fetch_life.proofs.Bringing.{brought_is_named}
-use Rattle.fetch_life.proofs.Steps.{at, same_awaited}
-use Rattle.fetch_life.proofs.Handing.{hands_count, hands_over, shelves_other, takes_off}
+use Rattle.fetch_life.proofs.Steps.{at, same_awaited, Harmless, over_harm, may_ask_so}
+use Rattle.fetch_life.proofs.Handing.{hands_asked, hands_noted, unanswered_asks, changed_is_private, hands_count, hands_over, shelves_other, takes_off}
 
 -- what a result that is handed in does not have done
 hands_none : (is : Command → Bool) (f : Flight) (end : End) (b : Brought) → is does.Shelve ≡ false → is does.Unshelve ≡ false → is does.AskNoMore ≡ false → is does.NoteChanged ≡ false → is (does.HandIn b) ≡ false → count_by is (hands_in f end b).commands ≡ 0
@@ -229,3 +229,32 @@ asks_balance f stage event t (rows.Hands_in g o l) =
     let c : one (is_asked (hands_in g l.end b).fetch.stage) ≡ 0 = ap (λ (x : Fetch). one (is_asked x.stage)) (hands_over g l.end b) in
     omega arith
 asks_balance f stage event t row = refl
+
+-- what is given up to be asked about, and noted as changed
+pub asks_on : Harmless is_ask_no_more harm_asking is_not_asking
+asks_on f stage event t (rows.Idle g s e idle) = omega arith
+asks_on f stage event t (rows.Begins g o wanted possible) = let a = may_ask_so o in omega arith
+asks_on f stage event t (rows.Renewed g o wanted possible) = let a = may_ask_so o in omega arith
+asks_on f stage event t (rows.Impossible g o wanted impossible) = let a = may_ask_so o in omega arith
+asks_on f stage event t (rows.Renewed_private g o impossible owned) = let a = may_ask_so o in omega arith
+asks_on f stage event t (rows.Renewed_impossible g o impossible shared) = let a = may_ask_so o in omega arith
+asks_on f stage event t (rows.Unbegun g o shared unwanted fresh) = let a = may_ask_so o in omega arith
+asks_on f stage event t (rows.Renewed_unbegun g o shared unwanted) = let a = may_ask_so o in omega arith
+asks_on f stage event t (rows.Unbegun_again g o shared unwanted again) = let a = may_ask_so o in omega arith
+asks_on f stage event t (rows.Hands_in g o l) =
+    let b = brought g (o || l.is_remade) l.end in
+    let a = hands_asked g l.end b in
+    let c = unanswered_asks g l.end in
+    let d = over_harm harm_asking g l.end b in
+    omega arith
+asks_on f stage event t row = omega arith
+
+pub notes_private : Harmless is_note_changed harm_private is_not_private
+notes_private f stage event t (rows.Idle g s e idle) = omega arith
+notes_private f stage event t (rows.Hands_in g o l) =
+    let b = brought g (o || l.is_remade) l.end in
+    let a = hands_noted g l.end b in
+    let c = changed_is_private g l.end in
+    let d = over_harm harm_private g l.end b in
+    omega arith
+notes_private f stage event t row = omega arith

@@ -74,7 +74,7 @@ true_and_sum : (h a b : Bool) → (h && (a || b)) ≡ true → 1 ≤ one a + one
 true_and_sum true a b e = true_sum a b e
 true_and_sum false a b e = absurd (cc)
 
-over_harm : (harm : Fetch → ℕ) (f : Flight) (end : End) (b : Brought) → harm (hands_in f end b).fetch ≡ harm (at f stages.Over)
+pub over_harm : (harm : Fetch → ℕ) (f : Flight) (end : End) (b : Brought) → harm (hands_in f end b).fetch ≡ harm (at f stages.Over)
 over_harm harm f end b = ap harm (hands_over f end b)
 
 of_origin : (s : Source) → one (not (not (is_from_origin s))) ≡ one (is_origin s)
@@ -92,7 +92,7 @@ same_origin Origin = refl
 same_origin Parent = refl
 same_origin Sibling = refl
 
-may_ask_so : (o : Order) → one (not (not (may_ask o))) ≡ one (asks o)
+pub may_ask_so : (o : Order) → one (not (not (may_ask o))) ≡ one (asks o)
 may_ask_so o = twice (may_ask o) ∙ ap (λ b. one (b && (o.has_shelf && (o.has_shelved && (o.is_shared || o.lets_validate))))) (same_origin o.source)
 
 pub hands_once : (f : Flight) (stage : Stage) (event : Event) (t : Turn) → Row f stage event t → count_by is_hand_in t.commands + one (is_over stage) ≡ one (is_over t.fetch.stage)

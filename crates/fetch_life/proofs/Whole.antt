@@ -16,11 +16,11 @@ use Rattle.fetch_life.specs.declared.stages.Stage.TheVariants as stages
 use Rattle.fetch_life.specs.Table.{Turn, turn, stay, goes, renewed_so, flight_of, ordered_so, unbegun, leaves, left_alone}
 use Rattle.fetch_life.specs.Rows.{Row}
 use Rattle.fetch_life.specs.Runs.{unordered, turn_of, after, orders, times, IsOnlyBy}
-use Rattle.fetch_life.specs.Laws.{one, is_any, is_count, is_hand_in, is_confirmed_one, is_stale_one, is_unwanted_one, comes_from, hands, is_shelve, keeps, is_first, is_other, goes_to, is_offer, sends_clients, sends_conditions, is_not_for_all, is_not_private, is_not_of_origin, is_not_asking, confirms_nothing, is_not_down, is_not_unchanged, bars_first, bars_other, renews, is_over, is_in_flight, may_be_left, is_exchanging, is_landing, is_renewing, keeps_or_confirms, steps, counts_as, is_success, is_refusal, is_failure, is_want, is_answer, is_fault, is_denial, is_desertion, is_misnamed, is_unshelve, is_not_telling, is_either, is_unconnected, is_cut_short, is_connecting, is_under_way, is_unordered, sends_unlike, tries, is_question, is_asked, told}
+use Rattle.fetch_life.specs.Laws.{one, is_any, is_count, is_hand_in, is_confirmed_one, is_stale_one, is_unwanted_one, comes_from, hands, is_shelve, keeps, is_first, is_other, goes_to, is_offer, sends_clients, sends_conditions, is_not_for_all, is_not_private, is_not_of_origin, is_not_asking, confirms_nothing, is_not_down, is_not_unchanged, bars_first, bars_other, renews, is_over, is_in_flight, may_be_left, is_exchanging, is_landing, is_renewing, keeps_or_confirms, steps, counts_as, is_success, is_refusal, is_failure, is_want, is_answer, is_fault, is_denial, is_desertion, is_misnamed, is_unshelve, is_not_telling, is_either, is_unconnected, is_cut_short, is_connecting, is_under_way, is_unordered, sends_unlike, tries, is_question, is_asked, told, is_ask_no_more, is_note_changed}
 use Rattle.fetch_life.proofs.Measures.{commands_left, counts_left, harm_shared, harm_private, harm_origin, harm_asking, harm_confirming, harm_down, harm_first, harm_other, harm_none, steps_left, harm_odd, harm_current, harm_telling}
 use Rattle.fetch_life.proofs.Walk.{turn_row, both, split}
 use Rattle.fetch_life.proofs.Induction.{count_append, balances, runs_down, adds_up, is_used_up, is_filled_up, is_never_done}
-use Rattle.fetch_life.proofs.Causes.{success_cause, failure_cause, refusal_cause, want_cause, ends_counted, again_cause, turn_cause, sends_fitting, names_fitting, telling_stays, flight_stays, asks_balance}
+use Rattle.fetch_life.proofs.Causes.{success_cause, failure_cause, refusal_cause, want_cause, ends_counted, again_cause, turn_cause, sends_fitting, names_fitting, telling_stays, flight_stays, asks_balance, asks_on, notes_private}
 use Rattle.fetch_life.proofs.Steps.{steps_run_down, odd_stays, current_stays, current_stale, change_keeps, change_stales, odd_lands, any_event, hands_once, does_less, counts_less, conditions_asking, conditions_of_origin, confirms_about, confirms_asking, fields_private, given_up_shared, goes_first, goes_other, keeps_current, keeps_shared, offers_shared, shelves_origin, stale_current, stale_down, stale_origin, stale_shared}
 
 row_of : (fetch : Fetch) (event : Event) → Row fetch.flight fetch.stage event (turn_of fetch event)
@@ -297,3 +297,11 @@ pub asks_and_waits : (events : List Event) → times is_question events ≡ told
 asks_and_waits events =
     let a = balances is_question (λ fetch. one (is_asked fetch.stage)) (λ fetch event. asks_balance fetch.flight fetch.stage event _ (row_of fetch event)) unordered events in
     omega arith
+
+pub unasked_is_asked_on : (events : List Event) → AllByRecursion (λ event. is_not_asking event ≡ true) events → times is_ask_no_more events ≡ 0
+unasked_is_asked_on events all =
+    is_never_done is_ask_no_more harm_asking is_not_asking (λ fetch event. asks_on fetch.flight fetch.stage event _ (row_of fetch event)) unordered events refl all
+
+pub shared_is_unnoted : (events : List Event) → AllByRecursion (λ event. is_not_private event ≡ true) events → times is_note_changed events ≡ 0
+shared_is_unnoted events all =
+    is_never_done is_note_changed harm_private is_not_private (λ fetch event. notes_private fetch.flight fetch.stage event _ (row_of fetch event)) unordered events refl all

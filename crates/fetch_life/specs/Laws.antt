@@ -167,6 +167,14 @@ abbrev pub is_unshelve : Command → Bool
 is_unshelve does.Unshelve = true
 is_unshelve command = false
 
+abbrev pub is_ask_no_more : Command → Bool
+is_ask_no_more does.AskNoMore = true
+is_ask_no_more command = false
+
+abbrev pub is_note_changed : Command → Bool
+is_note_changed does.NoteChanged = true
+is_note_changed command = false
+
 abbrev pub is_first : Which → Bool
 is_first First = true
 is_first Other = false

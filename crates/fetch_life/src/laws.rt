@@ -19,7 +19,7 @@ ghost use Rattle.fetch_life.specs.declared.stages.Stage.TheVariants as stages;
 ghost use Rattle.fetch_life.specs.Rows.{Row};
 ghost use Rattle.fetch_life.specs.Runs.{after, fetch_at, orders, times, turn_of, unordered, IsOnlyBy};
 ghost use Rattle.fetch_life.specs.Table.{turn};
-ghost use Rattle.fetch_life.specs.Laws.{is_question, is_asked, told, made, FitsMade, counts_as, is_success, is_refusal, is_failure, is_want, is_answer, is_fault, is_denial, is_desertion, is_object_one, is_kept_object, is_misnamed, is_from_origin, is_outage, is_unshelve, is_not_telling, is_either, is_beside, is_unreached, is_unconnected, is_cut_short, is_connecting, is_in_flight, is_under_way, is_unordered, has_way, sends_unlike, tries, one, steps, is_landing, is_exchanging, is_renewing, keeps_or_confirms, is_any, is_count, is_hand_in, is_unwanted_one, renews, may_be_left, is_confirmed_one, is_stale_one, comes_from, hands, is_shelve, keeps, is_first, is_other, goes_to, is_offer, sends_clients, sends_conditions, is_not_for_all, is_not_private, is_not_of_origin, is_not_asking, confirms_nothing, is_not_down, is_not_unchanged, bars_first, bars_other, is_over};
+ghost use Rattle.fetch_life.specs.Laws.{is_ask_no_more, is_note_changed, is_question, is_asked, told, made, FitsMade, counts_as, is_success, is_refusal, is_failure, is_want, is_answer, is_fault, is_denial, is_desertion, is_object_one, is_kept_object, is_misnamed, is_from_origin, is_outage, is_unshelve, is_not_telling, is_either, is_beside, is_unreached, is_unconnected, is_cut_short, is_connecting, is_in_flight, is_under_way, is_unordered, has_way, sends_unlike, tries, one, steps, is_landing, is_exchanging, is_renewing, keeps_or_confirms, is_any, is_count, is_hand_in, is_unwanted_one, renews, may_be_left, is_confirmed_one, is_stale_one, comes_from, hands, is_shelve, keeps, is_first, is_other, goes_to, is_offer, sends_clients, sends_conditions, is_not_for_all, is_not_private, is_not_of_origin, is_not_asking, confirms_nothing, is_not_down, is_not_unchanged, bars_first, bars_other, is_over};
 
 /// Each turn of the table is one of its rows.
 pub fn each_turn_is_a_row()
@@ -96,12 +96,15 @@ pub fn what_is_kept()
 
 /// A 304 counts only where the conditions of what is there were sent, and only if it is about that (RFC 9111, section 4.3.4): one about
 /// something else is neither kept nor handed in as confirmed. They are sent only where the order lets an origin be asked, and never to a
-/// neighbour, whose 304 would confirm what it has made of that.
+/// neighbour, whose 304 would confirm what it has made of that. Nothing is given up to be asked about that was not asked about, and only for
+/// one client alone is it noted that something has changed.
 pub fn confirmation()
     ensures asked { (events : List Event) → AllByRecursion (λ event. is_not_asking event ≡ true) events → times (hands (comes_from is_confirmed_one)) events ≡ 0 }
     ensures about { (events : List Event) → AllByRecursion (λ event. confirms_nothing event ≡ true) events → times (hands (comes_from is_confirmed_one)) events ≡ 0 }
     ensures others { (before later : List Event) (p : WholePage) → is_exchanging (after unordered before).stage ≡ true → p.status ≡ 304 → p.is_about ≡ false → count_by keeps_or_confirms (orders (after unordered before) (events.Whole p ∷ later)) ≡ 0 }
     ensures conditions { (events : List Event) → AllByRecursion (λ event. is_not_asking event ≡ true) events → times sends_conditions events ≡ 0 }
+    ensures asked_no_more { (events : List Event) → AllByRecursion (λ event. is_not_asking event ≡ true) events → times is_ask_no_more events ≡ 0 }
+    ensures noted { (events : List Event) → AllByRecursion (λ event. is_not_private event ≡ true) events → times is_note_changed events ≡ 0 }
     ensures neighbours { (events : List Event) → AllByRecursion (λ event. is_not_of_origin event ≡ true) events → times sends_conditions events ≡ 0 }
 {}
 

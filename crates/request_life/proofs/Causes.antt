@@ -20,7 +20,7 @@ use Rattle.request_life.specs.declared.stages.Stage.TheVariants as stages
 use Rattle.request_life.specs.Table.{Turn, answer_of, beside, is_shared}
 use Rattle.request_life.specs.Rows.{Row, awaits, silence}
 use Rattle.request_life.specs.Rows as rows
-use Rattle.request_life.specs.Laws.{one, asks_own, asks_shared, asks_stored, answers_so, came_back, ends_itself, goes_on, has_answered, is_asked, is_awaited, is_cancel, is_fetch_for_all, is_for_part, is_forbidden, is_large, is_long_one, is_long_target, is_open, goes_out, is_own, is_own_success, is_question, is_receiving, is_stale, is_stream, is_submit_so, is_submitted, lets_join, lets_use_stored, may_stream, refuses_so, takes_by_answer, tells_so, wants_shared, wants_stored}
+use Rattle.request_life.specs.Laws.{is_late, is_unserved, one, asks_own, asks_shared, asks_stored, answers_so, came_back, ends_itself, goes_on, has_answered, is_asked, is_awaited, is_cancel, is_fetch_for_all, is_for_part, is_forbidden, is_large, is_long_one, is_long_target, is_open, goes_out, is_own, is_own_success, is_question, is_receiving, is_stale, is_stream, is_submit_so, is_submitted, lets_join, lets_use_stored, may_stream, refuses_so, takes_by_answer, tells_so, wants_shared, wants_stored}
 use Rattle.request_life.proofs.Walk.{both}
 use Rattle.request_life.proofs.Steps.{no_answer_so, same_awaited, same_said}
 
@@ -292,3 +292,39 @@ error_cause head stage event t (rows.Passed_open h content p dangerous unclear) 
 error_cause head stage event t (rows.Passed_safe h content p safe) some = absurd (omega (arith, passes_not (is_own_success) p refl refl))
 error_cause head stage event t (rows.Passed_unchanged h content p says unclear) some = absurd (omega (arith, passes_not (is_own_success) p refl refl))
 error_cause head stage event t row some = absurd (omega arith)
+
+late_so : (how : PassedEnd) → 0 < cond {A = ℕ} (silence how == 504) 1 0 → is_late (events.Passed how) ≡ true
+late_so passages.TimedOut some = refl
+late_so passages.Failed some = absurd (omega arith)
+late_so passages.Refused some = absurd (omega arith)
+late_so (passages.Head p) some = absurd (omega arith)
+
+pub late_cause : (head : RequestHead) (stage : Stage) (event : Event) (t : Turn) → Row head stage event t → 0 < count_by (answers_so (is_own 504)) t.commands → (tells_so (λ status. status == 504) event || is_late event) ≡ true
+late_cause head stage event t (rows.Again_uncached h w outcome unmet early first cached) some = or_right _ true refl
+late_cause head stage event t (rows.Failed_own h w f known) some = or_right _ true refl
+late_cause head stage event t (rows.Found_refused h lookup round status is fresh) some =
+    or_left _ _ (ap (refuses_so (λ status. status == 504)) is ∙ by_test _ some)
+late_cause head stage event t (rows.Tunnel_refused h status) some = or_left _ _ (by_test _ some)
+late_cause head stage event t (rows.Unanswered_unsafe h content how unknown dangerous) some = late_so how (omega arith)
+late_cause head stage event t (rows.Unanswered_safe h content how unknown safe) some = late_so how (omega arith)
+late_cause head stage event t (rows.Passed_changed h content p dangerous says) some = absurd (omega (arith, passes_not (is_own 504) p refl refl))
+late_cause head stage event t (rows.Passed_open h content p dangerous unclear) some = absurd (omega (arith, passes_not (is_own 504) p refl refl))
+late_cause head stage event t (rows.Passed_safe h content p safe) some = absurd (omega (arith, passes_not (is_own 504) p refl refl))
+late_cause head stage event t (rows.Passed_unchanged h content p says unclear) some = absurd (omega (arith, passes_not (is_own 504) p refl refl))
+late_cause head stage event t row some = absurd (omega arith)
+
+pub unserved_cause : (head : RequestHead) (stage : Stage) (event : Event) (t : Turn) → Row head stage event t → 0 < count_by (answers_so (is_own 501)) t.commands → (tells_so (λ status. status == 501) event || is_unserved event) ≡ true
+unserved_cause head stage event t (rows.Foreign_coding old new node tunnel foreign) some = refl
+unserved_cause head stage event t (rows.Unknown_method old new node tunnel unknown) some = refl
+unserved_cause head stage event t (rows.Routed_last h p last) some = last
+unserved_cause head stage event t (rows.Found_refused h lookup round status is fresh) some =
+    or_left _ _ (ap (refuses_so (λ status. status == 501)) is ∙ by_test _ some)
+unserved_cause head stage event t (rows.Failed_own h w f known) some = or_left _ _ (by_test _ some)
+unserved_cause head stage event t (rows.Tunnel_refused h status) some = or_left _ _ (by_test _ some)
+unserved_cause head stage event t (rows.Unanswered_unsafe h content how unknown dangerous) some = absurd (omega (arith, silent_not (is_own 501) refl refl how))
+unserved_cause head stage event t (rows.Unanswered_safe h content how unknown safe) some = absurd (omega (arith, silent_not (is_own 501) refl refl how))
+unserved_cause head stage event t (rows.Passed_changed h content p dangerous says) some = absurd (omega (arith, passes_not (is_own 501) p refl refl))
+unserved_cause head stage event t (rows.Passed_open h content p dangerous unclear) some = absurd (omega (arith, passes_not (is_own 501) p refl refl))
+unserved_cause head stage event t (rows.Passed_safe h content p safe) some = absurd (omega (arith, passes_not (is_own 501) p refl refl))
+unserved_cause head stage event t (rows.Passed_unchanged h content p says unclear) some = absurd (omega (arith, passes_not (is_own 501) p refl refl))
+unserved_cause head stage event t row some = absurd (omega arith)

@@ -1,6 +1,7 @@
 -- What is done where it may be: by the table itself.
 use Rattle.std.proofs.Common.{◌≡◌, ◌==◌, ℕ, ◌+◌, List, [], ◌∷◌, Option, Some, None, if◌then◌else◌, Bool, true, false, not, ◌&&◌, ◌||◌, cond, arith, count_by, refl, sym, ◌∙◌, ap}
 use Rattle.node_terms.specs.declared.mode.Mode.{Mode}
+use Rattle.node_terms.specs.declared.mode.Mode.TheVariants.{Shared, Cached, Private}
 use Rattle.request_life.specs.declared.facts.Choice.{Choice}
 use Rattle.request_life.specs.declared.facts.Choice.TheVariants.{Ask}
 use Rattle.request_life.specs.declared.facts.Lookup.{Lookup}
@@ -13,6 +14,7 @@ use Rattle.request_life.specs.declared.commands.Answer.TheVariants as answers
 use Rattle.request_life.specs.declared.commands.Command.{Command}
 use Rattle.request_life.specs.declared.commands.Command.TheVariants as does
 use Rattle.request_life.specs.declared.commands.Shape.{Shape}
+use Rattle.request_life.specs.declared.events.Acceptance.{Acceptance}
 use Rattle.request_life.specs.declared.events.Event.TheVariants as events
 use Rattle.request_life.specs.declared.events.Failure.{Failure}
 use Rattle.request_life.specs.declared.events.Fetched.{Fetched}
@@ -26,10 +28,11 @@ use Rattle.request_life.specs.declared.stages.Round.{Round}
 use Rattle.request_life.specs.declared.stages.Share.{Share}
 use Rattle.request_life.specs.declared.stages.Share.TheVariants as shares
 use Rattle.request_life.specs.declared.stages.Stage.TheVariants as stages
+use Rattle.request_life.specs.declared.stages.Submission.{Submission}
 use Rattle.request_life.specs.declared.stages.Wait.{Wait}
 use Rattle.fair_use.specs.Unanswered.{is_carried_out}
-use Rattle.request_life.specs.Table.{Turn, turn, aimed_by, answer_of, asks, bar_of, begins, beside, chosen, fault_of, first_of, found_under, goes_beside, has_begun, is_cached, is_first, is_for_another, is_for_node, is_private, is_unclear, passage_fault, routed_by, shape_for, tunnel_fault, unless_barred}
-use Rattle.request_life.specs.Laws.{answers_so, gives_one, is_begin, is_passed_one, is_submit, is_submit_alone, is_url, may_be_answered, may_be_asked, may_be_passed, may_be_tunnelled, may_have, says_done, shape_due, takes_by_answer, wants_stored}
+use Rattle.request_life.specs.Table.{Turn, turn, aimed_by, answer_of, asks, bar_of, begins, beside, chosen, fault_of, first_of, found_under, goes_beside, has_begun, is_cached, is_first, is_for_another, is_for_node, is_private, is_unclear, passage_fault, routed_by, shape_for, takes_stale, tunnel_fault, unless_barred}
+use Rattle.request_life.specs.Laws.{may_have_stale, answers_so, gives_one, is_begin, is_passed_one, is_submit, is_submit_alone, is_url, may_be_answered, may_be_asked, may_be_passed, may_be_tunnelled, may_have, says_done, shape_due, takes_by_answer, wants_stored}
 use Rattle.request_life.proofs.Walk.{split, both, not_true}
 use Rattle.request_life.proofs.Steps.{same_cached, same_node}
 
@@ -145,6 +148,19 @@ fetched_is_given head w f may =
 
 pub early_is_given : (head : RequestHead) (w : Wait) → w.share ≡ shares.Began → (turn head (stages.Waiting w) (events.Answered outcomes.Early)).commands ≡ does.Withdraw ∷ gives_one head answers.Early
 early_is_given head w begun = ap (λ (t : Turn). t.commands) (on_true (has_begun w.share) _ _ (ap has_begun begun))
+
+same_stale : (head : RequestHead) (mode : Mode) → may_have_stale head mode ≡ takes_stale head mode
+same_stale head Shared = refl
+same_stale head Cached = refl
+same_stale head Private = refl
+
+pub stale_is_given : (head : RequestHead) (a : Acceptance) (s : Submission) → may_have_stale head s.mode ≡ true → a.has_stale ≡ true → (turn head (stages.Submitting s) (events.Accepted a)).commands ≡ does.Withdraw ∷ gives_one head answers.Stale
+stale_is_given head a s may has =
+    ap (λ (t : Turn). t.commands) (on_true (takes_stale head s.mode && a.has_stale) _ _ (both_true (takes_stale head s.mode) a.has_stale (sym (same_stale head s.mode) ∙ may) has))
+
+pub declined_is_stale : (head : RequestHead) (s : Submission) → may_have_stale head s.mode ≡ true → (turn head (stages.Submitting s) (events.Declined true)).commands ≡ gives_one head answers.Stale
+declined_is_stale head s may =
+    ap (λ (t : Turn). t.commands) (on_true (takes_stale head s.mode && true) _ _ (both_true (takes_stale head s.mode) true (sym (same_stale head s.mode) ∙ may) refl))
 
 pub failure_is_given : (head : RequestHead) (w : Wait) (f : Failure) → f.is_long ≡ false → (turn head (stages.Waiting w) (events.Answered (outcomes.Failed f))).commands ≡ gives_one head (answers.Own f.status)
 failure_is_given head w f short =

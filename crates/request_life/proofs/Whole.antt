@@ -18,11 +18,11 @@ use Rattle.fair_use.specs.declared.unanswered.Upload.TheVariants as uploads
 use Rattle.request_life.specs.Table.{Turn, turn, has_joined, has_begun, is_for_node, opens_tunnel}
 use Rattle.request_life.specs.Rows.{Row}
 use Rattle.request_life.specs.Runs.{unborn, life_at, turn_of, after, orders, times, moves_where, IsOnlyBy}
-use Rattle.request_life.specs.Laws.{asked_in, told_in, opened_in, ended_in, is_asked, is_open, is_cancel, is_receiving, is_submitted, is_submit_so, wants_shared, wants_stored, is_fetch_for_all, is_stream, may_stream, lets_join, lets_use_stored, is_for_part, is_own, is_own_success, tells_so, came_back, is_forbidden, is_long_one, is_large, takes_by_answer, has_answered, one, is_submit_alone, has_unsendable, ends_connection_by, is_for_store_alone, is_to_send, answers_so, is_give, is_hit, is_fetched, is_stale, is_tunnel, is_early_one, is_submit, is_fetch, is_withdraw, is_pass_on, is_open_tunnel, is_sent, is_take_out, is_record, is_more_than_record, goes_further, is_again, ends_passage, says_nothing, says_nothing_unsent, says_nothing_in_time, has_broken, is_over, is_recorded, is_waiting, is_left, is_met_hit, has_stale, is_opened, aims_well, routes_well, bars, is_for_store, must_close, goes_on, heard, said, sent_unsafe, pending_unsafe, unchanged_unsafe, taken_in, settled_in, awaited_in}
+use Rattle.request_life.specs.Laws.{is_late, is_unserved, asked_in, told_in, opened_in, ended_in, is_asked, is_open, is_cancel, is_receiving, is_submitted, is_submit_so, wants_shared, wants_stored, is_fetch_for_all, is_stream, may_stream, lets_join, lets_use_stored, is_for_part, is_own, is_own_success, tells_so, came_back, is_forbidden, is_long_one, is_large, takes_by_answer, has_answered, one, is_submit_alone, has_unsendable, ends_connection_by, is_for_store_alone, is_to_send, answers_so, is_give, is_hit, is_fetched, is_stale, is_tunnel, is_early_one, is_submit, is_fetch, is_withdraw, is_pass_on, is_open_tunnel, is_sent, is_take_out, is_record, is_more_than_record, goes_further, is_again, ends_passage, says_nothing, says_nothing_unsent, says_nothing_in_time, has_broken, is_over, is_recorded, is_waiting, is_left, is_met_hit, has_stale, is_opened, aims_well, routes_well, bars, is_for_store, must_close, goes_on, heard, said, sent_unsafe, pending_unsafe, unchanged_unsafe, taken_in, settled_in, awaited_in}
 use Rattle.request_life.proofs.Measures.{is_done, is_answered, has_departed, has_gone_on, may_fetch, is_beginner, submits_left, all_submits_left, may_break, may_part_unsent, may_part_whole, passes_left, tunnels_left, steps_left, may_pass, sends_fields}
 use Rattle.request_life.proofs.Walk.{turn_row, split}
 use Rattle.request_life.proofs.Induction.{adds_up, is_used_up, is_filled_up, runs_down, balances, is_never_done, is_come_to}
-use Rattle.request_life.proofs.Causes.{request_stays, asks_balance, opens_balance, shared_cause, stored_cause, whole_cause, stream_cause, marked_stays, by_answer_cause, last_ends, back_cause, forbidden_cause, long_cause, large_cause, error_cause}
+use Rattle.request_life.proofs.Causes.{request_stays, asks_balance, opens_balance, shared_cause, stored_cause, whole_cause, stream_cause, marked_stays, by_answer_cause, last_ends, back_cause, forbidden_cause, long_cause, large_cause, late_cause, unserved_cause, error_cause}
 use Rattle.request_life.proofs.Steps.{give_adds, record_adds, submit_uses, all_submits_use, pass_uses, tunnel_uses, steps_run_down, wait_balances, unsafe_balances, take_out_cause, broken_stays, unsent_stays, whole_stays, is_quiet, is_silent, departs_by_leaving, hit_cause, stale_cause, tunnel_cause, open_cause, pass_cause, barred_stays, stored_stays, passed_stays, ends_only, options_stay, closes, early_cause, Agrees, others_stays, keeps_agreed}
 
 row_of : (life : Life) (event : Event) → Row life.head life.stage event (turn_of life event)
@@ -288,6 +288,12 @@ long_by head stage event some = long_cause head stage event _ (turn_row head sta
 
 pub large_by : IsOnlyBy (answers_so (is_own 413)) (λ event. tells_so (λ status. status == 413) event || is_large event)
 large_by head stage event some = large_cause head stage event _ (turn_row head stage event) some
+
+pub late_by : IsOnlyBy (answers_so (is_own 504)) (λ event. tells_so (λ status. status == 504) event || is_late event)
+late_by head stage event some = late_cause head stage event _ (turn_row head stage event) some
+
+pub unserved_by : IsOnlyBy (answers_so (is_own 501)) (λ event. tells_so (λ status. status == 501) event || is_unserved event)
+unserved_by head stage event some = unserved_cause head stage event _ (turn_row head stage event) some
 
 pub error_by : IsOnlyBy (answers_so is_own_success) (tells_so (λ status. nat_lt status 400))
 error_by head stage event some = error_cause head stage event _ (turn_row head stage event) some

@@ -372,10 +372,26 @@ is_large (events.Received head) = head.is_too_long
 is_large (events.Collected ends.TooLong) = true
 is_large event = false
 
+-- no answer has come in time, or what the node answers is none for a request that wants nothing fetched
+abbrev pub is_late : Event → Bool
+is_late (events.Passed passages.TimedOut) = true
+is_late (events.Answered outcome) = true
+is_late event = false
+
+-- what it asks for is not done here
+abbrev pub is_unserved : Event → Bool
+is_unserved (events.Received head) = true
+is_unserved (events.Routed p) = p.is_last_recipient
+is_unserved event = false
+
 -- its server says that it has carried the request out
 abbrev pub has_answered : Event → Bool
 has_answered (events.Passed (passages.Head p)) = says_done p.status
 has_answered event = false
+
+-- who shares a fetch, and counts on no answer that has come by its origin, may have what is stale
+abbrev pub may_have_stale : RequestHead → Mode → Bool
+may_have_stale head mode = wants_shared mode && not head.has_loop_marks
 
 -- who began a fetch, or had one of its own, has what came of it; who joined one only what may be stored or was there before
 abbrev pub may_have : Share → Fetched → Bool

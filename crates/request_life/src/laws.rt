@@ -12,6 +12,7 @@ ghost use Rattle.request_life.specs.declared.commands.Command.TheVariants as doe
 ghost use Rattle.request_life.specs.declared.events.Event.{Event};
 ghost use Rattle.request_life.specs.declared.events.Event.TheVariants as events;
 ghost use Rattle.request_life.specs.declared.events.Fetched.{Fetched as FetchedObject};
+ghost use Rattle.request_life.specs.declared.events.Acceptance.{Acceptance as TakenRequest};
 ghost use Rattle.request_life.specs.declared.events.Failure.{Failure as NodeFailure};
 ghost use Rattle.request_life.specs.declared.events.Hit.{Hit as StoredHit};
 ghost use Rattle.request_life.specs.declared.events.Outcome.TheVariants as outcomes;
@@ -20,6 +21,7 @@ ghost use Rattle.request_life.specs.declared.events.PassedHead.{PassedHead as An
 ghost use Rattle.request_life.specs.declared.events.TunnelEnd.TheVariants as tunnels;
 ghost use Rattle.request_life.specs.declared.stages.Round.{Round as Turn};
 ghost use Rattle.request_life.specs.declared.stages.Share.TheVariants as shares;
+ghost use Rattle.request_life.specs.declared.stages.Submission.{Submission as SubmittedRequest};
 ghost use Rattle.request_life.specs.declared.stages.Wait.{Wait as Waiter};
 ghost use Rattle.request_life.specs.declared.stages.Content.{Content};
 ghost use Rattle.request_life.specs.declared.stages.Content.TheVariants as contents;
@@ -28,7 +30,7 @@ ghost use Rattle.request_life.specs.declared.stages.Stage.TheVariants as stages;
 ghost use Rattle.request_life.specs.Table.{turn};
 ghost use Rattle.request_life.specs.Rows.{Row};
 ghost use Rattle.request_life.specs.Runs.{unborn, life_at, turn_of, after, orders, times, moves_where, IsOnlyBy};
-ghost use Rattle.request_life.specs.Laws.{is_passed_one, is_own, is_own_success, gives_one, wants_shared, wants_stored, is_submit_so, is_fetch_for_all, is_stream, is_cancel, is_begin, takes_by_answer, lets_join, lets_use_stored, is_for_part, may_stream, tells_so, came_back, is_forbidden, is_long_one, is_large, has_answered, says_done, may_have, shape_due, may_be_asked, may_be_answered, may_be_passed, may_be_tunnelled, is_receiving, is_submitted, is_asked, asked_in, told_in, is_open, opened_in, ended_in, one, is_submit_alone, has_unsendable, ends_connection_by, is_for_store_alone, is_to_send, answers_so, is_give, is_hit, is_fetched, is_stale, is_tunnel, is_early_one, is_submit, is_fetch, is_withdraw, is_pass_on, is_open_tunnel, is_sent, is_take_out, is_record, is_more_than_record, goes_further, is_again, ends_passage, says_nothing, says_nothing_unsent, says_nothing_in_time, has_broken, is_over, is_recorded, is_waiting, is_left, is_met_hit, has_stale, is_opened, aims_well, routes_well, bars, is_for_store, must_close, goes_on, said, sent_unsafe, pending_unsafe, unchanged_unsafe, taken_in, settled_in, awaited_in};
+ghost use Rattle.request_life.specs.Laws.{is_late, is_unserved, may_have_stale, is_passed_one, is_own, is_own_success, gives_one, wants_shared, wants_stored, is_submit_so, is_fetch_for_all, is_stream, is_cancel, is_begin, takes_by_answer, lets_join, lets_use_stored, is_for_part, may_stream, tells_so, came_back, is_forbidden, is_long_one, is_large, has_answered, says_done, may_have, shape_due, may_be_asked, may_be_answered, may_be_passed, may_be_tunnelled, is_receiving, is_submitted, is_asked, asked_in, told_in, is_open, opened_in, ended_in, one, is_submit_alone, has_unsendable, ends_connection_by, is_for_store_alone, is_to_send, answers_so, is_give, is_hit, is_fetched, is_stale, is_tunnel, is_early_one, is_submit, is_fetch, is_withdraw, is_pass_on, is_open_tunnel, is_sent, is_take_out, is_record, is_more_than_record, goes_further, is_again, ends_passage, says_nothing, says_nothing_unsent, says_nothing_in_time, has_broken, is_over, is_recorded, is_waiting, is_left, is_met_hit, has_stale, is_opened, aims_well, routes_well, bars, is_for_store, must_close, goes_on, said, sent_unsafe, pending_unsafe, unchanged_unsafe, taken_in, settled_in, awaited_in};
 
 /// Each turn of the table is one of its rows.
 pub fn each_turn_is_a_row()
@@ -58,11 +60,13 @@ pub fn what_may_be_is_done()
 {}
 
 /// What has come is given: what is stored where the request accepts it, what was fetched where it isn't for another alone, what is being
-/// collected to who began that, a failure as it is, the answer of the server that it was passed on to, and a tunnel that is open.
+/// collected to who began that, what is stale where that may be, a failure as it is, the answer of the server that it was passed on to, and a tunnel that is open.
 pub fn what_has_come_is_given()
     ensures hit { (head : RequestHead) (w : Waiter) (hit : StoredHit) → hit.is_accepted ≡ true → (turn head (stages.Waiting w) (events.Answered (outcomes.Hit hit))).commands ≡ gives_one head (answers.Hit hit.shape) }
     ensures fetched { (head : RequestHead) (w : Waiter) (f : FetchedObject) → may_have w.share f ≡ true → (turn head (stages.Waiting w) (events.Answered (outcomes.Fetched f))).commands ≡ gives_one head (answers.Fetched (shape_due w.share f.shape)) }
     ensures early { (head : RequestHead) (w : Waiter) → w.share ≡ shares.Began → (turn head (stages.Waiting w) (events.Answered outcomes.Early)).commands ≡ does.Withdraw ∷ gives_one head answers.Early }
+    ensures stale { (head : RequestHead) (a : TakenRequest) (s : SubmittedRequest) → may_have_stale head s.mode ≡ true → a.has_stale ≡ true → (turn head (stages.Submitting s) (events.Accepted a)).commands ≡ does.Withdraw ∷ gives_one head answers.Stale }
+    ensures declined { (head : RequestHead) (s : SubmittedRequest) → may_have_stale head s.mode ≡ true → (turn head (stages.Submitting s) (events.Declined true)).commands ≡ gives_one head answers.Stale }
     ensures failed { (head : RequestHead) (w : Waiter) (f : NodeFailure) → f.is_long ≡ false → (turn head (stages.Waiting w) (events.Answered (outcomes.Failed f))).commands ≡ gives_one head (answers.Own f.status) }
     ensures passed { (head : RequestHead) (content : Content) (p : AnswerHead) → p.has_many_options ≡ false → count_by (answers_so is_passed_one) (turn head (stages.Passing content) (events.Passed (passages.Head p))).commands ≡ 1 }
     ensures tunnel { (head : RequestHead) → (turn head stages.Opening (events.Tunnelled tunnels.Opened)).commands ≡ gives_one head answers.Tunnel }
@@ -79,12 +83,15 @@ pub fn what_is_asked_for()
 {}
 
 /// A status of the proxy's own says what has happened: 508 that the request has come back, 403 that its server or port is not allowed, 414 that
-/// its target is too long, 413 that its content is; or it was told to the proxy. None is a success, unless it was told.
+/// its target is too long, 413 that its content is, 504 that no answer has come in time or none may be fetched, 501 that what it asks for is not
+/// done here; or it was told to the proxy. None is a success, unless it was told.
 pub fn statuses()
     ensures back { IsOnlyBy (answers_so (is_own 508)) (λ event. tells_so (λ status. status == 508) event || came_back event) }
     ensures forbidden { IsOnlyBy (answers_so (is_own 403)) (λ event. tells_so (λ status. status == 403) event || is_forbidden event) }
     ensures long { IsOnlyBy (answers_so (is_own 414)) (λ event. tells_so (λ status. status == 414) event || is_long_one event) }
     ensures large { IsOnlyBy (answers_so (is_own 413)) (λ event. tells_so (λ status. status == 413) event || is_large event) }
+    ensures late { IsOnlyBy (answers_so (is_own 504)) (λ event. tells_so (λ status. status == 504) event || is_late event) }
+    ensures unserved { IsOnlyBy (answers_so (is_own 501)) (λ event. tells_so (λ status. status == 501) event || is_unserved event) }
     ensures errors { IsOnlyBy (answers_so is_own_success) (tells_so (λ status. nat_lt status 400)) }
 {}
 
