@@ -16,7 +16,7 @@ use Rattle.fetch_life.specs.declared.commands.Command.{Command}
 use Rattle.fetch_life.specs.declared.commands.Command.TheVariants as does
 use Rattle.fetch_life.specs.declared.stages.Flight.{Flight}
 use Rattle.fetch_life.specs.Table.{Turn, listed, brought, brings, is_replaced, is_for_all, is_origin, is_error, is_loss, stands_for, itself, object_of, object, is_kept, supplier_of, shelf_step, follows, is_own_supplier, is_superseded, is_gone, where_so, is_unanswered, is_changed, hands_in}
-use Rattle.fetch_life.specs.Laws.{one, is_kept_object, comes_from, is_confirmed_one, is_stale_one, is_unwanted_one, is_server_error, is_outage}
+use Rattle.fetch_life.specs.Laws.{one, is_kept_object, comes_from, is_confirmed_one, is_stale_one, is_unwanted_one, is_server_error, is_outage, is_misnamed}
 use Rattle.fetch_life.proofs.Measures.{is_confirming, is_down, is_odd}
 use Rattle.fetch_life.specs.declared.facts.Fault.{Fault}
 use Rattle.fetch_life.specs.declared.facts.Fault.TheVariants as faults
@@ -61,7 +61,7 @@ brings_case P f o (ends.Whole p) c = stands_case P f o p c
 brings_case P f o ends.Refused c = c.refused
 brings_case P f o (ends.Failed x) c = c.nothing
 
-same_outage : (fault : Fault) → is_outage fault ≡ is_loss fault
+pub same_outage : (fault : Fault) → is_outage fault ≡ is_loss fault
 same_outage faults.Lookup = refl
 same_outage faults.Connect = refl
 same_outage faults.Request = refl
@@ -208,3 +208,20 @@ odd_is_unconfirmed f o end =
       confirmed = λ p _ _ c. at_least (not (is_odd end)) (ap not c);
       by_itself = λ p _. let e = no_confirmed f.source in omega arith;
     })
+
+-- whom it is said to come from
+well_named : (s : Source) → one (is_misnamed s (supplier_of s)) ≡ 0
+well_named Origin = refl
+well_named Parent = refl
+well_named Sibling = refl
+
+own_named : (s : Source) → (one (is_misnamed s suppliers.Nobody) ≡ 0) × (one (is_misnamed s suppliers.Stale) ≡ 0) × (one (is_misnamed s suppliers.Confirmed) ≡ 0)
+own_named Origin = (refl, refl, refl)
+own_named Parent = (refl, refl, refl)
+own_named Sibling = (refl, refl, refl)
+
+pub brought_is_named : (f : Flight) (o : Bool) (end : End) → one (comes_from (is_misnamed f.source) (brought f o end)) ≡ 0
+brought_is_named f o end =
+    let n = own_named f.source in
+    brought_case (λ b. one (comes_from (is_misnamed f.source) b) ≡ 0) f o end
+    (record { nothing = refl; refused = n.0; stale = λ _ _ _. n.1; confirmed = λ p _ _ _. n.2; by_itself = λ p _. well_named f.source })

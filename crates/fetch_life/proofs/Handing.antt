@@ -1,6 +1,7 @@
 -- What is done when a result is handed in.
 use Rattle.std.proofs.Common.{◌≡◌, ◌==◌, ℕ, ◌+◌, ◌*◌, ◌≤◌, List, [], ◌∷◌, ◌++◌, Option, Some, None, Bool, true, false, not, ◌&&◌, ◌||◌, cond, count_by, refl, sym, ◌∙◌, ap, arith}
 use Rattle.fetch_life.specs.declared.facts.End.{End}
+use Rattle.fetch_life.specs.declared.facts.End.TheVariants as ends
 use Rattle.fetch_life.specs.declared.commands.BroughtObject.{BroughtObject}
 use Rattle.fetch_life.specs.declared.commands.Brought.{Brought}
 use Rattle.fetch_life.specs.declared.commands.Brought.TheVariants.{Object, Nothing, Unwanted}
@@ -9,8 +10,9 @@ use Rattle.fetch_life.specs.declared.commands.Command.TheVariants as does
 use Rattle.fetch_life.specs.declared.stages.Fetch.{Fetch}
 use Rattle.fetch_life.specs.declared.stages.Flight.{Flight}
 use Rattle.fetch_life.specs.declared.stages.Stage.TheVariants as stages
-use Rattle.fetch_life.specs.Table.{Turn, listed, hands_in, shelf_step, follows, is_own_supplier, is_superseded, is_gone, is_origin, where_so, is_unanswered, is_changed}
-use Rattle.fetch_life.specs.Laws.{one, is_kept_object, is_shelve, keeps, keeps_or_confirms}
+use Rattle.fetch_life.specs.Table.{Turn, listed, hands_in, shelf_step, follows, is_own_supplier, is_superseded, is_gone, is_origin, where_so, is_unanswered, is_changed, brought, is_replaced, is_for_all, is_too_large}
+use Rattle.fetch_life.specs.Laws.{one, is_ask_no_more, is_note_changed, is_kept_object, is_shelve, is_unshelve, keeps, keeps_or_confirms}
+use Rattle.fetch_life.proofs.Measures.{is_telling}
 use Rattle.fetch_life.proofs.Walk.{split, both}
 use Rattle.fetch_life.proofs.Induction.{count_append}
 
@@ -47,6 +49,17 @@ shelves_of_origin f end b =
 pub shelves_other : (is : Command → Bool) (f : Flight) (end : End) (b : Brought) → is does.Shelve ≡ false → is does.Unshelve ≡ false → on_shelf is f end b ≡ 0
 shelves_other is f end b no_put no_gone =
     shelf_case (λ o. count_by is (listed o []) ≡ 0) f end b refl (λ _ _. ap (λ v. 0 + cond {A = ℕ} v 1 0) no_put) (ap (λ v. 0 + cond {A = ℕ} v 1 0) no_gone)
+
+-- it takes off what is there only where an answer, or one that is too long, tells of something else
+pub takes_off : (f : Flight) (o : Bool) (end : End) → on_shelf is_unshelve f end (brought f o end) ≤ one (is_telling end)
+unfolding brought
+takes_off f o (ends.Whole p) =
+    shelf_case (λ c. count_by is_unshelve (listed c []) ≤ 1) f (ends.Whole p) (brought f o (ends.Whole p)) (omega arith) (λ _ _. omega arith) (omega arith)
+takes_off f o ends.Refused = omega arith
+takes_off f o (ends.Failed x) =
+    split (λ b. on_shelf is_unshelve f (ends.Failed x) b ≤ one (is_too_large x.fault)) (is_replaced f o (ends.Failed x)) _ _ (λ _. omega arith)
+    (λ _. split (λ c. count_by is_unshelve (listed c []) ≤ one (is_too_large x.fault)) (is_gone f (ends.Failed x)) _ _
+    (λ e. at_least (is_too_large x.fault) (both (is_for_all f) (is_too_large x.fault) e).1) (λ _. omega arith))
 
 count_listed : (is : Command → Bool) (o : Option Command) (rest : List Command) → count_by is (listed o rest) ≡ count_by is (listed o []) + count_by is rest
 count_listed is None rest = omega arith
@@ -92,3 +105,56 @@ hands_four f end b =
     let c = at_most (where_so (is_unanswered f end) does.AskNoMore) third in
     let d = at_most (where_so (is_changed f end) does.NoteChanged) last in
     omega arith
+
+where_once : (is : Command → Bool) (b : Bool) (c : Command) → is c ≡ true → count_by is (listed (where_so b c) []) ≡ one b
+where_once is true c e = ap (λ v. 0 + cond {A = ℕ} v 1 0) e
+where_once is false c e = refl
+
+pub hands_asked : (f : Flight) (end : End) (b : Brought) → count_by is_ask_no_more (hands_in f end b).commands ≡ one (is_unanswered f end)
+unfolding hands_in
+hands_asked f end b =
+    let last : List Command = does.HandIn b ∷ [] in
+    let third : List Command = listed (where_so (is_changed f end) does.NoteChanged) last in
+    let second : List Command = listed (where_so (is_unanswered f end) does.AskNoMore) third in
+    let a = count_listed is_ask_no_more (shelf_step f end b) second in
+    let c = count_listed is_ask_no_more (where_so (is_unanswered f end) does.AskNoMore) third in
+    let d = count_listed is_ask_no_more (where_so (is_changed f end) does.NoteChanged) last in
+    let e = where_once is_ask_no_more (is_unanswered f end) does.AskNoMore refl in
+    let g = count_where is_ask_no_more (is_changed f end) does.NoteChanged refl in
+    let h = shelves_other is_ask_no_more f end b refl refl in
+    omega arith
+
+pub hands_noted : (f : Flight) (end : End) (b : Brought) → count_by is_note_changed (hands_in f end b).commands ≡ one (is_changed f end)
+unfolding hands_in
+hands_noted f end b =
+    let last : List Command = does.HandIn b ∷ [] in
+    let third : List Command = listed (where_so (is_changed f end) does.NoteChanged) last in
+    let second : List Command = listed (where_so (is_unanswered f end) does.AskNoMore) third in
+    let a = count_listed is_note_changed (shelf_step f end b) second in
+    let c = count_listed is_note_changed (where_so (is_unanswered f end) does.AskNoMore) third in
+    let d = count_listed is_note_changed (where_so (is_changed f end) does.NoteChanged) last in
+    let e = count_where is_note_changed (is_unanswered f end) does.AskNoMore refl in
+    let g = where_once is_note_changed (is_changed f end) does.NoteChanged refl in
+    let h = shelves_other is_note_changed f end b refl refl in
+    omega arith
+
+less_first : (a b : Bool) → one (a && b) ≤ one a
+less_first true true = omega arith
+less_first true false = omega arith
+less_first false b = omega arith
+
+less_second : (a s b : Bool) → one ((a && not s) && b) ≤ one (not s)
+less_second true false true = omega arith
+less_second true false false = omega arith
+less_second true true b = omega arith
+less_second false s b = omega arith
+
+pub unanswered_asks : (f : Flight) (end : End) → one (is_unanswered f end) ≤ one f.is_asking
+unanswered_asks f (ends.Whole p) = less_first f.is_asking _
+unanswered_asks f ends.Refused = omega arith
+unanswered_asks f (ends.Failed x) = less_first f.is_asking _
+
+pub changed_is_private : (f : Flight) (end : End) → one (is_changed f end) ≤ one (not f.is_shared)
+changed_is_private f (ends.Whole p) = less_second f.is_asking f.is_shared _
+changed_is_private f ends.Refused = omega arith
+changed_is_private f (ends.Failed x) = omega arith

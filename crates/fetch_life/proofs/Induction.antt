@@ -6,7 +6,7 @@ use Rattle.fetch_life.specs.declared.commands.Command.{Command}
 use Rattle.fetch_life.specs.declared.events.Event.{Event}
 use Rattle.fetch_life.specs.declared.stages.Fetch.{Fetch}
 use Rattle.fetch_life.specs.Runs.{turn_of, after, orders}
-use Rattle.fetch_life.specs.Laws.{one, steps, is_awaited}
+use Rattle.fetch_life.specs.Laws.{one, steps, is_awaited, told, is_told}
 
 pub count_append : {A : Type 0} (p : A → Bool) (xs ys : List A) → count_by p (xs ++ ys) ≡ count_by p xs + count_by p ys
 count_append p [] ys = omega arith
@@ -68,4 +68,13 @@ runs_down left by step life (event ∷ rest) =
     let e = runs_down left by step (turn_of life event).fetch rest in
     let a = step life event in
     let c = one_more by event rest in
+    omega arith
+
+-- what is asked is told, or is awaited
+pub balances : (is : Command → Bool) (owed : Fetch → ℕ) → ((life : Fetch) (event : Event) → count_by is (turn_of life event).commands + owed life ≡ one (is_told life event) + owed (turn_of life event).fetch) → (life : Fetch) (events : List Event) → count_by is (orders life events) + owed life ≡ told life events + owed (after life events)
+balances is owed step life [] = omega arith
+balances is owed step life (event ∷ rest) =
+    let e = balances is owed step (turn_of life event).fetch rest in
+    let a = step life event in
+    let b = count_append is (turn_of life event).commands (orders (turn_of life event).fetch rest) in
     omega arith

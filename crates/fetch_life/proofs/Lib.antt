@@ -5,3 +5,5 @@ pub mod Induction
 pub mod Handing
 pub mod Steps
 pub mod Whole
+pub mod Causes
+pub mod Served

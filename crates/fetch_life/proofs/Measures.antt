@@ -6,7 +6,7 @@ use Rattle.fetch_life.specs.declared.stages.Reach.{Reach}
 use Rattle.fetch_life.specs.declared.stages.Fetch.{Fetch}
 use Rattle.fetch_life.specs.declared.stages.Stage.{Stage}
 use Rattle.fetch_life.specs.declared.stages.Stage.TheVariants as stages
-use Rattle.fetch_life.specs.Table.{is_origin}
+use Rattle.fetch_life.specs.Table.{is_origin, is_too_large}
 use Rattle.fetch_life.specs.Laws.{one, is_first, is_other, is_server_error, is_outage}
 
 abbrev pub is_begun : Stage → Bool
@@ -125,3 +125,16 @@ current_at stage = 1
 
 abbrev pub harm_current : Fetch → ℕ
 harm_current f = current_at f.stage
+
+-- an end that tells that the origin has something else than is on the shelf
+abbrev pub is_telling : End → Bool
+is_telling (ends.Whole p) = true
+is_telling ends.Refused = false
+is_telling (ends.Failed x) = is_too_large x.fault
+
+abbrev pub telling_at : Stage → ℕ
+telling_at (stages.Landing l) = one (is_telling l.end)
+telling_at stage = 0
+
+abbrev pub harm_telling : Fetch → ℕ
+harm_telling f = telling_at f.stage

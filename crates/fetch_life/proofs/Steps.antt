@@ -74,7 +74,7 @@ true_and_sum : (h a b : Bool) → (h && (a || b)) ≡ true → 1 ≤ one a + one
 true_and_sum true a b e = true_sum a b e
 true_and_sum false a b e = absurd (cc)
 
-over_harm : (harm : Fetch → ℕ) (f : Flight) (end : End) (b : Brought) → harm (hands_in f end b).fetch ≡ harm (at f stages.Over)
+pub over_harm : (harm : Fetch → ℕ) (f : Flight) (end : End) (b : Brought) → harm (hands_in f end b).fetch ≡ harm (at f stages.Over)
 over_harm harm f end b = ap harm (hands_over f end b)
 
 of_origin : (s : Source) → one (not (not (is_from_origin s))) ≡ one (is_origin s)
@@ -87,12 +87,12 @@ not_origin Origin = refl
 not_origin Parent = refl
 not_origin Sibling = refl
 
-same_origin : (s : Source) → is_from_origin s ≡ is_origin s
+pub same_origin : (s : Source) → is_from_origin s ≡ is_origin s
 same_origin Origin = refl
 same_origin Parent = refl
 same_origin Sibling = refl
 
-may_ask_so : (o : Order) → one (not (not (may_ask o))) ≡ one (asks o)
+pub may_ask_so : (o : Order) → one (not (not (may_ask o))) ≡ one (asks o)
 may_ask_so o = twice (may_ask o) ∙ ap (λ b. one (b && (o.has_shelf && (o.has_shelved && (o.is_shared || o.lets_validate))))) (same_origin o.source)
 
 pub hands_once : (f : Flight) (stage : Stage) (event : Event) (t : Turn) → Row f stage event t → count_by is_hand_in t.commands + one (is_over stage) ≡ one (is_over t.fetch.stage)
@@ -463,7 +463,7 @@ or_turned false true = refl
 or_turned false false = refl
 
 -- what the table waits for is what the law counts
-same_awaited : (event : Event) (f : Flight) (stage : Stage) → is_awaited (at f stage) event ≡ awaits f stage event
+pub same_awaited : (event : Event) (f : Flight) (stage : Stage) → is_awaited (at f stage) event ≡ awaits f stage event
 same_awaited (events.Ordered o) f stages.Ordering = refl
 same_awaited (events.Ordered o) f stages.Renewing = refl
 same_awaited (events.Ordered o) f stage = refl

@@ -1,5 +1,5 @@
 -- What holds of each run.
-use Rattle.std.proofs.Common.{◌≡◌, ℕ, ◌+◌, ◌*◌, ◌≤◌, List, [], ◌∷◌, ◌++◌, Bool, true, false, ◌&&◌, cond, if◌then◌else◌, arith, count_by, refl, ◌∙◌, ap}
+use Rattle.std.proofs.Common.{◌≡◌, ℕ, ◌+◌, ◌*◌, ◌≤◌, ◌<◌, List, [], ◌∷◌, ◌++◌, Bool, true, false, ◌&&◌, cond, if◌then◌else◌, arith, count_by, refl, ◌∙◌, ap}
 use Rattle.std.specs.List.{AllByRecursion}
 use Rattle.fetch_life.specs.declared.facts.Order.{Order}
 use Rattle.fetch_life.specs.declared.facts.Page.{Page}
@@ -15,11 +15,12 @@ use Rattle.fetch_life.specs.declared.stages.Stage.{Stage}
 use Rattle.fetch_life.specs.declared.stages.Stage.TheVariants as stages
 use Rattle.fetch_life.specs.Table.{Turn, turn, stay, goes, renewed_so, flight_of, ordered_so, unbegun, leaves, left_alone}
 use Rattle.fetch_life.specs.Rows.{Row}
-use Rattle.fetch_life.specs.Runs.{unordered, turn_of, after, orders, times}
-use Rattle.fetch_life.specs.Laws.{one, is_any, is_count, is_hand_in, is_confirmed_one, is_stale_one, is_unwanted_one, comes_from, hands, is_shelve, keeps, is_first, is_other, goes_to, is_offer, sends_clients, sends_conditions, is_not_for_all, is_not_private, is_not_of_origin, is_not_asking, confirms_nothing, is_not_down, is_not_unchanged, bars_first, bars_other, renews, is_over, is_in_flight, may_be_left, is_exchanging, is_landing, is_renewing, keeps_or_confirms, steps}
-use Rattle.fetch_life.proofs.Measures.{commands_left, counts_left, harm_shared, harm_private, harm_origin, harm_asking, harm_confirming, harm_down, harm_first, harm_other, harm_none, steps_left, harm_odd, harm_current}
-use Rattle.fetch_life.proofs.Walk.{turn_row, both}
-use Rattle.fetch_life.proofs.Induction.{count_append, runs_down, adds_up, is_used_up, is_filled_up, is_never_done}
+use Rattle.fetch_life.specs.Runs.{unordered, turn_of, after, orders, times, IsOnlyBy}
+use Rattle.fetch_life.specs.Laws.{one, is_any, is_count, is_hand_in, is_confirmed_one, is_stale_one, is_unwanted_one, comes_from, hands, is_shelve, keeps, is_first, is_other, goes_to, is_offer, sends_clients, sends_conditions, is_not_for_all, is_not_private, is_not_of_origin, is_not_asking, confirms_nothing, is_not_down, is_not_unchanged, bars_first, bars_other, renews, is_over, is_in_flight, may_be_left, is_exchanging, is_landing, is_renewing, keeps_or_confirms, steps, counts_as, is_success, is_refusal, is_failure, is_want, is_answer, is_fault, is_denial, is_desertion, is_misnamed, is_unshelve, is_not_telling, is_either, is_unconnected, is_cut_short, is_connecting, is_under_way, is_unordered, sends_unlike, tries, is_question, is_asked, told, is_ask_no_more, is_note_changed}
+use Rattle.fetch_life.proofs.Measures.{commands_left, counts_left, harm_shared, harm_private, harm_origin, harm_asking, harm_confirming, harm_down, harm_first, harm_other, harm_none, steps_left, harm_odd, harm_current, harm_telling}
+use Rattle.fetch_life.proofs.Walk.{turn_row, both, split}
+use Rattle.fetch_life.proofs.Induction.{count_append, balances, runs_down, adds_up, is_used_up, is_filled_up, is_never_done}
+use Rattle.fetch_life.proofs.Causes.{success_cause, failure_cause, refusal_cause, want_cause, ends_counted, again_cause, turn_cause, sends_fitting, names_fitting, telling_stays, flight_stays, asks_balance, asks_on, notes_private}
 use Rattle.fetch_life.proofs.Steps.{steps_run_down, odd_stays, current_stays, current_stale, change_keeps, change_stales, odd_lands, any_event, hands_once, does_less, counts_less, conditions_asking, conditions_of_origin, confirms_about, confirms_asking, fields_private, given_up_shared, goes_first, goes_other, keeps_current, keeps_shared, offers_shared, shelves_origin, stale_current, stale_down, stale_origin, stale_shared}
 
 row_of : (fetch : Fetch) (event : Event) → Row fetch.flight fetch.stage event (turn_of fetch event)
@@ -51,7 +52,7 @@ over_stays f (events.Failed x) = refl
 over_stays f (events.Unwanted is_awaited) = refl
 over_stays f (events.Locked is_overtaken) = refl
 
-over_is_quiet : (f : Flight) (later : List Event) → orders (record { flight = f; stage = stages.Over }) later ≡ []
+pub over_is_quiet : (f : Flight) (later : List Event) → orders (record { flight = f; stage = stages.Over }) later ≡ []
 over_is_quiet f [] = refl
 over_is_quiet f (event ∷ rest) =
     ap (λ (t : Turn). t.commands ++ orders t.fetch rest) (over_stays f event) ∙ over_is_quiet f rest
@@ -60,7 +61,7 @@ over_is_quiet f (event ∷ rest) =
 abbrev from_turn : Turn → List Event → List Command
 from_turn t later = t.commands ++ orders t.fetch later
 
-on_true : {A : Type 0} (b : Bool) (x y : A) → b ≡ true → cond b x y ≡ x
+pub on_true : {A : Type 0} (b : Bool) (x y : A) → b ≡ true → cond b x y ≡ x
 on_true true x y e = refl
 on_true false x y e = absurd (cc)
 
@@ -211,7 +212,7 @@ odd_is_nothing before later p flies status about =
     omega arith
 
 -- what was begun anew
-on_false : {A : Type 0} (b : Bool) (x y : A) → b ≡ false → cond b x y ≡ y
+pub on_false : {A : Type 0} (b : Bool) (x y : A) → b ≡ false → cond b x y ≡ y
 on_false false x y e = refl
 on_false true x y e = absurd (cc)
 
@@ -238,3 +239,69 @@ renewed_vain f stage o later renewing shared there vain = absurd (cc)
 pub renewed_in_vain : (before later : List Event) (o : Order) → is_renewing (after unordered before).stage ≡ true → o.is_shared ≡ true → o.is_unwanted ≡ false → o.is_possible ≡ false → orders (after unordered before) (events.Ordered o ∷ later) ≡ does.HandIn Unwanted ∷ []
 renewed_in_vain before later o renewing shared there vain =
     let fetch = after unordered before in renewed_vain fetch.flight fetch.stage o later renewing shared there vain
+
+-- how an attempt has ended
+pub end_is_counted : (f : Flight) (stage : Stage) (event : Event) → is_in_flight stage ≡ true → count_by is_count (turn f stage event).commands + one (is_under_way (turn f stage event).fetch.stage) ≡ 1
+end_is_counted f stage event flies = ends_counted f stage event _ (turn_row f stage event) flies
+
+pub success_by : IsOnlyBy (counts_as is_success) is_answer
+success_by f stage event some = success_cause f stage event _ (turn_row f stage event) some
+
+pub refusal_by : IsOnlyBy (counts_as is_refusal) is_denial
+refusal_by f stage event some = refusal_cause f stage event _ (turn_row f stage event) some
+
+pub failure_by : IsOnlyBy (counts_as is_failure) is_fault
+failure_by f stage event some = failure_cause f stage event _ (turn_row f stage event) some
+
+pub want_by : IsOnlyBy (counts_as is_want) is_desertion
+want_by f stage event some = want_cause f stage event _ (turn_row f stage event) some
+
+-- what is tried, sent and named
+pub again_by : (f : Flight) (stage : Stage) (event : Event) → is_exchanging stage ≡ true → 0 < count_by tries (turn f stage event).commands → is_cut_short event ≡ true
+again_by f stage event flies some = again_cause f stage event _ (turn_row f stage event) flies some
+
+pub turn_by : (f : Flight) (stage : Stage) (event : Event) → is_connecting stage ≡ true → 0 < count_by (goes_to is_either) (turn f stage event).commands → is_unconnected event ≡ true
+turn_by f stage event flies some = turn_cause f stage event _ (turn_row f stage event) flies some
+
+pub request_fits : (f : Flight) (stage : Stage) (event : Event) → count_by (sends_unlike f) (turn f stage event).commands ≡ 0
+request_fits f stage event = sends_fitting f stage event _ (turn_row f stage event)
+
+pub name_fits : (f : Flight) (stage : Stage) (event : Event) → count_by (hands (comes_from (is_misnamed f.source))) (turn f stage event).commands ≡ 0
+name_fits f stage event = names_fitting f stage event _ (turn_row f stage event)
+
+pub shelf_stays : (events : List Event) → AllByRecursion (λ event. is_not_telling event ≡ true) events → times is_unshelve events ≡ 0
+shelf_stays events all =
+    is_never_done is_unshelve harm_telling is_not_telling (λ fetch event. telling_stays fetch.flight fetch.stage event _ (row_of fetch event)) unordered events refl all
+
+-- what was ordered
+pub fetch_stays : (f : Flight) (stage : Stage) (event : Event) → is_unordered stage ≡ false → (turn f stage event).fetch.flight ≡ f
+fetch_stays f stage event ordered = flight_stays f stage event _ (turn_row f stage event) ordered
+
+ordered_as : (P : Flight → Type 0) (f : Flight) (stage : Stage) (o : Order) → is_unordered stage ≡ true → P (flight_of o) → P (turn f stage (events.Ordered o)).fetch.flight
+ordered_as P f stages.Ordering o new is =
+    split (λ (t : Turn). P t.fetch.flight) (o.is_shared && o.is_unwanted) _ _ (λ _. split (λ (t : Turn). P t.fetch.flight) o.was_unwanted _ _ (λ _. is) (λ _. is))
+    (λ _. split (λ (t : Turn). P t.fetch.flight) o.is_possible _ _ (λ _. is) (λ _. is))
+ordered_as P f stages.Renewing o new is =
+    split (λ (t : Turn). P t.fetch.flight) (o.is_shared && o.is_unwanted) _ _ (λ _. is)
+    (λ _. split (λ (t : Turn). P t.fetch.flight) o.is_possible _ _ (λ _. is)
+    (λ _. split (λ (t : Turn). P t.fetch.flight) o.is_shared _ _ (λ _. is) (λ _. is)))
+ordered_as P f stage o new is = absurd (cc)
+
+pub source_is_ordered : (f : Flight) (stage : Stage) (o : Order) → is_unordered stage ≡ true → (turn f stage (events.Ordered o)).fetch.flight.source ≡ o.source
+source_is_ordered f stage o new = ordered_as (λ (x : Flight). x.source ≡ o.source) f stage o new refl
+
+pub shared_is_ordered : (f : Flight) (stage : Stage) (o : Order) → is_unordered stage ≡ true → (turn f stage (events.Ordered o)).fetch.flight.is_shared ≡ o.is_shared
+shared_is_ordered f stage o new = ordered_as (λ (x : Flight). x.is_shared ≡ o.is_shared) f stage o new refl
+
+pub asks_and_waits : (events : List Event) → times is_question events ≡ told unordered events + one (is_asked (after unordered events).stage)
+asks_and_waits events =
+    let a = balances is_question (λ fetch. one (is_asked fetch.stage)) (λ fetch event. asks_balance fetch.flight fetch.stage event _ (row_of fetch event)) unordered events in
+    omega arith
+
+pub unasked_is_asked_on : (events : List Event) → AllByRecursion (λ event. is_not_asking event ≡ true) events → times is_ask_no_more events ≡ 0
+unasked_is_asked_on events all =
+    is_never_done is_ask_no_more harm_asking is_not_asking (λ fetch event. asks_on fetch.flight fetch.stage event _ (row_of fetch event)) unordered events refl all
+
+pub shared_is_unnoted : (events : List Event) → AllByRecursion (λ event. is_not_private event ≡ true) events → times is_note_changed events ≡ 0
+shared_is_unnoted events all =
+    is_never_done is_note_changed harm_private is_not_private (λ fetch event. notes_private fetch.flight fetch.stage event _ (row_of fetch event)) unordered events refl all

@@ -1,10 +1,14 @@
 -- The words of the laws: what commands, events and stages are.
-use Rattle.std.specs.Prelude.{ℕ, ◌+◌, List, [], ◌∷◌, ◌&&◌, ◌||◌, ◌==◌, not, Bool, true, false}
+use Rattle.std.specs.Prelude.{◌≡◌, ℕ, ◌+◌, List, [], ◌∷◌, ◌&&◌, ◌||◌, ◌==◌, not, Bool, true, false, Option, Some, None}
 use Rattle.fetch_life.specs.declared.facts.Order.{Order}
+use Rattle.fetch_life.specs.declared.facts.Addresses.{Addresses}
 use Rattle.fetch_life.specs.declared.facts.Fault.{Fault}
 use Rattle.fetch_life.specs.declared.facts.Fault.TheVariants as faults
 use Rattle.fetch_life.specs.declared.facts.Source.{Source}
 use Rattle.fetch_life.specs.declared.facts.Source.TheVariants.{Origin, Parent, Sibling}
+use Rattle.fetch_life.specs.declared.commands.Count.{Count}
+use Rattle.fetch_life.specs.declared.commands.Count.TheVariants as counts
+use Rattle.fetch_life.specs.declared.commands.Request.{Request}
 use Rattle.fetch_life.specs.declared.commands.Which.{Which}
 use Rattle.fetch_life.specs.declared.commands.Which.TheVariants.{First, Other}
 use Rattle.fetch_life.specs.declared.commands.Supplier.{Supplier}
@@ -17,6 +21,7 @@ use Rattle.fetch_life.specs.declared.commands.Command.TheVariants as does
 use Rattle.fetch_life.specs.declared.events.Event.{Event}
 use Rattle.fetch_life.specs.declared.events.Event.TheVariants as events
 use Rattle.fetch_life.specs.declared.stages.Fetch.{Fetch}
+use Rattle.fetch_life.specs.declared.stages.Flight.{Flight}
 use Rattle.fetch_life.specs.declared.stages.Stage.{Stage}
 use Rattle.fetch_life.specs.declared.stages.Stage.TheVariants as stages
 use Rattle.fetch_life.specs.Runs.{turn_of}
@@ -90,6 +95,61 @@ abbrev pub is_count : Command → Bool
 is_count (does.Count how) = true
 is_count command = false
 
+-- counts an end so
+abbrev pub counts_as : (Count → Bool) → Command → Bool
+counts_as is (does.Count how) = is how
+counts_as is command = false
+
+abbrev pub is_success : Count → Bool
+is_success counts.Whole = true
+is_success how = false
+
+abbrev pub is_refusal : Count → Bool
+is_refusal counts.Refused = true
+is_refusal how = false
+
+abbrev pub is_failure : Count → Bool
+is_failure counts.Failed = true
+is_failure how = false
+
+abbrev pub is_want : Count → Bool
+is_want counts.Unwanted = true
+is_want how = false
+
+-- what was made last
+abbrev pub made_by : Option Brought → Command → Option Brought
+made_by so_far (does.Make b) = Some b
+made_by so_far command = so_far
+
+abbrev pub made : Option Brought → List Command → Option Brought
+made so_far [] = so_far
+made so_far (command ∷ rest) = made (made_by so_far command) rest
+
+-- hands in nothing but that
+abbrev pub FitsMade : Option Brought → Command → Type 0
+FitsMade last (does.HandIn b) = last ≡ Some b
+FitsMade last command = Unit {0}
+
+abbrev pub is_object_one : Brought → Bool
+is_object_one (Object o) = true
+is_object_one b = false
+
+-- a supplier that is not the source that was asked
+abbrev pub is_misnamed : Source → Supplier → Bool
+is_misnamed Origin suppliers.Neighbour = true
+is_misnamed Parent suppliers.Origin = true
+is_misnamed Sibling suppliers.Origin = true
+is_misnamed source supplier = false
+
+-- asks something whose answer is awaited then
+abbrev pub is_question : Command → Bool
+is_question does.Renew = true
+is_question does.Seek = true
+is_question (does.Connect which) = true
+is_question (does.Send request) = true
+is_question does.Lock = true
+is_question command = false
+
 abbrev pub is_any : Command → Bool
 is_any command = true
 
@@ -102,6 +162,18 @@ abbrev pub keeps : Command → Bool
 keeps (does.HandIn b) = is_kept_object b
 keeps does.Shelve = true
 keeps command = false
+
+abbrev pub is_unshelve : Command → Bool
+is_unshelve does.Unshelve = true
+is_unshelve command = false
+
+abbrev pub is_ask_no_more : Command → Bool
+is_ask_no_more does.AskNoMore = true
+is_ask_no_more command = false
+
+abbrev pub is_note_changed : Command → Bool
+is_note_changed does.NoteChanged = true
+is_note_changed command = false
 
 abbrev pub is_first : Which → Bool
 is_first First = true
@@ -121,6 +193,21 @@ goes_to is (does.Connect which) = is which
 goes_to is (does.Reuse which) = is which
 goes_to is command = false
 
+abbrev pub is_either : Which → Bool
+is_either which = true
+
+-- the other one
+abbrev pub is_beside : Which → Which → Bool
+is_beside First which = is_other which
+is_beside Other which = is_first which
+
+-- connects to a server, or sends it the request
+abbrev pub tries : Command → Bool
+tries (does.Connect which) = true
+tries (does.Reuse which) = true
+tries (does.Send request) = true
+tries command = false
+
 abbrev pub is_offer : Command → Bool
 is_offer does.Offer = true
 is_offer command = false
@@ -134,7 +221,75 @@ abbrev pub sends_conditions : Command → Bool
 sends_conditions (does.Send request) = request.has_conditions
 sends_conditions command = false
 
+abbrev pub same : Bool → Bool → Bool
+same true b = b
+same false b = not b
+
+-- whether only what is stored is asked for
+abbrev pub is_asked_for_stored : Source → Bool
+is_asked_for_stored Sibling = true
+is_asked_for_stored Origin = false
+is_asked_for_stored Parent = false
+
+-- sends another than a sibling `only-if-cached`, or a sibling none; or a fetch for all without the marks of its clients' loops
+abbrev pub sends_unlike : Flight → Command → Bool
+sends_unlike f (does.Send request) =
+    not (same request.has_only_if_cached (is_asked_for_stored f.source) && same request.has_loop_marks f.is_shared)
+sends_unlike f command = false
+
 -- EVENTS
+
+-- a complete answer has come
+abbrev pub is_answer : Event → Bool
+is_answer (events.Whole p) = true
+is_answer event = false
+
+abbrev pub is_fault : Event → Bool
+is_fault (events.Failed x) = true
+is_fault event = false
+
+-- no address of an origin is admitted
+abbrev pub is_denial : Event → Bool
+is_denial (events.Addressed a) = not a.is_first_admitted && not (a.has_other && a.is_other_admitted)
+is_denial event = false
+
+-- nobody waits for it
+abbrev pub is_desertion : Event → Bool
+is_desertion (events.Unwanted is_awaited) = not is_awaited
+is_desertion (events.Ordered o) = o.is_shared && o.is_unwanted
+is_desertion event = false
+
+abbrev pub is_cut_off : Fault → Bool
+is_cut_off faults.Cut = true
+is_cut_off fault = false
+
+abbrev pub is_unreached : Fault → Bool
+is_unreached faults.Connect = true
+is_unreached fault = false
+
+-- its connection has ended before an octet of an answer came
+abbrev pub is_cut_short : Event → Bool
+is_cut_short (events.Failed x) = is_cut_off x.fault && not x.has_answer
+is_cut_short event = false
+
+-- its server was not connected to
+abbrev pub is_unconnected : Event → Bool
+is_unconnected (events.Failed x) = is_unreached x.fault
+is_unconnected event = false
+
+-- whether an address may be connected to: a neighbour's may
+abbrev pub has_way : Flight → Addresses → Bool
+has_way f a = not (is_from_origin f.source) || (a.is_first_admitted || (a.has_other && a.is_other_admitted))
+
+abbrev pub is_too_long : Fault → Bool
+is_too_long faults.TooLarge = true
+is_too_long fault = false
+
+-- an event that does not tell that the origin has something else: no answer, and none that is too long
+abbrev pub is_not_telling : Event → Bool
+is_not_telling (events.Whole p) = false
+is_not_telling (events.Failed x) = not (is_too_long x.fault)
+is_not_telling event = true
 
 -- an event that is no order of a fetch for all
 abbrev pub is_not_for_all : Event → Bool
@@ -201,6 +356,11 @@ is_in_flight (stages.Connecting r) = true
 is_in_flight (stages.Exchanging e) = true
 is_in_flight stage = false
 
+-- it has not ended
+abbrev pub is_under_way : Stage → Bool
+is_under_way stages.Renewing = true
+is_under_way stage = is_in_flight stage
+
 -- whether it ends for want of clients
 abbrev pub may_be_left : Fetch → Bool
 may_be_left fetch = fetch.flight.is_shared && is_in_flight fetch.stage
@@ -247,6 +407,22 @@ is_awaited fetch (events.Whole p) = is_exchanging fetch.stage
 is_awaited fetch (events.Failed x) = is_in_flight fetch.stage
 is_awaited fetch (events.Unwanted is_wanted_again) = may_be_left fetch
 is_awaited fetch (events.Locked is_overtaken) = is_landing fetch.stage
+
+-- what was asked is awaited
+abbrev pub is_asked : Stage → Bool
+is_asked stages.Ordering = false
+is_asked stages.Over = false
+is_asked stage = true
+
+-- what was asked has come, or it has ended without
+abbrev pub is_told : Fetch → Event → Bool
+is_told fetch (events.Began h) = false
+is_told fetch event = is_asked fetch.stage && is_awaited fetch event
+
+-- how many of these events tell what was asked
+abbrev pub told : Fetch → List Event → ℕ
+told fetch [] = 0
+told fetch (event ∷ rest) = one (is_told fetch event) + told (turn_of fetch event).fetch rest
 
 -- how many of these events it waits for
 abbrev pub steps : Fetch → List Event → ℕ

@@ -1,7 +1,9 @@
 //! What holds of each run of the machine, whatever happens and in whatever order. The functions do nothing; their contracts are the laws.
 //! Most say: where no event of a run is of this kind, this is never done.
-ghost use Rattle.std.specs.Prelude.{◌≡◌, ◌≤◌, ◌+◌, ◌*◌, List, [], ◌∷◌, ◌++◌, count_by, true, false, if◌then◌else◌};
+ghost use Rattle.std.specs.Prelude.{◌≡◌, ◌≤◌, ◌<◌, ◌+◌, ◌*◌, Bool, List, [], ◌∷◌, ◌++◌, Some, None, count_by, true, false, if◌then◌else◌};
 ghost use Rattle.std.specs.List.{AllByRecursion};
+ghost use Rattle.fetch_life.specs.declared.facts.Addresses.{Addresses as FoundAddresses};
+ghost use Rattle.fetch_life.specs.declared.facts.Failure.{Failure as FailedAttempt};
 ghost use Rattle.fetch_life.specs.declared.facts.Order.{Order};
 ghost use Rattle.fetch_life.specs.declared.facts.Page.{Page as WholePage};
 ghost use Rattle.fetch_life.specs.declared.commands.Brought.TheVariants.{Unwanted};
@@ -9,12 +11,15 @@ ghost use Rattle.fetch_life.specs.declared.commands.Count.TheVariants as counts;
 ghost use Rattle.fetch_life.specs.declared.commands.Command.TheVariants as does;
 ghost use Rattle.fetch_life.specs.declared.events.Event.{Event};
 ghost use Rattle.fetch_life.specs.declared.events.Event.TheVariants as events;
+ghost use Rattle.fetch_life.specs.declared.stages.Exchange.{Exchange as ServerExchange};
 ghost use Rattle.fetch_life.specs.declared.stages.Flight.{Flight};
+ghost use Rattle.fetch_life.specs.declared.stages.Reach.{Reach as ServerReach};
 ghost use Rattle.fetch_life.specs.declared.stages.Stage.{Stage};
+ghost use Rattle.fetch_life.specs.declared.stages.Stage.TheVariants as stages;
 ghost use Rattle.fetch_life.specs.Rows.{Row};
-ghost use Rattle.fetch_life.specs.Runs.{after, orders, times, unordered};
+ghost use Rattle.fetch_life.specs.Runs.{after, fetch_at, orders, times, turn_of, unordered, IsOnlyBy};
 ghost use Rattle.fetch_life.specs.Table.{turn};
-ghost use Rattle.fetch_life.specs.Laws.{one, steps, is_landing, is_exchanging, is_renewing, keeps_or_confirms, is_any, is_count, is_hand_in, is_unwanted_one, renews, may_be_left, is_confirmed_one, is_stale_one, comes_from, hands, is_shelve, keeps, is_first, is_other, goes_to, is_offer, sends_clients, sends_conditions, is_not_for_all, is_not_private, is_not_of_origin, is_not_asking, confirms_nothing, is_not_down, is_not_unchanged, bars_first, bars_other, is_over};
+ghost use Rattle.fetch_life.specs.Laws.{is_ask_no_more, is_note_changed, is_question, is_asked, told, made, FitsMade, counts_as, is_success, is_refusal, is_failure, is_want, is_answer, is_fault, is_denial, is_desertion, is_object_one, is_kept_object, is_misnamed, is_from_origin, is_outage, is_unshelve, is_not_telling, is_either, is_beside, is_unreached, is_unconnected, is_cut_short, is_connecting, is_in_flight, is_under_way, is_unordered, has_way, sends_unlike, tries, one, steps, is_landing, is_exchanging, is_renewing, keeps_or_confirms, is_any, is_count, is_hand_in, is_unwanted_one, renews, may_be_left, is_confirmed_one, is_stale_one, comes_from, hands, is_shelve, keeps, is_first, is_other, goes_to, is_offer, sends_clients, sends_conditions, is_not_for_all, is_not_private, is_not_of_origin, is_not_asking, confirms_nothing, is_not_down, is_not_unchanged, bars_first, bars_other, is_over};
 
 /// Each turn of the table is one of its rows.
 pub fn each_turn_is_a_row()
@@ -31,6 +36,41 @@ pub fn one_result()
     ensures over { (events : List Event) → steps unordered events ≤ 12 + 12 * count_by renews events }
 {}
 
+/// A fetch stays what was ordered: whom it asks, and whether it is for all, is as its last order says.
+pub fn one_fetch()
+    ensures source { (f : Flight) (stage : Stage) (o : Order) → is_unordered stage ≡ true → (turn f stage (events.Ordered o)).fetch.flight.source ≡ o.source }
+    ensures shared { (f : Flight) (stage : Stage) (o : Order) → is_unordered stage ≡ true → (turn f stage (events.Ordered o)).fetch.flight.is_shared ≡ o.is_shared }
+    ensures stays { (f : Flight) (stage : Stage) (event : Event) → is_unordered stage ≡ false → (turn f stage event).fetch.flight ≡ f }
+{}
+
+/// What is awaited was asked, once, and what is asked is awaited: each question has been answered, or its answer is awaited now.
+pub fn questions()
+    ensures { (events : List Event) → times is_question events ≡ told unordered events + one (is_asked (after unordered events).stage) }
+{}
+
+/// Each attempt that was under way is counted as it ends, as what it has ended with: a complete answer, no admitted address, a failure, or the
+/// want of clients.
+pub fn ends_are_counted()
+    ensures each { (f : Flight) (stage : Stage) (event : Event) → is_in_flight stage ≡ true → count_by is_count (turn f stage event).commands + one (is_under_way (turn f stage event).fetch.stage) ≡ 1 }
+    ensures success { IsOnlyBy (counts_as is_success) is_answer }
+    ensures refusal { IsOnlyBy (counts_as is_refusal) is_denial }
+    ensures failure { IsOnlyBy (counts_as is_failure) is_fault }
+    ensures want { IsOnlyBy (counts_as is_want) is_desertion }
+{}
+
+/// What is handed in is what was made last, so nothing is made while the lock of changes is held. Where no change has come between, an answer of
+/// status 200 that is an object is handed in, and is kept where it is for all and may be; a 304 about what was asked about confirms that; and
+/// what is stale is given where the origin is down for all and that is allowed. No neighbour's object is said to come from an origin, and no
+/// origin's from a neighbour.
+pub fn what_is_handed_in()
+    ensures made { (before : List Event) (is_overtaken : Bool) → is_landing (after unordered before).stage ≡ true → AllByRecursion (FitsMade (made None (orders unordered before))) (turn_of (after unordered before) (events.Locked is_overtaken)).commands }
+    ensures given { (f : Flight) (e : ServerExchange) (p : WholePage) (later : List Event) → p.status ≡ 200 → p.is_object ≡ true → count_by (hands is_object_one) (orders (fetch_at f (stages.Exchanging e)) (events.Whole p ∷ events.Locked false ∷ later)) ≡ 1 }
+    ensures kept { (f : Flight) (e : ServerExchange) (p : WholePage) (later : List Event) → p.status ≡ 200 → p.is_object ≡ true → f.is_shared ≡ true → p.may_keep ≡ true → p.hides_rules ≡ false → count_by (hands is_kept_object) (orders (fetch_at f (stages.Exchanging e)) (events.Whole p ∷ events.Locked false ∷ later)) ≡ 1 }
+    ensures confirmed { (f : Flight) (e : ServerExchange) (p : WholePage) (later : List Event) → f.is_asking ≡ true → p.status ≡ 304 → p.is_about ≡ true → p.is_object ≡ true → count_by (hands (comes_from is_confirmed_one)) (orders (fetch_at f (stages.Exchanging e)) (events.Whole p ∷ events.Locked false ∷ later)) ≡ 1 }
+    ensures stale { (f : Flight) (x : FailedAttempt) (later : List Event) → is_from_origin f.source ≡ true → f.is_shared ≡ true → is_outage x.fault ≡ true → x.has_stale ≡ true → count_by (hands (comes_from is_stale_one)) (orders (fetch_at f stages.Seeking) (events.Failed x ∷ events.Locked false ∷ later)) ≡ 1 }
+    ensures named { (f : Flight) (stage : Stage) (event : Event) → count_by (hands (comes_from (is_misnamed f.source))) (turn f stage event).commands ≡ 0 }
+{}
+
 /// A fetch for all that ends for want of clients, or isn't begun for that, is counted as such, once, and hands in that: nothing else is done
 /// from then on. So nothing stale is given in its place, what is there is asked about again and stays as it is, and no failure is counted.
 /// What is fetched for one client alone never ends so. One that was begun anew, since somebody waited for it again, ends so as well where
@@ -45,22 +85,26 @@ pub fn want_of_clients()
 
 /// What a change has overtaken is never kept, nor what was fetched for one client alone: neither stored nor put on the shelf, where
 /// origins are asked about it. That holds whenever a change was found once, whatever is found when the result was made anew. A neighbour's
-/// object never reaches the shelf.
+/// object never reaches the shelf. What is there stays where no answer has come, and none that is too long.
 pub fn what_is_kept()
     ensures overtaken { (events : List Event) → AllByRecursion (λ event. is_not_unchanged event ≡ true) events → times keeps events ≡ 0 }
     ensures changed { (before later : List Event) → is_landing (after unordered before).stage ≡ true → count_by keeps (orders (after unordered before) (events.Locked true ∷ later)) ≡ 0 }
     ensures private { (events : List Event) → AllByRecursion (λ event. is_not_for_all event ≡ true) events → times keeps events ≡ 0 }
     ensures shelf { (events : List Event) → AllByRecursion (λ event. is_not_of_origin event ≡ true) events → times is_shelve events ≡ 0 }
+    ensures stays { (events : List Event) → AllByRecursion (λ event. is_not_telling event ≡ true) events → times is_unshelve events ≡ 0 }
 {}
 
 /// A 304 counts only where the conditions of what is there were sent, and only if it is about that (RFC 9111, section 4.3.4): one about
 /// something else is neither kept nor handed in as confirmed. They are sent only where the order lets an origin be asked, and never to a
-/// neighbour, whose 304 would confirm what it has made of that.
+/// neighbour, whose 304 would confirm what it has made of that. Nothing is given up to be asked about that was not asked about, and only for
+/// one client alone is it noted that something has changed.
 pub fn confirmation()
     ensures asked { (events : List Event) → AllByRecursion (λ event. is_not_asking event ≡ true) events → times (hands (comes_from is_confirmed_one)) events ≡ 0 }
     ensures about { (events : List Event) → AllByRecursion (λ event. confirms_nothing event ≡ true) events → times (hands (comes_from is_confirmed_one)) events ≡ 0 }
     ensures others { (before later : List Event) (p : WholePage) → is_exchanging (after unordered before).stage ≡ true → p.status ≡ 304 → p.is_about ≡ false → count_by keeps_or_confirms (orders (after unordered before) (events.Whole p ∷ later)) ≡ 0 }
     ensures conditions { (events : List Event) → AllByRecursion (λ event. is_not_asking event ≡ true) events → times sends_conditions events ≡ 0 }
+    ensures asked_no_more { (events : List Event) → AllByRecursion (λ event. is_not_asking event ≡ true) events → times is_ask_no_more events ≡ 0 }
+    ensures noted { (events : List Event) → AllByRecursion (λ event. is_not_private event ≡ true) events → times is_note_changed events ≡ 0 }
     ensures neighbours { (events : List Event) → AllByRecursion (λ event. is_not_of_origin event ≡ true) events → times sends_conditions events ≡ 0 }
 {}
 
@@ -74,15 +118,22 @@ pub fn what_is_stale()
     ensures changed { (before later : List Event) → is_landing (after unordered before).stage ≡ true → count_by (hands (comes_from is_stale_one)) (orders (after unordered before) (events.Locked true ∷ later)) ≡ 0 }
 {}
 
-/// An origin server's address that is not admitted is never connected to, over a new connection or over one that was kept.
+/// An origin server's address that is not admitted is never connected to, over a new connection or over one that was kept. One that may be
+/// is tried, and where the one was not connected to, the other has its turn, if it has not had it.
 pub fn servers()
     ensures first { (events : List Event) → AllByRecursion (λ event. bars_first event ≡ true) events → times (goes_to is_first) events ≡ 0 }
     ensures other { (events : List Event) → AllByRecursion (λ event. bars_other event ≡ true) events → times (goes_to is_other) events ≡ 0 }
+    ensures tried { (f : Flight) (a : FoundAddresses) → has_way f a ≡ true → count_by (goes_to is_either) (turn f stages.Seeking (events.Addressed a)).commands ≡ 1 }
+    ensures turns { (f : Flight) (x : FailedAttempt) (r : ServerReach) → is_unreached x.fault ≡ true → r.has_other ≡ true → count_by (goes_to (is_beside r.at)) (turn f (stages.Connecting r) (events.Failed x)).commands ≡ 1 }
+    ensures unconnected { (f : Flight) (stage : Stage) (event : Event) → is_connecting stage ≡ true → 0 < count_by (goes_to is_either) (turn f stage event).commands → is_unconnected event ≡ true }
 {}
 
-/// The request of a fetch for all has no field of any client but the marks of loops. The answer to a private one is offered to nobody
-/// else.
+/// The request of a fetch for all has no field of any client but the marks of loops, which it always has (RFC 8586). A sibling, and nobody else,
+/// is asked for what it has stored alone. A request is sent once more only where its connection ended before an octet of an answer came. The
+/// answer to a private one is offered to nobody else.
 pub fn requests()
     ensures fields { (events : List Event) → AllByRecursion (λ event. is_not_private event ≡ true) events → times sends_clients events ≡ 0 }
+    ensures like { (f : Flight) (stage : Stage) (event : Event) → count_by (sends_unlike f) (turn f stage event).commands ≡ 0 }
+    ensures again { (f : Flight) (stage : Stage) (event : Event) → is_exchanging stage ≡ true → 0 < count_by tries (turn f stage event).commands → is_cut_short event ≡ true }
     ensures offered { (events : List Event) → AllByRecursion (λ event. is_not_for_all event ≡ true) events → times is_offer events ≡ 0 }
 {}

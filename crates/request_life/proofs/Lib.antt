@@ -3,3 +3,5 @@ pub mod Walk
 pub mod Induction
 pub mod Steps
 pub mod Whole
+pub mod Causes
+pub mod Served

@@ -96,7 +96,7 @@ tunnel_uses head stage event t (rows.Unawaited h s e idle) = omega arith
 tunnel_uses head stage event t row = omega arith
 
 -- what the table waits for is what the law counts
-same_awaited : (event : Event) (stage : Stage) → is_awaited stage event ≡ awaits stage event
+pub same_awaited : (event : Event) (stage : Stage) → is_awaited stage event ≡ awaits stage event
 same_awaited (events.Received head) stages.Receiving = refl
 same_awaited (events.Received head) stage = refl
 same_awaited (events.Collected how) stages.Collecting = refl
@@ -272,7 +272,7 @@ same_unsaid : (upload : Upload) → is_all_sent upload ≡ may_have_changed uplo
 same_unsaid uploads.Whole = refl
 same_unsaid uploads.Broken = refl
 
-same_said : (upload : Upload) (status : ℕ) → says_done status ≡ may_have_changed upload (Some status)
+pub same_said : (upload : Upload) (status : ℕ) → says_done status ≡ may_have_changed upload (Some status)
 same_said uploads.Whole status = refl
 same_said uploads.Broken status = refl
 
@@ -433,7 +433,7 @@ departs_by_leaving head stage event t (rows.Unawaited h s e idle) = omega arith
 departs_by_leaving head stage event t row = omega arith
 
 -- causes
-no_answer_so : (is : Answer → Bool) (many : Bool) → is (answers.Own 502) ≡ false → is answers.Passed ≡ false → is (if many then answers.Own 502 else answers.Passed) ≡ false
+pub no_answer_so : (is : Answer → Bool) (many : Bool) → is (answers.Own 502) ≡ false → is answers.Passed ≡ false → is (if many then answers.Own 502 else answers.Passed) ≡ false
 no_answer_so is true e f = e
 no_answer_so is false e f = f
 
@@ -539,12 +539,12 @@ asks_fetch true Shared = omega arith
 asks_fetch false Shared = omega arith
 asks_fetch o Private = omega arith
 
-same_cached : (mode : Mode) → wants_stored mode ≡ is_cached mode
+pub same_cached : (mode : Mode) → wants_stored mode ≡ is_cached mode
 same_cached Shared = refl
 same_cached Cached = refl
 same_cached Private = refl
 
-same_node : (head : RequestHead) (m : Method) → may_be_answered head m ≡ (is_get m || (is_head m && head.answers_heads))
+pub same_node : (head : RequestHead) (m : Method) → may_be_answered head m ≡ (is_get m || (is_head m && head.answers_heads))
 same_node head methods.Get = refl
 same_node head methods.Head = refl
 same_node head methods.Connect = refl

@@ -1,5 +1,5 @@
 -- What holds of each run.
-use Rattle.std.proofs.Common.{◌≡◌, ℕ, ◌+◌, ◌-◌, ◌*◌, ◌≤◌, ◌<◌, List, [], ◌∷◌, ◌++◌, cond, Option, Some, None, Bool, true, false, not, ◌&&◌, ◌||◌, arith, count_by, refl, sym, ◌∙◌, ap, subst}
+use Rattle.std.proofs.Common.{◌≡◌, ◌==◌, nat_lt, ℕ, ◌+◌, ◌-◌, ◌*◌, ◌≤◌, ◌<◌, List, [], ◌∷◌, ◌++◌, cond, Option, Some, None, Bool, true, false, not, ◌&&◌, ◌||◌, arith, count_by, refl, sym, ◌∙◌, ap, subst}
 use Rattle.std.specs.List.{AllByRecursion}
 use Rattle.request_life.specs.declared.facts.RequestHead.{RequestHead}
 use Rattle.request_life.specs.declared.commands.Command.{Command}
@@ -15,13 +15,14 @@ use Rattle.request_life.specs.declared.stages.Content.TheVariants as contents
 use Rattle.request_life.specs.declared.stages.Stage.{Stage}
 use Rattle.request_life.specs.declared.stages.Stage.TheVariants as stages
 use Rattle.fair_use.specs.declared.unanswered.Upload.TheVariants as uploads
-use Rattle.request_life.specs.Table.{Turn, turn, has_joined, has_begun}
+use Rattle.request_life.specs.Table.{Turn, turn, has_joined, has_begun, is_for_node, opens_tunnel}
 use Rattle.request_life.specs.Rows.{Row}
 use Rattle.request_life.specs.Runs.{unborn, life_at, turn_of, after, orders, times, moves_where, IsOnlyBy}
-use Rattle.request_life.specs.Laws.{one, is_submit_alone, has_unsendable, ends_connection_by, is_for_store_alone, is_to_send, answers_so, is_give, is_hit, is_fetched, is_stale, is_tunnel, is_early_one, is_submit, is_fetch, is_withdraw, is_pass_on, is_open_tunnel, is_sent, is_take_out, is_record, is_more_than_record, goes_further, is_again, ends_passage, says_nothing, says_nothing_unsent, says_nothing_in_time, has_broken, is_over, is_recorded, is_waiting, is_left, is_met_hit, has_stale, is_opened, aims_well, routes_well, bars, is_for_store, must_close, goes_on, heard, said, sent_unsafe, pending_unsafe, unchanged_unsafe, taken_in, settled_in, awaited_in}
+use Rattle.request_life.specs.Laws.{is_late, is_unserved, asked_in, told_in, opened_in, ended_in, is_asked, is_open, is_cancel, is_receiving, is_submitted, is_submit_so, wants_shared, wants_stored, is_fetch_for_all, is_stream, may_stream, lets_join, lets_use_stored, is_for_part, is_own, is_own_success, tells_so, came_back, is_forbidden, is_long_one, is_large, takes_by_answer, has_answered, one, is_submit_alone, has_unsendable, ends_connection_by, is_for_store_alone, is_to_send, answers_so, is_give, is_hit, is_fetched, is_stale, is_tunnel, is_early_one, is_submit, is_fetch, is_withdraw, is_pass_on, is_open_tunnel, is_sent, is_take_out, is_record, is_more_than_record, goes_further, is_again, ends_passage, says_nothing, says_nothing_unsent, says_nothing_in_time, has_broken, is_over, is_recorded, is_waiting, is_left, is_met_hit, has_stale, is_opened, aims_well, routes_well, bars, is_for_store, must_close, goes_on, heard, said, sent_unsafe, pending_unsafe, unchanged_unsafe, taken_in, settled_in, awaited_in}
 use Rattle.request_life.proofs.Measures.{is_done, is_answered, has_departed, has_gone_on, may_fetch, is_beginner, submits_left, all_submits_left, may_break, may_part_unsent, may_part_whole, passes_left, tunnels_left, steps_left, may_pass, sends_fields}
-use Rattle.request_life.proofs.Walk.{turn_row}
+use Rattle.request_life.proofs.Walk.{turn_row, split}
 use Rattle.request_life.proofs.Induction.{adds_up, is_used_up, is_filled_up, runs_down, balances, is_never_done, is_come_to}
+use Rattle.request_life.proofs.Causes.{request_stays, asks_balance, opens_balance, shared_cause, stored_cause, whole_cause, stream_cause, marked_stays, by_answer_cause, last_ends, back_cause, forbidden_cause, long_cause, large_cause, late_cause, unserved_cause, error_cause}
 use Rattle.request_life.proofs.Steps.{give_adds, record_adds, submit_uses, all_submits_use, pass_uses, tunnel_uses, steps_run_down, wait_balances, unsafe_balances, take_out_cause, broken_stays, unsent_stays, whole_stays, is_quiet, is_silent, departs_by_leaving, hit_cause, stale_cause, tunnel_cause, open_cause, pass_cause, barred_stays, stored_stays, passed_stays, ends_only, options_stay, closes, early_cause, Agrees, others_stays, keeps_agreed}
 
 row_of : (life : Life) (event : Event) → Row life.head life.stage event (turn_of life event)
@@ -229,3 +230,80 @@ ends_only_there head stage event = ends_only head stage event _ (turn_row head s
 pub unsendable_is_not_submitted : (events : List Event) → AllByRecursion (λ event. has_unsendable event ≡ true) events → times is_submit_alone events ≡ 0
 unsendable_is_not_submitted events all =
     is_never_done is_submit_alone (λ life. sends_fields life.head life.stage) has_unsendable (λ life event. options_stay life.head life.stage event _ (row_of life event)) unborn events refl all
+
+-- a request stays what was received
+pub request_is_same : (head : RequestHead) (stage : Stage) (event : Event) → is_receiving stage ≡ false → (turn head stage event).life.head ≡ head
+request_is_same head stage event there = request_stays head stage event _ (turn_row head stage event) there
+
+pub request_is_received : (old head : RequestHead) → (turn old stages.Receiving (events.Received head)).life.head ≡ head
+request_is_received old head =
+    let P : Turn → Type 0 = λ t. t.life.head ≡ head in
+    split P (is_for_node head) _ _
+    (λ _. split P head.is_too_long _ _ (λ _. refl) (λ _. split P head.has_content _ _ (λ _. refl) (λ _. refl)))
+    (λ _. split P (opens_tunnel head) _ _ (λ _. split P head.is_too_long _ _ (λ _. refl) (λ _. refl))
+    (λ _. split P head.has_passage _ _ (λ _. split P head.has_foreign_coding _ _ (λ _. refl) (λ _. refl)) (λ _. refl)))
+
+-- what is asked is awaited, and what is opened ends
+abbrev none : Command → Bool
+none command = false
+
+none_of : (commands : List Command) → count_by none commands ≡ 0
+none_of [] = refl
+none_of (c ∷ rest) = none_of rest
+
+pub asks_and_waits : (events : List Event) → moves_where asked_in unborn events ≡ moves_where told_in unborn events + one (is_asked (after unborn events).stage)
+asks_and_waits events =
+    let a = balances asked_in told_in none (λ life. one (is_asked life.stage))
+    (λ life event. let b = asks_balance life.head life.stage event _ (row_of life event) in let c = none_of (turn_of life event).commands in omega arith) unborn events in
+    let d = none_of (orders unborn events) in
+    omega arith
+
+pub opens_and_ends : (events : List Event) → moves_where opened_in unborn events ≡ times is_cancel events + moves_where ended_in unborn events + one (is_open (after unborn events).stage)
+opens_and_ends events =
+    let a = balances opened_in ended_in is_cancel (λ life. one (is_open life.stage)) (λ life event. opens_balance life.head life.stage event _ (row_of life event)) unborn events in
+    omega arith
+
+-- what is asked for
+pub shared_by : IsOnlyBy (is_submit_so wants_shared) lets_join
+shared_by head stage event some = shared_cause head stage event _ (turn_row head stage event) some
+
+pub stored_by : IsOnlyBy (is_submit_so wants_stored) lets_use_stored
+stored_by head stage event some = stored_cause head stage event _ (turn_row head stage event) some
+
+pub whole_by : IsOnlyBy is_fetch_for_all is_for_part
+whole_by head stage event some = whole_cause head stage event _ (turn_row head stage event) some
+
+pub stream_by : (head : RequestHead) (stage : Stage) (event : Event) → 0 < count_by is_stream (turn head stage event).commands → may_stream head event ≡ true
+stream_by head stage event some = stream_cause head stage event _ (turn_row head stage event) some
+
+-- what a status says
+pub back_by : IsOnlyBy (answers_so (is_own 508)) (λ event. tells_so (λ status. status == 508) event || came_back event)
+back_by head stage event some = back_cause head stage event _ (turn_row head stage event) some
+
+pub forbidden_by : IsOnlyBy (answers_so (is_own 403)) (λ event. tells_so (λ status. status == 403) event || is_forbidden event)
+forbidden_by head stage event some = forbidden_cause head stage event _ (turn_row head stage event) some
+
+pub long_by : IsOnlyBy (answers_so (is_own 414)) (λ event. tells_so (λ status. status == 414) event || is_long_one event)
+long_by head stage event some = long_cause head stage event _ (turn_row head stage event) some
+
+pub large_by : IsOnlyBy (answers_so (is_own 413)) (λ event. tells_so (λ status. status == 413) event || is_large event)
+large_by head stage event some = large_cause head stage event _ (turn_row head stage event) some
+
+pub late_by : IsOnlyBy (answers_so (is_own 504)) (λ event. tells_so (λ status. status == 504) event || is_late event)
+late_by head stage event some = late_cause head stage event _ (turn_row head stage event) some
+
+pub unserved_by : IsOnlyBy (answers_so (is_own 501)) (λ event. tells_so (λ status. status == 501) event || is_unserved event)
+unserved_by head stage event some = unserved_cause head stage event _ (turn_row head stage event) some
+
+pub error_by : IsOnlyBy (answers_so is_own_success) (tells_so (λ status. nat_lt status 400))
+error_by head stage event some = error_cause head stage event _ (turn_row head stage event) some
+
+-- what is taken out, given and ended
+pub by_answer_by : IsOnlyBy takes_by_answer has_answered
+by_answer_by head stage event some = by_answer_cause head stage event _ (turn_row head stage event) some
+
+pub marked_has_no_stale : (head : RequestHead) (stage : Stage) (event : Event) → is_submitted stage ≡ true → head.has_loop_marks ≡ true → count_by (answers_so is_stale) (turn head stage event).commands ≡ 0
+marked_has_no_stale head stage event there marked = marked_stays head stage event _ (turn_row head stage event) there marked
+
+pub last_is_last : (head : RequestHead) (stage : Stage) (event : Event) → count_by (λ c. goes_on c && head.is_last) (turn head stage event).commands ≡ 0
+last_is_last head stage event = last_ends head stage event _ (turn_row head stage event)

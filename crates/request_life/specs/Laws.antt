@@ -1,19 +1,26 @@
 -- The words of the laws: what commands, events and stages are.
-use Rattle.std.specs.Prelude.{ℕ, List, [], ◌∷◌, ◌+◌, ◌*◌, count_by, nat_le, nat_lt, ◌==◌, ◌&&◌, ◌||◌, not, Bool, true, false, Option, Some, None}
+use Rattle.std.specs.Prelude.{◌≡◌, ℕ, List, [], ◌∷◌, ◌+◌, ◌*◌, count_by, nat_le, nat_lt, ◌==◌, ◌&&◌, ◌||◌, not, Bool, true, false, Option, Some, None}
 use Rattle.fair_use.specs.declared.unanswered.Upload.{Upload}
 use Rattle.fair_use.specs.declared.unanswered.Upload.TheVariants as uploads
 use Rattle.node_terms.specs.declared.mode.Mode.{Mode}
-use Rattle.node_terms.specs.declared.mode.Mode.TheVariants.{Cached, Private}
+use Rattle.node_terms.specs.declared.mode.Mode.TheVariants.{Shared, Cached, Private}
 use Rattle.request_life.specs.declared.facts.Target.{Target}
 use Rattle.request_life.specs.declared.facts.Target.TheVariants as targets
+use Rattle.request_life.specs.declared.facts.Lookup.{Lookup}
 use Rattle.request_life.specs.declared.facts.Passage.{Passage}
 use Rattle.request_life.specs.declared.facts.TunnelTarget.{TunnelTarget}
 use Rattle.request_life.specs.declared.facts.Choice.{Choice}
 use Rattle.request_life.specs.declared.facts.Choice.TheVariants.{Ask, Refuse}
 use Rattle.request_life.specs.declared.commands.Answer.{Answer}
 use Rattle.request_life.specs.declared.commands.Answer.TheVariants as answers
+use Rattle.request_life.specs.declared.commands.Shape.{Shape}
+use Rattle.request_life.specs.declared.commands.Shape.TheVariants as shapes
+use Rattle.request_life.specs.declared.commands.Changed.{Changed}
+use Rattle.request_life.specs.declared.commands.Changed.TheVariants as takes
 use Rattle.request_life.specs.declared.commands.Command.{Command}
 use Rattle.request_life.specs.declared.commands.Command.TheVariants as does
+use Rattle.request_life.specs.declared.events.ContentEnd.TheVariants as ends
+use Rattle.request_life.specs.declared.events.Fetched.{Fetched}
 use Rattle.request_life.specs.declared.events.Outcome.{Outcome}
 use Rattle.request_life.specs.declared.events.Outcome.TheVariants as outcomes
 use Rattle.request_life.specs.declared.events.PassedHead.{PassedHead}
@@ -26,6 +33,8 @@ use Rattle.request_life.specs.declared.facts.Method.{Method}
 use Rattle.request_life.specs.declared.facts.Method.TheVariants as methods
 use Rattle.request_life.specs.declared.stages.Content.{Content}
 use Rattle.request_life.specs.declared.stages.Content.TheVariants as contents
+use Rattle.request_life.specs.declared.stages.Share.{Share}
+use Rattle.request_life.specs.declared.stages.Share.TheVariants as shares
 use Rattle.request_life.specs.declared.stages.Stage.{Stage}
 use Rattle.request_life.specs.declared.stages.Stage.TheVariants as stages
 use Rattle.request_life.specs.declared.stages.Life.{Life}
@@ -103,6 +112,24 @@ abbrev pub goes_on : Command → Bool
 goes_on (does.Give given) = not given.is_last && not (is_tunnel given.answer)
 goes_on command = false
 
+abbrev pub is_passed_one : Answer → Bool
+is_passed_one answers.Passed = true
+is_passed_one answer = false
+
+-- a status of the proxy's own
+abbrev pub is_own : ℕ → Answer → Bool
+is_own status (answers.Own given) = given == status
+is_own status answer = false
+
+-- a status of the proxy's own that is no error
+abbrev pub is_own_success : Answer → Bool
+is_own_success (answers.Own status) = nat_lt status 400
+is_own_success answer = false
+
+-- all that is done: an answer is given, which ends its connection only where the client has asked for that
+abbrev pub gives_one : RequestHead → Answer → List Command
+gives_one head answer = does.Give (record { answer = answer; is_last = head.is_last }) ∷ []
+
 abbrev pub is_submit : Command → Bool
 is_submit (does.Submit mode) = true
 is_submit command = false
@@ -120,6 +147,48 @@ wants_own mode = false
 abbrev pub is_submit_alone : Command → Bool
 is_submit_alone (does.Submit mode) = wants_own mode
 is_submit_alone command = false
+
+-- wants what is fetched for all
+abbrev pub wants_shared : Mode → Bool
+wants_shared Shared = true
+wants_shared mode = false
+
+abbrev pub is_submit_so : (Mode → Bool) → Command → Bool
+is_submit_so is (does.Submit mode) = is mode
+is_submit_so is command = false
+
+abbrev pub is_fetch_for_all : Command → Bool
+is_fetch_for_all does.FetchForAll = true
+is_fetch_for_all command = false
+
+abbrev pub is_stream : Command → Bool
+is_stream does.Stream = true
+is_stream command = false
+
+-- asks something whose answer is awaited then
+abbrev pub is_question : Command → Bool
+is_question does.Collect = true
+is_question does.LookUp = true
+is_question (does.Submit mode) = true
+is_question does.Route = true
+is_question does.Aim = true
+is_question command = false
+
+-- has a server do something: a request is passed on to it, or a tunnel leads there
+abbrev pub goes_out : Command → Bool
+goes_out does.PassOn = true
+goes_out does.OpenTunnel = true
+goes_out command = false
+
+abbrev pub is_cancel : Command → Bool
+is_cancel does.Cancel = true
+is_cancel command = false
+
+-- the content is collected, or what the node is asked is found out
+abbrev pub is_begin : Command → Bool
+is_begin does.Collect = true
+is_begin does.LookUp = true
+is_begin command = false
 
 -- gives an answer that ends its connection
 abbrev pub ends_connection_by : Command → Bool
@@ -155,6 +224,15 @@ is_sent command = false
 abbrev pub is_take_out : Command → Bool
 is_take_out (does.TakeOut what) = true
 is_take_out command = false
+
+abbrev pub is_by_answer : Changed → Bool
+is_by_answer takes.ByAnswer = true
+is_by_answer takes.Target = false
+
+-- takes out what the head of an answer says
+abbrev pub takes_by_answer : Command → Bool
+takes_by_answer (does.TakeOut what) = is_by_answer what
+takes_by_answer command = false
 
 abbrev pub is_record : Command → Bool
 is_record does.Record = true
@@ -221,6 +299,111 @@ abbrev pub is_opened : Event → Bool
 is_opened (events.Tunnelled tunnels.Opened) = true
 is_opened event = false
 
+-- wants what is fetched for all, and nothing has changed what is being fetched
+abbrev pub asks_shared : Choice → Bool
+asks_shared (Ask mode) = wants_shared mode
+asks_shared (Refuse status) = false
+
+abbrev pub lets_join : Event → Bool
+lets_join (events.Found lookup) = asks_shared lookup.choice && not lookup.is_overtaken
+lets_join event = false
+
+abbrev pub asks_stored : Choice → Bool
+asks_stored (Ask mode) = wants_stored mode
+asks_stored (Refuse status) = false
+
+abbrev pub lets_use_stored : Event → Bool
+lets_use_stored (events.Found lookup) = asks_stored lookup.choice
+lets_use_stored event = false
+
+abbrev pub asks_own : Choice → Bool
+asks_own (Ask mode) = wants_own mode
+asks_own (Refuse status) = false
+
+-- it is the third for a part of what is not stored
+abbrev pub is_for_part : Event → Bool
+is_for_part (events.Found lookup) = asks_own lookup.choice && (not lookup.is_stored && lookup.is_third_part)
+is_for_part event = false
+
+-- its client may have the answer while that is collected: it has begun its fetch, and counts on no answer that has come by its origin
+abbrev pub may_stream : RequestHead → Event → Bool
+may_stream head (events.Accepted a) = not a.has_joined && (head.is_streamed && not head.has_loop_marks)
+may_stream head event = false
+
+-- a status that an event has with it
+abbrev pub refuses_so : (ℕ → Bool) → Choice → Bool
+refuses_so is (Refuse status) = is status
+refuses_so is (Ask mode) = false
+
+abbrev pub tells_so : (ℕ → Bool) → Event → Bool
+tells_so is (events.Found lookup) = refuses_so is lookup.choice
+tells_so is (events.Answered (outcomes.Failed f)) = is f.status
+tells_so is (events.Tunnelled (tunnels.Refused status)) = is status
+tells_so is event = false
+
+-- it has come back
+abbrev pub came_back : Event → Bool
+came_back (events.Found lookup) = lookup.has_come_back
+came_back (events.Routed p) = p.has_come_back
+came_back (events.Aimed t) = t.has_come_back
+came_back event = false
+
+-- its server or its port is not allowed
+abbrev pub is_forbidden : Event → Bool
+is_forbidden (events.Found lookup) = lookup.is_barred
+is_forbidden (events.Routed p) = p.is_barred
+is_forbidden (events.Aimed t) = t.is_barred || not t.is_port_allowed
+is_forbidden (events.Passed passages.Refused) = true
+is_forbidden event = false
+
+abbrev pub is_long_target : Target → Bool
+is_long_target targets.TooLong = true
+is_long_target target = false
+
+-- its target is too long
+abbrev pub is_long_one : Event → Bool
+is_long_one (events.Found lookup) = is_long_target lookup.target
+is_long_one (events.Routed p) = is_long_target p.target
+is_long_one event = false
+
+-- its content is too long
+abbrev pub is_large : Event → Bool
+is_large (events.Received head) = head.is_too_long
+is_large (events.Collected ends.TooLong) = true
+is_large event = false
+
+-- no answer has come in time, or what the node answers is none for a request that wants nothing fetched
+abbrev pub is_late : Event → Bool
+is_late (events.Passed passages.TimedOut) = true
+is_late (events.Answered outcome) = true
+is_late event = false
+
+-- what it asks for is not done here
+abbrev pub is_unserved : Event → Bool
+is_unserved (events.Received head) = true
+is_unserved (events.Routed p) = p.is_last_recipient
+is_unserved event = false
+
+-- its server says that it has carried the request out
+abbrev pub has_answered : Event → Bool
+has_answered (events.Passed (passages.Head p)) = says_done p.status
+has_answered event = false
+
+-- who shares a fetch, and counts on no answer that has come by its origin, may have what is stale
+abbrev pub may_have_stale : RequestHead → Mode → Bool
+may_have_stale head mode = wants_shared mode && not head.has_loop_marks
+
+-- who began a fetch, or had one of its own, has what came of it; who joined one only what may be stored or was there before
+abbrev pub may_have : Share → Fetched → Bool
+may_have shares.Joined f = f.is_kept || f.is_stale
+may_have share f = true
+
+-- what was fetched for a request alone is given as it is
+abbrev pub shape_due : Share → Shape → Shape
+shape_due shares.Alone shape = shapes.Whole
+shape_due shares.Began shape = shape
+shape_due shares.Joined shape = shape
+
 -- where a tunnel may lead (RFC 9110, section 9.3.6)
 abbrev pub may_be_tunnelled : TunnelTarget → Bool
 may_be_tunnelled t = t.is_authority && (t.is_port_allowed && (not t.has_come_back && (not t.is_barred && t.has_room)))
@@ -233,6 +416,11 @@ is_url target = false
 abbrev pub may_be_passed : Passage → Bool
 may_be_passed p =
     is_url p.target && (not p.has_come_back && (not p.is_barred && (not p.is_last_recipient && (not p.has_many_options && p.has_room))))
+
+-- what the node may be asked
+abbrev pub may_be_asked : RequestHead → Lookup → Bool
+may_be_asked head l =
+    is_url l.target && (not l.has_come_back && (not l.is_barred && (not l.is_long && not head.has_many_options)))
 
 abbrev pub aims_well : Event → Bool
 aims_well (events.Aimed t) = may_be_tunnelled t
@@ -442,6 +630,43 @@ is_awaited stage (events.Aimed t) = is_aiming stage
 is_awaited stage (events.Tunnelled how) = is_opening stage
 is_awaited stage events.Left = not (is_recorded stage)
 is_awaited stage events.Finished = is_being_answered stage
+
+-- what was asked is awaited
+abbrev pub is_asked : Stage → Bool
+is_asked stages.Collecting = true
+is_asked (stages.LookingUp round) = true
+is_asked (stages.Submitting s) = true
+is_asked stages.Routing = true
+is_asked stages.Aiming = true
+is_asked stage = false
+
+abbrev pub asked_in : Life → Event → ℕ
+asked_in life event = count_by is_question (turn_of life event).commands
+
+-- it has come, or the client has left
+abbrev pub told_in : Life → Event → ℕ
+told_in life event = one (is_asked life.stage && is_awaited life.stage event)
+
+-- a server does something for the request that has not ended
+abbrev pub is_open : Stage → Bool
+is_open (stages.Passing content) = true
+is_open (stages.Parting upload) = true
+is_open stages.Breaking = true
+is_open stages.BrokenOff = true
+is_open stages.Opening = true
+is_open stage = false
+
+abbrev pub opened_in : Life → Event → ℕ
+opened_in life event = count_by goes_out (turn_of life event).commands
+
+-- it ends by itself, while its client is there
+abbrev pub ends_itself : Stage → Event → Bool
+ends_itself (stages.Passing content) (events.Passed how) = true
+ends_itself stages.Opening (events.Tunnelled how) = true
+ends_itself stage event = false
+
+abbrev pub ended_in : Life → Event → ℕ
+ended_in life event = one (ends_itself life.stage event)
 
 -- WHAT WAS CHANGED
 

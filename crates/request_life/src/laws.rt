@@ -1,11 +1,28 @@
 //! What holds of each run of the machine, whatever happens and in whatever order. The functions do nothing; their contracts are the laws.
-ghost use Rattle.std.specs.Prelude.{◌≡◌, ℕ, ◌+◌, ◌≤◌, ◌<◌, ◌&&◌, ◌||◌, not, List, ◌∷◌, count_by, Some, None, true, false};
+ghost use Rattle.std.specs.Prelude.{◌≡◌, [], ℕ, ◌+◌, ◌≤◌, ◌<◌, ◌&&◌, ◌||◌, not, List, ◌∷◌, count_by, nat_lt, ◌==◌, Some, None, true, false};
 ghost use Rattle.std.specs.List.{AllByRecursion};
+ghost use Rattle.node_terms.specs.declared.mode.Mode.{Mode};
+ghost use Rattle.request_life.specs.declared.facts.Choice.TheVariants.{Ask};
+ghost use Rattle.request_life.specs.declared.facts.Lookup.{Lookup as FoundLookup};
+ghost use Rattle.request_life.specs.declared.facts.Passage.{Passage as FoundPassage};
 ghost use Rattle.request_life.specs.declared.facts.RequestHead.{RequestHead};
+ghost use Rattle.request_life.specs.declared.facts.TunnelTarget.{TunnelTarget as FoundTarget};
+ghost use Rattle.request_life.specs.declared.commands.Answer.TheVariants as answers;
+ghost use Rattle.request_life.specs.declared.commands.Command.TheVariants as does;
 ghost use Rattle.request_life.specs.declared.events.Event.{Event};
 ghost use Rattle.request_life.specs.declared.events.Event.TheVariants as events;
 ghost use Rattle.request_life.specs.declared.events.Fetched.{Fetched as FetchedObject};
+ghost use Rattle.request_life.specs.declared.events.Acceptance.{Acceptance as TakenRequest};
+ghost use Rattle.request_life.specs.declared.events.Failure.{Failure as NodeFailure};
+ghost use Rattle.request_life.specs.declared.events.Hit.{Hit as StoredHit};
 ghost use Rattle.request_life.specs.declared.events.Outcome.TheVariants as outcomes;
+ghost use Rattle.request_life.specs.declared.events.PassedEnd.TheVariants as passages;
+ghost use Rattle.request_life.specs.declared.events.PassedHead.{PassedHead as AnswerHead};
+ghost use Rattle.request_life.specs.declared.events.TunnelEnd.TheVariants as tunnels;
+ghost use Rattle.request_life.specs.declared.stages.Round.{Round as Turn};
+ghost use Rattle.request_life.specs.declared.stages.Share.TheVariants as shares;
+ghost use Rattle.request_life.specs.declared.stages.Submission.{Submission as SubmittedRequest};
+ghost use Rattle.request_life.specs.declared.stages.Wait.{Wait as Waiter};
 ghost use Rattle.request_life.specs.declared.stages.Content.{Content};
 ghost use Rattle.request_life.specs.declared.stages.Content.TheVariants as contents;
 ghost use Rattle.request_life.specs.declared.stages.Stage.{Stage};
@@ -13,11 +30,74 @@ ghost use Rattle.request_life.specs.declared.stages.Stage.TheVariants as stages;
 ghost use Rattle.request_life.specs.Table.{turn};
 ghost use Rattle.request_life.specs.Rows.{Row};
 ghost use Rattle.request_life.specs.Runs.{unborn, life_at, turn_of, after, orders, times, moves_where, IsOnlyBy};
-ghost use Rattle.request_life.specs.Laws.{one, is_submit_alone, has_unsendable, ends_connection_by, is_for_store_alone, is_to_send, answers_so, is_give, is_hit, is_fetched, is_stale, is_tunnel, is_early_one, is_submit, is_fetch, is_withdraw, is_pass_on, is_open_tunnel, is_sent, is_take_out, is_record, is_more_than_record, goes_further, is_again, ends_passage, says_nothing, says_nothing_unsent, says_nothing_in_time, has_broken, is_over, is_recorded, is_waiting, is_left, is_met_hit, has_stale, is_opened, aims_well, routes_well, bars, is_for_store, must_close, goes_on, said, sent_unsafe, pending_unsafe, unchanged_unsafe, taken_in, settled_in, awaited_in};
+ghost use Rattle.request_life.specs.Laws.{is_late, is_unserved, may_have_stale, is_passed_one, is_own, is_own_success, gives_one, wants_shared, wants_stored, is_submit_so, is_fetch_for_all, is_stream, is_cancel, is_begin, takes_by_answer, lets_join, lets_use_stored, is_for_part, may_stream, tells_so, came_back, is_forbidden, is_long_one, is_large, has_answered, says_done, may_have, shape_due, may_be_asked, may_be_answered, may_be_passed, may_be_tunnelled, is_receiving, is_submitted, is_asked, asked_in, told_in, is_open, opened_in, ended_in, one, is_submit_alone, has_unsendable, ends_connection_by, is_for_store_alone, is_to_send, answers_so, is_give, is_hit, is_fetched, is_stale, is_tunnel, is_early_one, is_submit, is_fetch, is_withdraw, is_pass_on, is_open_tunnel, is_sent, is_take_out, is_record, is_more_than_record, goes_further, is_again, ends_passage, says_nothing, says_nothing_unsent, says_nothing_in_time, has_broken, is_over, is_recorded, is_waiting, is_left, is_met_hit, has_stale, is_opened, aims_well, routes_well, bars, is_for_store, must_close, goes_on, said, sent_unsafe, pending_unsafe, unchanged_unsafe, taken_in, settled_in, awaited_in};
 
 /// Each turn of the table is one of its rows.
 pub fn each_turn_is_a_row()
     ensures { (head : RequestHead) (stage : Stage) (event : Event) → Row head stage event (turn head stage event) }
+{}
+
+/// A request stays what was received.
+pub fn one_request()
+    ensures received { (old head : RequestHead) → (turn old stages.Receiving (events.Received head)).life.head ≡ head }
+    ensures stays { (head : RequestHead) (stage : Stage) (event : Event) → is_receiving stage ≡ false → (turn head stage event).life.head ≡ head }
+{}
+
+/// What is awaited was asked, once, and what is asked is awaited: each question has been answered, or its client has left, or its answer is
+/// awaited now.
+pub fn questions()
+    ensures { (events : List Event) → moves_where asked_in unborn events ≡ moves_where told_in unborn events + one (is_asked (after unborn events).stage) }
+{}
+
+/// What may be done is done: a request that the node may answer is looked up, one that it may be asked is submitted, one that may be passed on
+/// is, and a tunnel that may be opened is. Who has joined a fetch whose answer is for another is fetched for alone.
+pub fn what_may_be_is_done()
+    ensures begun { (old head : RequestHead) → may_be_answered head head.method ≡ true → head.is_too_long ≡ false → count_by is_begin (turn old stages.Receiving (events.Received head)).commands ≡ 1 }
+    ensures asked { (head : RequestHead) (lookup : FoundLookup) (round : Turn) (mode : Mode) → lookup.choice ≡ Ask mode → may_be_asked head lookup ≡ true → count_by is_submit (turn head (stages.LookingUp round) (events.Found lookup)).commands ≡ 1 }
+    ensures passed { (head : RequestHead) (p : FoundPassage) → may_be_passed p ≡ true → (turn head stages.Routing (events.Routed p)).commands ≡ does.PassOn ∷ [] }
+    ensures opened { (head : RequestHead) (t : FoundTarget) → may_be_tunnelled t ≡ true → (turn head stages.Aiming (events.Aimed t)).commands ≡ does.OpenTunnel ∷ [] }
+    ensures apart { (head : RequestHead) (w : Waiter) (f : FetchedObject) → may_have w.share f ≡ false → w.is_second ≡ false → wants_stored w.mode ≡ false → head.has_many_options ≡ false → count_by is_submit_alone (turn head (stages.Waiting w) (events.Answered (outcomes.Fetched f))).commands ≡ 1 }
+{}
+
+/// What has come is given: what is stored where the request accepts it, what was fetched where it isn't for another alone, what is being
+/// collected to who began that, what is stale where that may be, a failure as it is, the answer of the server that it was passed on to, and a tunnel that is open.
+pub fn what_has_come_is_given()
+    ensures hit { (head : RequestHead) (w : Waiter) (hit : StoredHit) → hit.is_accepted ≡ true → (turn head (stages.Waiting w) (events.Answered (outcomes.Hit hit))).commands ≡ gives_one head (answers.Hit hit.shape) }
+    ensures fetched { (head : RequestHead) (w : Waiter) (f : FetchedObject) → may_have w.share f ≡ true → (turn head (stages.Waiting w) (events.Answered (outcomes.Fetched f))).commands ≡ gives_one head (answers.Fetched (shape_due w.share f.shape)) }
+    ensures early { (head : RequestHead) (w : Waiter) → w.share ≡ shares.Began → (turn head (stages.Waiting w) (events.Answered outcomes.Early)).commands ≡ does.Withdraw ∷ gives_one head answers.Early }
+    ensures stale { (head : RequestHead) (a : TakenRequest) (s : SubmittedRequest) → may_have_stale head s.mode ≡ true → a.has_stale ≡ true → (turn head (stages.Submitting s) (events.Accepted a)).commands ≡ does.Withdraw ∷ gives_one head answers.Stale }
+    ensures declined { (head : RequestHead) (s : SubmittedRequest) → may_have_stale head s.mode ≡ true → (turn head (stages.Submitting s) (events.Declined true)).commands ≡ gives_one head answers.Stale }
+    ensures failed { (head : RequestHead) (w : Waiter) (f : NodeFailure) → f.is_long ≡ false → (turn head (stages.Waiting w) (events.Answered (outcomes.Failed f))).commands ≡ gives_one head (answers.Own f.status) }
+    ensures passed { (head : RequestHead) (content : Content) (p : AnswerHead) → p.has_many_options ≡ false → count_by (answers_so is_passed_one) (turn head (stages.Passing content) (events.Passed (passages.Head p))).commands ≡ 1 }
+    ensures tunnel { (head : RequestHead) → (turn head stages.Opening (events.Tunnelled tunnels.Opened)).commands ≡ gives_one head answers.Tunnel }
+{}
+
+/// A request joins a fetch only where it was found to, and nothing has changed what is being fetched; it is answered from the store alone only
+/// where it wants that; the whole is fetched for all only for the third that wants a part; and an answer is given while it is collected only to
+/// who began to fetch it.
+pub fn what_is_asked_for()
+    ensures shared { IsOnlyBy (is_submit_so wants_shared) lets_join }
+    ensures stored { IsOnlyBy (is_submit_so wants_stored) lets_use_stored }
+    ensures whole { IsOnlyBy is_fetch_for_all is_for_part }
+    ensures streamed { (head : RequestHead) (stage : Stage) (event : Event) → 0 < count_by is_stream (turn head stage event).commands → may_stream head event ≡ true }
+{}
+
+/// A status of the proxy's own says what has happened: 508 that the request has come back, 403 that its server or port is not allowed, 414 that
+/// its target is too long, 413 that its content is, 504 that no answer has come in time or none may be fetched, 501 that what it asks for is not
+/// done here; or it was told to the proxy. None is a success, unless it was told.
+pub fn statuses()
+    ensures back { IsOnlyBy (answers_so (is_own 508)) (λ event. tells_so (λ status. status == 508) event || came_back event) }
+    ensures forbidden { IsOnlyBy (answers_so (is_own 403)) (λ event. tells_so (λ status. status == 403) event || is_forbidden event) }
+    ensures long { IsOnlyBy (answers_so (is_own 414)) (λ event. tells_so (λ status. status == 414) event || is_long_one event) }
+    ensures large { IsOnlyBy (answers_so (is_own 413)) (λ event. tells_so (λ status. status == 413) event || is_large event) }
+    ensures late { IsOnlyBy (answers_so (is_own 504)) (λ event. tells_so (λ status. status == 504) event || is_late event) }
+    ensures unserved { IsOnlyBy (answers_so (is_own 501)) (λ event. tells_so (λ status. status == 501) event || is_unserved event) }
+    ensures errors { IsOnlyBy (answers_so is_own_success) (tells_so (λ status. nat_lt status 400)) }
+{}
+
+/// What was passed on, and a tunnel that is opened, ends by itself while its client is there, or is ended, or goes on now: none is left open.
+pub fn nothing_stays_open()
+    ensures { (events : List Event) → moves_where opened_in unborn events ≡ times is_cancel events + moves_where ended_in unborn events + one (is_open (after unborn events).stage) }
 {}
 
 /// A request has at most one answer, and exactly one once it is over and its client has stayed. Once it has one, nothing more is done for it
@@ -67,31 +147,35 @@ pub fn passed_on()
 /// connected to. Once its client has gone or has broken its content, it has changed nothing where the server says neither 2xx or 3xx, or says
 /// nothing and has not got all of it: what a client has broken, or left before all of it was sent, takes nothing out without an answer 2xx or
 /// 3xx; what was sent whole does so without one only where none came within five seconds, or the server was lost. Nothing is taken out but by
-/// the word of a server, or for want of it.
+/// the word of a server, or for want of it; what an answer 2xx or 3xx says is taken out by that, and nothing else is.
 pub fn changes_are_taken_out()
     ensures balanced { (events : List Event) → moves_where sent_unsafe unborn events ≡ times is_take_out events + moves_where unchanged_unsafe unborn events + pending_unsafe (after unborn events) }
     ensures caused { IsOnlyBy is_take_out ends_passage }
+    ensures answered { IsOnlyBy takes_by_answer has_answered }
+    ensures known { (head : RequestHead) (content : Content) (p : AnswerHead) → head.is_unsafe ≡ true → says_done p.status ≡ true → count_by takes_by_answer (turn head (stages.Passing content) (events.Passed (passages.Head p))).commands ≡ 1 }
     ensures broken { (head : RequestHead) (later : List Event) → AllByRecursion (λ event. says_nothing event ≡ true) later → count_by is_take_out (orders (life_at head (stages.Passing contents.Coming)) (events.UploadBroken ∷ later)) ≡ 0 }
     ensures unsent { (head : RequestHead) (content : Content) (later : List Event) → is_to_send content ≡ true → AllByRecursion (λ event. says_nothing_unsent event ≡ true) later → count_by is_take_out (orders (life_at head (stages.Passing content)) (events.Left ∷ later)) ≡ 0 }
     ensures whole { (head : RequestHead) (later : List Event) → AllByRecursion (λ event. says_nothing_in_time event ≡ true) later → count_by is_take_out (orders (life_at head (stages.Passing contents.Sent)) (events.Left ∷ later)) ≡ 0 }
 {}
 
 /// A server is connected to for a tunnel at most once, and only where the tunnel may lead there; the client is told that it is open only
-/// where it is. After an answer in place of it, and after one before all of a content has come, the connection ends; after
-/// no other does it, where its client hasn't asked for that.
+/// where it is. After an answer in place of it, and after one before all of a content has come, the connection ends, and where its client
+/// has asked for that; after no other does it.
 pub fn tunnels()
     ensures once { (events : List Event) → times is_open_tunnel events ≤ 1 }
     ensures aimed { IsOnlyBy is_open_tunnel aims_well }
     ensures opened { IsOnlyBy (answers_so is_tunnel) is_opened }
     ensures closed { (head : RequestHead) (stage : Stage) (event : Event) → count_by (λ c. must_close head stage event && goes_on c) (turn head stage event).commands ≡ 0 }
+    ensures asked { (head : RequestHead) (stage : Stage) (event : Event) → count_by (λ c. goes_on c && head.is_last) (turn head stage event).commands ≡ 0 }
     ensures others { (head : RequestHead) (stage : Stage) (event : Event) → count_by (λ c. ends_connection_by c && not (must_close head stage event || head.is_last)) (turn head stage event).commands ≡ 0 }
 {}
 
 /// A stored object is given only where the request accepts it at its age and life, as it is given (RFC 9111, section 5.2.1), and a stale one
-/// only where that was found to be allowed.
+/// only where that was found to be allowed, and in place of a fetch never to who counts on an answer that has come by its origin.
 pub fn stored_answers()
     ensures hits { IsOnlyBy (answers_so is_hit) is_met_hit }
     ensures stale { IsOnlyBy (answers_so is_stale) has_stale }
+    ensures marked { (head : RequestHead) (stage : Stage) (event : Event) → is_submitted stage ≡ true → head.has_loop_marks ≡ true → count_by (answers_so is_stale) (turn head stage event).commands ≡ 0 }
 {}
 
 /// A request that has come back, or whose host may not be fetched from, goes nowhere (RFC 8586). One that wants what is stored alone has

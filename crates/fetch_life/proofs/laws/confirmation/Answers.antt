@@ -1,3 +1,4 @@
+use Rattle.fetch_life.proofs.Whole.{unasked_is_asked_on, shared_is_unnoted}
 use Rattle.fetch_life.proofs.Whole.{unasked_is_unconfirmed, other_is_unconfirmed, unasked_has_no_conditions, neighbour_has_no_conditions, odd_is_nothing}
 use Rattle.fetch_life.proofs.laws.confirmation.Goals as goal
 
@@ -15,3 +16,9 @@ returns-clause-neighbours c = neighbour_has_no_conditions
 
 pub returns-clause-others : goal.returns-clause-others
 returns-clause-others c = odd_is_nothing
+
+pub returns-clause-asked_no_more : goal.returns-clause-asked_no_more
+returns-clause-asked_no_more c = unasked_is_asked_on
+
+pub returns-clause-noted : goal.returns-clause-noted
+returns-clause-noted c = shared_is_unnoted

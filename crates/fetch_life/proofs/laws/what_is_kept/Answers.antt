@@ -1,3 +1,4 @@
+use Rattle.fetch_life.proofs.Whole.{shelf_stays}
 use Rattle.fetch_life.proofs.Whole.{kept_is_unchanged, private_is_unkept, neighbour_is_unshelved, changed_is_unkept}
 use Rattle.fetch_life.proofs.laws.what_is_kept.Goals as goal
 
@@ -12,3 +13,6 @@ returns-clause-shelf c = neighbour_is_unshelved
 
 pub returns-clause-changed : goal.returns-clause-changed
 returns-clause-changed c = changed_is_unkept
+
+pub returns-clause-stays : goal.returns-clause-stays
+returns-clause-stays c = shelf_stays

@@ -1,3 +1,5 @@
+use Rattle.request_life.proofs.Whole.{by_answer_by}
+use Rattle.request_life.proofs.Served.{done_is_taken_out}
 use Rattle.request_life.proofs.Whole.{takes_out, take_out_by, broken_takes_none, unsent_takes_none, whole_takes_none}
 use Rattle.request_life.proofs.laws.changes_are_taken_out.Goals as goal
 
@@ -15,3 +17,9 @@ returns-clause-unsent c = unsent_takes_none
 
 pub returns-clause-whole : goal.returns-clause-whole
 returns-clause-whole c = whole_takes_none
+
+pub returns-clause-answered : goal.returns-clause-answered
+returns-clause-answered c = by_answer_by
+
+pub returns-clause-known : goal.returns-clause-known
+returns-clause-known c = done_is_taken_out

@@ -1,3 +1,4 @@
+use Rattle.request_life.proofs.Whole.{last_is_last}
 use Rattle.request_life.proofs.Whole.{opens_once, open_by, tunnel_by, closes_after, ends_only_there}
 use Rattle.request_life.proofs.laws.tunnels.Goals as goal
 
@@ -15,3 +16,6 @@ returns-clause-closed c = closes_after
 
 pub returns-clause-others : goal.returns-clause-others
 returns-clause-others c = ends_only_there
+
+pub returns-clause-asked : goal.returns-clause-asked
+returns-clause-asked c = last_is_last
