@@ -1,7 +1,7 @@
 //! Which argument lists ask for something of this crate, and for what.
-ghost use Rattle.std.specs.Prelude.{◌≡◌, None, Ok, false, drop, string_bytes};
+ghost use Rattle.std.specs.Prelude.{◌≡◌, IfOk, IfSome, IsSomeAnd, None, Ok, false, drop, map, option_map, string_bytes, true};
 ghost use Rattle.std.specs.List.{list_any};
-ghost use Rattle.command_line.specs.Asking.{is_asking_word};
+ghost use Rattle.command_line.specs.Asking.{IsConfiguration, IsText, asks_for_text, checked, checked_in, is_asking_word, is_text_word, is_version_word};
 
 use crate::commands::program;
 use clap::error::ErrorKind;
@@ -26,11 +26,59 @@ pub fn asked<'a>(
     version: &'a str,
     words: &'a [String],
 ) -> Result<Option<Question<'a>>, AllocError>
-    ensures { list_any (λ word. is_asking_word (string_bytes word)) (drop 1 words.entry.now) ≡ false → result ≡ Ok None }
+    ensures none { list_any (λ word. is_asking_word (string_bytes word)) (drop 1 words.entry.now) ≡ false → result ≡ Ok None }
+    ensures text { asks_for_text (map string_bytes words.entry.now) ≡ true → IfOk result (λ question. IsSomeAnd question IsText) }
+    ensures check { IfSome (checked (map string_bytes words.entry.now)) (λ file. IfOk result (λ question. IsSomeAnd question (IsConfiguration file))) }
 {
     if !is_asking(words) {
         return Ok(None);
     }
+    match words {
+        [_, word] if is_text_word(word.as_str()) => Ok(Some(told(alloc, version, word.as_str())?)),
+        [_, command, one, other] => match checked_in(command.as_str(), one.as_str(), other.as_str()) {
+            Some(file) => Ok(Some(Question::Configuration(file))),
+            None => taken_apart(alloc, version, words),
+        },
+        _ => taken_apart(alloc, version, words),
+    }
+}
+
+// The text that one of the words for a text asks for alone.
+fn told<'a>(alloc: Global, version: &str, word: &str) -> Result<Question<'a>, AllocError>
+    ensures { IfOk result IsText }
+{
+    let mut command = program(alloc, version)?;
+    let text = if is_version_word(word) {
+        command.render_version()
+    } else {
+        command.render_help()
+    };
+    drop(command);
+    Ok(Question::Text(text?))
+}
+
+// The configuration that `serve --check` is to check, where these are the words after the program's name. A word that may be an option is
+// left to `clap`.
+fn checked_in<'a>(command: &str, one: &'a str, other: &'a str) -> Option<&'a str>
+    ensures { option_map (λ file. file.now) result ≡ checked_in command.now one.now other.now }
+{
+    if command != "serve" {
+        None
+    } else if one == "--check" && !other.starts_with('-') {
+        Some(other)
+    } else if other == "--check" && !one.starts_with('-') {
+        Some(one)
+    } else {
+        None
+    }
+}
+
+// What a command line asks for, as `clap` takes it apart. Errors: out of memory.
+fn taken_apart<'a>(
+    alloc: Global,
+    version: &'a str,
+    words: &'a [String],
+) -> Result<Option<Question<'a>>, AllocError> {
     let mut command = program(alloc, version)?;
     let found = command.try_get_matches_from_mut(words);
     drop(command);
@@ -92,6 +140,20 @@ fn is_asking_word(word: &str) -> bool
         word,
         "help" | "--help" | "-h" | "--version" | "-V" | "--check"
     )
+}
+
+// Whether a word alone asks for a text: a help text, or the version.
+fn is_text_word(word: &str) -> bool
+    ensures { result ≡ is_text_word word.now }
+{
+    is_version_word(word) || matches!(word, "help" | "--help" | "-h")
+}
+
+// Whether a word asks for the version.
+fn is_version_word(word: &str) -> bool
+    ensures { result ≡ is_version_word word.now }
+{
+    matches!(word, "--version" | "-V")
 }
 
 // The configuration file to check, if the command is `serve --check`.
