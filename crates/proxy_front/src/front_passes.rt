@@ -1,6 +1,5 @@
 //! Client requests that are passed on without the node, and tunnels.
 use crate::front::{NodeFront, check_host};
-use forwarding::{Destination, Field, Profile};
 use futures::channel::{mpsc, oneshot};
 use http_header::HeaderMap;
 use http_rules::{
@@ -10,10 +9,11 @@ use http_traffic::{
     Asked, Change, Coming, PassFault, Passage, PassedHead, Passing, Piece, Road, Server, Ticket,
     Told, TunnelEnd, address_in_digits,
 };
-use node_core::Mode;
+use node_words::Mode;
 use object_store::CacheKey;
 use proxy_state::{
-    Onwards, Places, Shared, TakeEvents, add_values, status_of, tell_not_taken, withdraw,
+    Destination, Field, Onwards, Places, Profile, Shared, TakeEvents, add_values, status_of,
+    tell_not_taken, withdraw,
 };
 use std::alloc::{AllocError, Global};
 use std::net::{IpAddr, Ipv4Addr, SocketAddr, SocketAddrV4};

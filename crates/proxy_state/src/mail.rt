@@ -1,12 +1,13 @@
 //! Waiting clients and fetches under way.
+use crate::in_flight::{Flight, Unwanted};
+use crate::mailbox::{Field, Mailbox};
 use crate::unjoined::UnjoinedKeys;
 use fair_use::SharedEnd;
 use filter_slots::Moment;
-use forwarding::{Field, Flight, Mailbox, Unwanted};
 use futures::channel::oneshot;
 use http_traffic::Progress;
+use node_words::MAX_PENDING_FETCHES;
 use object_store::{CacheKey, KeyHashes, SharedObject};
-use plain_node::MAX_PENDING_FETCHES;
 use std::alloc::{AllocError, Global};
 use std::net::IpAddr;
 use std::sync::atomic::{AtomicBool, Ordering};

@@ -3,7 +3,7 @@ use Rattle.std.specs.Prelude.{◌≡◌, ℕ, length, List, codes, Option, optio
 use Rattle.std.specs.String.{string_bytes}
 use Rattle.neighbours.specs.declared.neighbour.Neighbour.{Neighbour}
 use Rattle.neighbours.specs.declared.key.Key.{Key}
-use Rattle.plain_node.specs.declared.config.Config.{Config}
+use Rattle.node_words.specs.declared.config.Config.{Config}
 use Rattle.serde_json.specs.Data.{Data}
 use Rattle.serve_config.specs.Addresses.{IsHost}
 use Rattle.serve_config.specs.Files.{AreFiles}

@@ -5,12 +5,13 @@ ghost use Rattle.serve_config.specs.Parts.{AreNodeKeys, IsFrame};
 ghost use Rattle.serve_config.specs.Settings.{IsNode};
 
 use crate::fault::Fault;
-use crate::filters::{FilterFile, filters};
+use crate::filters::filters;
 use crate::group::{keys, neighbours};
 use crate::place::Place;
 use crate::value::{address, networks, number, port, truth};
+use filter_text::FilterFile;
 use neighbours::End;
-use node_core::Config;
+use node_words::Config;
 use serde_json::Value;
 use std::alloc::Global;
 

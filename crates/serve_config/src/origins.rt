@@ -9,7 +9,7 @@ ghost use Rattle.serve_config.specs.Said.{MaySay, listed};
 use crate::fault::Fault;
 use crate::place::Place;
 use crate::value::{list, network, ports_in, prefix_of, truth_or_false};
-use node_core::Network;
+use node_words::Network;
 use serde_json::Value;
 use std::alloc::{AllocError, Global};
 use std::net::Ipv6Addr;

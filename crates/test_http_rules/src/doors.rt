@@ -7,7 +7,7 @@ use http_header::HeaderMap;
 use http_rules::{
     OriginRules, SixEnd, SixNetwork, has_come_back, is_authorized, loop_mark, usual_denials,
 };
-use node_core::Network;
+use node_terms::Network;
 use std::alloc::Global;
 use std::net::SocketAddr;
 use std::process::Abort;

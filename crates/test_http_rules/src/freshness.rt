@@ -5,7 +5,7 @@ use crate::heads::head_of;
 use crate::rows::{NO_MEMORY, OfHead, Question, all_hold, heads_hold};
 use http_header::HeaderMap;
 use http_rules::{Kept, RefreshRule, Stored, UrlPlace, accepts, choose, may_keep};
-use node_core::Mode;
+use node_terms::Mode;
 use std::alloc::Global;
 use std::process::Abort;
 

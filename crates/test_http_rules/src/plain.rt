@@ -5,7 +5,7 @@ use crate::heads::{Field, head_of};
 use crate::rows::{NO_MEMORY, Question, all_hold};
 use http_header::HeaderMap;
 use http_rules::{StoredAnswer, answer_to, choose, classify, has_come_back, is_plain_request};
-use node_core::Mode;
+use node_terms::Mode;
 use std::alloc::Global;
 use std::process::Abort;
 

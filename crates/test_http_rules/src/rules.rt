@@ -4,7 +4,7 @@ use crate::heads::{Field, head_of};
 use crate::rows::{NO_MEMORY, OfHead, Question, all_hold, heads_hold};
 use http_header::HeaderMap;
 use http_rules::{PassFault, TargetFault, classify, end_to_end, key_of, may_store};
-use node_core::Mode;
+use node_terms::Mode;
 use std::alloc::Global;
 use std::process::Abort;
 
