@@ -1,16 +1,7 @@
 -- The words of an argument list that ask something of the program about itself. 45 is a dash.
-use Rattle.std.specs.Prelude.{ℕ, ◌≡◌, ◌==◌, ◌&&◌, ◌||◌, List, [], ◌∷◌, codes, bytes_eq, not, slice_index, if◌then◌else◌, Bool, false, Option, Some, None}
-use Rattle.std.specs.List.{list_any}
+use Rattle.std.specs.Prelude.{ℕ, ◌≡◌, ◌==◌, ◌&&◌, ◌||◌, List, [], ◌∷◌, codes, bytes_eq, not, slice_index, ⊤, if◌then◌else◌, Bool, false, Option, Some, None}
 use Rattle.commands.specs.declared.asking.Question.{Question}
 use Rattle.commands.specs.declared.asking.Question.TheVariants.{Text, Configuration}
-
--- the words that ask for a help text, for the version, and for a check of a configuration
-abbrev pub asking_words : List (List ℕ)
-asking_words = codes "help" ∷ codes "--help" ∷ codes "-h" ∷ codes "--version" ∷ codes "-V" ∷ codes "--check" ∷ []
-
--- whether a word is one of them
-abbrev pub is_asking_word : List ℕ → Bool
-is_asking_word word = list_any (bytes_eq word) asking_words
 
 -- the words that ask for the version, and for a text: the version or a help text
 abbrev pub is_version_word : List ℕ → Bool
@@ -19,6 +10,10 @@ is_version_word word = bytes_eq word (codes "--version") || bytes_eq word (codes
 abbrev pub is_text_word : List ℕ → Bool
 is_text_word word =
     is_version_word word || bytes_eq word (codes "help") || bytes_eq word (codes "--help") || bytes_eq word (codes "-h")
+
+-- the words that ask for a text, or for a check of a configuration
+abbrev pub is_asking_word : List ℕ → Bool
+is_asking_word word = is_text_word word || bytes_eq word (codes "--check")
 
 -- whether an argument list, which begins with the program's name, has one of these words and no other
 abbrev pub asks_for_text : List (List ℕ) → Bool

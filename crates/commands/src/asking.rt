@@ -1,5 +1,5 @@
 //! Which argument lists ask for something of this crate, and for what.
-ghost use Rattle.std.specs.Prelude.{◌≡◌, IfOk, IfSome, IsSomeAnd, None, Ok, false, drop, map, option_map, string_bytes, true};
+ghost use Rattle.std.specs.Prelude.{◌≡◌, IfOk, IfSome, IsSomeAnd, None, Ok, false, drop, is_some, map, option_map, string_bytes, true};
 ghost use Rattle.std.specs.List.{list_any};
 ghost use Rattle.commands.specs.Asking.{IsConfiguration, IsText, asks_for_text, checked, checked_in, is_asking_word, is_text_word, is_version_word};
 
@@ -21,6 +21,7 @@ pub enum Question<'a> {
 /// `version` is what `--version` tells.
 ///
 /// Errors: out of memory.
+#[tactic(auto, using(crate::proofs::Asked::text_asks, crate::proofs::Asked::check_asks))]
 pub fn asked<'a>(
     alloc: Global,
     version: &'a str,
@@ -33,13 +34,22 @@ pub fn asked<'a>(
     if !is_asking(words) {
         return Ok(None);
     }
+    if let Some(word) = text_word(words) {
+        return Ok(Some(told(alloc, version, word)?));
+    }
+    if let Some(file) = checked_file(words) {
+        return Ok(Some(Question::Configuration(file)));
+    }
+    taken_apart(alloc, version, words)
+}
+
+// The word for a text that stands alone behind the program's name.
+fn text_word<'a>(words: &'a [String]) -> Option<&'a str>
+    ensures { is_some result ≡ asks_for_text (map string_bytes words.entry.now) }
+{
     match words {
-        [_, word] if is_text_word(word.as_str()) => Ok(Some(told(alloc, version, word.as_str())?)),
-        [_, command, one, other] => match checked_in(command.as_str(), one.as_str(), other.as_str()) {
-            Some(file) => Ok(Some(Question::Configuration(file))),
-            None => taken_apart(alloc, version, words),
-        },
-        _ => taken_apart(alloc, version, words),
+        [_, word] if is_text_word(word.as_str()) => Some(word.as_str()),
+        _ => None,
     }
 }
 
@@ -57,8 +67,17 @@ fn told<'a>(alloc: Global, version: &str, word: &str) -> Result<Question<'a>, Al
     Ok(Question::Text(text?))
 }
 
-// The configuration that `serve --check` is to check, where these are the words after the program's name. A word that may be an option is
-// left to `clap`.
+// The configuration that `serve --check` is to check, if that is what an argument list asks for.
+fn checked_file<'a>(words: &'a [String]) -> Option<&'a str>
+    ensures { option_map (λ file. file.now) result ≡ checked (map string_bytes words.entry.now) }
+{
+    match words {
+        [_, command, one, other] => checked_in(command.as_str(), one.as_str(), other.as_str()),
+        _ => None,
+    }
+}
+
+// The same of the words after the program's name. A word that may be an option is left to `clap`.
 fn checked_in<'a>(command: &str, one: &'a str, other: &'a str) -> Option<&'a str>
     ensures { option_map (λ file. file.now) result ≡ checked_in command.now one.now other.now }
 {
@@ -136,10 +155,7 @@ fn has_asking_word(words: &[String]) -> bool
 fn is_asking_word(word: &str) -> bool
     ensures { result ≡ is_asking_word word.now }
 {
-    matches!(
-        word,
-        "help" | "--help" | "-h" | "--version" | "-V" | "--check"
-    )
+    is_text_word(word) || word == "--check"
 }
 
 // Whether a word alone asks for a text: a help text, or the version.
