@@ -14,11 +14,11 @@ use Rattle.serve_config.specs.Said.{each_of}
 use Rattle.serve_config.specs.declared.origins.SixNetwork.{SixNetwork}
 
 -- one value more
-pub more : {X : Type 0} (Is : Data → X → Type 0) (values : List Value) (i : ℕ) (value d : Value) (xs : List X) (x : X) → i < length values
-    → value ≡ slice_index_or values i d → AllZip Is (map view (take i values)) xs → Is (view value) x
-    → AllZip Is (map view (take (i + 1) values)) (xs ++ x ∷ [])
-more Is values i value d xs x below there all this =
-    rw (map_more view values i d below, ← there) (all_zipped_more Is (map view (take i values)) xs (view value) x all this)
+pub more : {X : Type 0} (Is : Data → X → Type 0) (values : List Value) (i : ℕ) (value : Value) (xs after : List X) (x : X) → i < length values
+    → value ≡ slice_index_or values i value → after ≡ xs ++ x ∷ [] → AllZip Is (map view (take i values)) xs → Is (view value) x
+    → AllZip Is (map view (take (i + 1) values)) after
+more Is values i value xs after x below there pushed all this =
+    rw (pushed, map_more view values i value below, ← there) (all_zipped_more Is (map view (take i values)) xs (view value) x all this)
 
 -- the values of a list of values
 pub values_of_items : (values : List Data) → each_of (items_of values) ≡ values
@@ -39,11 +39,11 @@ adds (v ∷ values) value four six four' six' (inr (m, rest, e, is, all)) (inl (
 adds (v ∷ values) value four six four' six' (inr (m, rest, e, is, all)) (inr (n, e', f', this)) =
     inr (m, rest ++ n ∷ [], rw (f', e) refl, is, adds values value four rest four' (rest ++ n ∷ []) all (inr (n, e', refl, this)))
 
-pub denied_more : (values : List Value) (i : ℕ) (value d : Value) (four : List Network) (six : List SixNetwork) (four' : List Network) (six' : List SixNetwork)
-    → i < length values → value ≡ slice_index_or values i d → AreDenied (map view (take i values)) four six
+pub denied_more : (values : List Value) (i : ℕ) (value : Value) (four : List Network) (six : List SixNetwork) (four' : List Network) (six' : List SixNetwork)
+    → i < length values → value ≡ slice_index_or values i value → AreDenied (map view (take i values)) four six
     → AddsNetwork (view value) four six four' six' → AreDenied (map view (take (i + 1) values)) four' six'
-denied_more values i value d four six four' six' below there all this =
-    rw (map_more view values i d below, ← there) (adds (map view (take i values)) (view value) four six four' six' all this)
+denied_more values i value four six four' six' below there all this =
+    rw (map_more view values i value below, ← there) (adds (map view (take i values)) (view value) four six four' six' all this)
 
 -- what is given of the denied networks is all of them
 pub given_all : (listed : Option (List Data)) (four : Option (List Network)) (six : Option (List SixNetwork)) (fours : List Network) (sixes : List SixNetwork)
