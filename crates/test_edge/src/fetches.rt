@@ -307,9 +307,7 @@ where
 {
     let alloc = rt.alloc();
     let mut rules = fetch_rules(alloc, 1000)?;
-    rules.admit = AllBut {
-        port: server.port(),
-    };
+    rules.admit = AllBut::at(alloc, server.port())?;
     let (jobs, work) = unbounded(alloc)?;
     let refused = ask(&rt, alloc, &jobs, Some(server), 0, "/good")?;
     let taken = ask_neighbour(&rt, alloc, &jobs, server)?;

@@ -2,9 +2,11 @@
 ghost use Rattle.std.specs.Prelude.{◌<◌};
 
 use client_streams::{ClientLimits, StreamTimeouts};
+use filter_slots::End;
 use http_clients::ServeLimits;
 use http_fetches::{Budget, FetchLimits, FetchRules};
 use http_traffic::Admit;
+use origin_rules::{AdmittedOrigin, OriginRules};
 use server_connections::{KeptShare, ServerConnections};
 use std::alloc::{AllocError, Global};
 use std::net::SocketAddr;
@@ -52,15 +54,30 @@ pub(crate) fn fetch_limits(octets: usize, connecting: Duration) -> FetchLimits
     }
 }
 
-/// Admits every origin server but those at one port.
+/// Admits every origin server but those at one port of 127.0.0.1.
 #[derive(Drop)]
 pub(crate) struct AllBut {
-    pub(crate) port: u16,
+    rules: OriginRules,
+}
+
+impl AllBut {
+    /// All but those at this port. Errors: out of memory.
+    pub(crate) fn at(alloc: Global, port: u16) -> Result<AllBut, AllocError> {
+        let addr = [127, 0, 0, 1];
+        let rules = OriginRules {
+            own: vec![in alloc; End { addr, port }]?,
+            denied: Vec::new(alloc),
+            ports: None,
+            denied_six: None,
+            own_six: None,
+        };
+        Ok(AllBut { rules })
+    }
 }
 
 impl Admit for AllBut {
-    fn admits(&self, server: SocketAddr) -> bool {
-        server.port() != self.port
+    fn admitted(&self, server: SocketAddr) -> Option<AdmittedOrigin> {
+        self.rules.admitted(server)
     }
 }
 
@@ -71,6 +88,6 @@ pub(crate) fn fetch_rules(alloc: Global, octets: usize) -> Result<FetchRules<All
     Ok(FetchRules {
         budget: Arc::new(alloc, Budget::new(alloc, octets, wanted))?,
         kept: KeptShare::new(&servers, 0)?,
-        admit: AllBut { port: 0 },
+        admit: AllBut::at(alloc, 0)?,
     })
 }

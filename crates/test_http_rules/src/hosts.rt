@@ -2,8 +2,10 @@
 
 use crate::rows::{NO_MEMORY, Question, all_hold};
 use http_rules::{
-    has_long_name, is_for_server, is_host, is_short_token, key_of, usual_six_denials, written_name,
+    destination_of, has_long_name, is_for_server, is_host, is_short_token, key_of,
+    usual_six_denials, written_name,
 };
+use object_store::CacheKey;
 use std::alloc::Global;
 use std::net::Ipv6Addr;
 use std::process::Abort;
@@ -221,4 +223,110 @@ impl Question<(&'static str, bool)> for IsMetadata {
 #[test]
 fn metadata_of_clouds(rt: HostRuntime) {
     all_hold(&rt, rt.alloc(), &METADATA, &IsMetadata);
+}
+
+// A key, and the name, port, value of Host and target that it leads to.
+type Led = (&'static str, &'static str, u16, &'static str, &'static str);
+
+const DESTINATIONS: [Led; 12] = [
+    ("http://a/", "a", 80, "a", "/"),
+    (
+        "http://a.example/b/c?d=/e:1",
+        "a.example",
+        80,
+        "a.example",
+        "/b/c?d=/e:1",
+    ),
+    ("http://a:8080/b", "a", 8080, "a:8080", "/b"),
+    ("http://a:65535/", "a", 65535, "a:65535", "/"),
+    ("http://a", "a", 80, "a", "/"),
+    ("http://a:81", "a", 81, "a:81", "/"),
+    (
+        "http://192.0.2.1:81/x",
+        "192.0.2.1",
+        81,
+        "192.0.2.1:81",
+        "/x",
+    ),
+    ("http://[::1]/", "[::1]", 80, "[::1]", "/"),
+    (
+        "http://[2001:db8::7]:8080/x",
+        "[2001:db8::7]",
+        8080,
+        "[2001:db8::7]:8080",
+        "/x",
+    ),
+    ("http://a/@b:1/", "a", 80, "a", "/@b:1/"),
+    ("http://a/http://b:1/c", "a", 80, "a", "/http://b:1/c"),
+    ("http://a/[::1]:9", "a", 80, "a", "/[::1]:9"),
+];
+
+#[derive(Clone, Copy)]
+struct LeadsTo;
+
+fn is_led(key: &CacheKey, row: &Led) -> bool {
+    match destination_of(key) {
+        Some(end) => {
+            end.name == row.1.as_bytes()
+                && end.port == row.2
+                && end.host == row.3.as_bytes()
+                && end.target == row.4.as_bytes()
+        }
+        None => false,
+    }
+}
+
+impl Question<Led> for LeadsTo {
+    fn holds<R: Abort>(&self, rt: &R, alloc: Global, row: &Led) -> bool {
+        let octets = row.0.as_bytes().to_vec(alloc).expect(rt, NO_MEMORY);
+        match CacheKey::new(alloc, octets) {
+            Ok(key) => {
+                let is_led = is_led(&key, row);
+                drop(key);
+                is_led
+            }
+            Err(refused) => {
+                drop(refused);
+                false
+            }
+        }
+    }
+}
+
+#[test]
+fn destinations_of_keys(rt: HostRuntime) {
+    all_hold(&rt, rt.alloc(), &DESTINATIONS, &LeadsTo);
+}
+
+// Keys whose port is no number of 16 bits, so that they lead nowhere.
+const NOWHERE: [(&str, bool); 4] = [
+    ("http://a:65536/", true),
+    ("http://a:/", true),
+    ("http://a:b/", true),
+    ("http://[::1]80/", true),
+];
+
+#[derive(Clone, Copy)]
+struct LeadsNowhere;
+
+impl Question<(&'static str, bool)> for LeadsNowhere {
+    fn holds<R: Abort>(&self, rt: &R, alloc: Global, row: &(&'static str, bool)) -> bool {
+        let octets = row.0.as_bytes().to_vec(alloc).expect(rt, NO_MEMORY);
+        match CacheKey::new(alloc, octets) {
+            Ok(key) => {
+                let is_nowhere = destination_of(&key).is_none();
+                drop(key);
+                is_nowhere == row.1
+            }
+            Err(refused) => {
+                drop(refused);
+                false
+            }
+        }
+    }
+}
+
+#[test]
+fn keys_that_lead_nowhere(rt: HostRuntime) {
+    all_hold(&rt, rt.alloc(), &NOWHERE, &LeadsNowhere);
 }

@@ -1,8 +1,7 @@
 //! What is passed on beside the node: where a tunnel leads, which fields go along, and what becomes stale.
 use crate::heads::{Field, head_of};
 use crate::rows::{NO_MEMORY, Question, all_hold};
-use http_rules::{Onward, authority_of, changed_keys, is_unsafe, key_of, onward};
-use object_store::CacheKey;
+use http_rules::{Changed, Onward, authority_of, changed_keys, is_unsafe, key_of, onward};
 use std::alloc::Global;
 use std::process::Abort;
 
@@ -313,34 +312,32 @@ const CHANGES: [Change; 27] = [
     ),
 ];
 
-// The keys, with a blank behind each.
-fn text_of<R: Abort>(rt: &R, alloc: Global, keys: &[CacheKey]) -> String {
-    let mut text = String::new(alloc);
-    for key in keys {
-        add_text(rt, &mut text, key.as_slice(), " ");
-    }
-    text
-}
-
-// The keys that become stale.
-fn stale<R: Abort>(rt: &R, alloc: Global, row: &Change) -> Vec<CacheKey> {
+// The keys that become stale, with a blank behind each.
+fn stale<R: Abort>(rt: &R, alloc: Global, row: &Change) -> String {
     let key = key_of(alloc, row.0).expect(rt, "no key");
     let head = head_of(rt, alloc, row.3);
-    let keys = changed_keys(alloc, &key, row.1, row.2, &head).expect(rt, NO_MEMORY);
+    let Changed { own, others } = changed_keys(alloc, &key, row.1, row.2, &head);
+    let others = others.expect(rt, NO_MEMORY);
+    let mut text = String::new(alloc);
+    if own {
+        add_text(rt, &mut text, key.as_slice(), " ");
+    }
+    for other in &others {
+        add_text(rt, &mut text, other.as_slice(), " ");
+    }
+    drop(others);
     drop(head);
     drop(key);
-    keys
+    text
 }
 
 struct StaleKeys;
 
 impl Question<Change> for StaleKeys {
     fn holds<R: Abort>(&self, rt: &R, alloc: Global, row: &Change) -> bool {
-        let keys = stale(rt, alloc, row);
-        let text = text_of(rt, alloc, keys.as_slice());
+        let text = stale(rt, alloc, row);
         let holds = text.as_str() == row.4;
         drop(text);
-        drop(keys);
         holds
     }
 }

@@ -3,7 +3,7 @@
 use crate::heads::{Field, head_of};
 use crate::rows::{NO_MEMORY, OfHead, Question, all_hold, heads_hold};
 use http_header::HeaderMap;
-use http_rules::{PassFault, TargetFault, classify, end_to_end, key_of, may_store};
+use http_rules::{PassFault, Storable, TargetFault, classify, end_to_end, key_of, may_store};
 use node_terms::Mode;
 use std::alloc::Global;
 use std::process::Abort;
@@ -126,6 +126,45 @@ impl OfHead<Option<u32>> for LifeOf {
 #[test]
 fn lives(rt: HostRuntime) {
     heads_hold(&rt, rt.alloc(), &LIVES, &LifeOf);
+}
+
+// The fields of a response that comes at once, and for how long it may be stored by either set of rules.
+const STORABLE: [Life; 5] = [
+    ("Cache-Control: max-age=60\nContent-Length: 5", Some(60)),
+    (
+        "Cache-Control: max-age=60\nTransfer-Encoding: chunked",
+        Some(60),
+    ),
+    // Its body ends with its connection.
+    ("Cache-Control: max-age=60", None),
+    (
+        "Cache-Control: private, max-age=60\nContent-Length: 5",
+        None,
+    ),
+    ("Content-Length: 5", None),
+];
+
+// For how long a response may be stored, if there is something to show for that.
+fn life_by(storable: Option<Storable<'_>>) -> Option<u32> {
+    match storable {
+        Some(storable) => Some(storable.life()),
+        None => None,
+    }
+}
+
+struct MayBeStored;
+
+impl OfHead<Option<u32>> for MayBeStored {
+    fn is_answer(&self, head: &HeaderMap, answer: &Option<u32>) -> bool {
+        let published = Storable::by_published_rules(Mode::Shared, 200, head);
+        let kept = Storable::by_rfc9111_rules(Mode::Shared, b"http://a/", 200, head, 0, 0, &[]);
+        life_by(published) == *answer && life_by(kept) == *answer
+    }
+}
+
+#[test]
+fn what_may_be_stored(rt: HostRuntime) {
+    heads_hold(&rt, rt.alloc(), &STORABLE, &MayBeStored);
 }
 
 // A target, and its key.

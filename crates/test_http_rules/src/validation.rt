@@ -4,7 +4,10 @@ pub(crate) use crate::heads::fields_of as stored;
 use crate::heads::{Field, head_of};
 use crate::rows::{NO_MEMORY, OfHead, Question, all_hold, heads_hold};
 use http_header::HeaderMap;
-use http_rules::{PassFault, conditions_for, has_validator, is_about, may_validate, updated};
+use http_rules::{
+    PassFault, Revalidated, conditions_for, has_validator, is_about, may_validate, updated,
+};
+use object_store::Object;
 use std::alloc::Global;
 use std::process::Abort;
 
@@ -154,16 +157,23 @@ const ABOUT: [About; 24] = [
     ("ETag: \"a\"\nETag: \"a\"", TAGGED, false),
 ];
 
+// An object with these fields.
+fn object_of<R: Abort>(rt: &R, alloc: Global, lines: &str) -> Object {
+    Object::new(200, stored(rt, alloc, lines), Vec::new(alloc), 0, 0)
+}
+
 struct IsAbout;
 
 impl Question<About> for IsAbout {
     fn holds<R: Abort>(&self, rt: &R, alloc: Global, row: &About) -> bool {
         let head = head_of(rt, alloc, row.0);
-        let fields = stored(rt, alloc, row.1);
-        let is_about = is_about(&head, fields.as_slice());
-        drop(fields);
+        let object = object_of(rt, alloc, row.1);
+        let is_about = is_about(&head, object.head());
+        let is_shown = Revalidated::by(304, &head, &object).is_some();
+        let is_shown_by_a_200 = Revalidated::by(200, &head, &object).is_some();
+        drop(object);
         drop(head);
-        is_about == row.2
+        is_about == row.2 && is_shown == row.2 && !is_shown_by_a_200
     }
 }
 
@@ -240,9 +250,11 @@ fn has_lines(lines: &str, wanted: &str) -> bool {
 // What an object with these fields has after a 304 with those.
 fn after<R: Abort>(rt: &R, alloc: Global, object: &str, lines: &str) -> Vec<Field> {
     let head = head_of(rt, alloc, lines);
-    let fields = stored(rt, alloc, object);
-    let after = updated(alloc, &head, fields.as_slice()).expect(rt, "no 304");
-    drop(fields);
+    let object = object_of(rt, alloc, object);
+    let revalidated = Revalidated::by(304, &head, &object).expect(rt, "about another object");
+    let after = updated(alloc, &revalidated).expect(rt, "no 304");
+    drop(revalidated);
+    drop(object);
     drop(head);
     after
 }
@@ -279,13 +291,15 @@ fn connection_of<R: Abort>(rt: &R, alloc: Global, count: usize) -> String {
 fn fault_of_names<R: Abort>(rt: &R, alloc: Global, count: usize) -> Option<PassFault> {
     let line = connection_of(rt, alloc, count);
     let head = head_of(rt, alloc, line.as_str());
-    let object: Vec<Field> = Vec::new(alloc);
-    let updated = updated(alloc, &head, object.as_slice());
+    let object = object_of(rt, alloc, "");
+    let revalidated = Revalidated::by(304, &head, &object).expect(rt, "about another object");
+    let updated = updated(alloc, &revalidated);
     let fault = match &updated {
         Ok(_) => None,
         Err(fault) => Some(*fault),
     };
     drop(updated);
+    drop(revalidated);
     drop(object);
     drop(head);
     drop(line);
