@@ -1,6 +1,5 @@
 -- Laws about lists of values and what they say.
-use Rattle.std.proofs.Common.{◌≡◌, ℕ, ◌+◌, ◌<◌, List, [], ◌∷◌, ◌++◌, map, take, refl, ap, ◌∙◌, length, inl, inr, Bool, true, false, Option, Some, None, arith}
-use Rattle.std.specs.Prelude.{IfSome, IsSomeAnd, is_some, unwrap_or}
+use Rattle.std.proofs.Common.{◌≡◌, ℕ, ◌+◌, ◌<◌, List, [], ◌∷◌, ◌++◌, map, take, refl, ap, ◌∙◌, length, inl, inr}
 use Rattle.std.specs.List.{AllZip, slice_index_or}
 use Rattle.std.proofs.lemmas.List.{map_more}
 use Rattle.std.proofs.lemmas.Slice.Zip.{all_zipped_more}
@@ -44,14 +43,3 @@ pub denied_more : (values : List Value) (i : ℕ) (value : Value) (four : List N
     → AddsNetwork (view value) four six four' six' → AreDenied (map view (take (i + 1) values)) four' six'
 denied_more values i value four six four' six' below there all this =
     rw (map_more view values i value below, ← there) (adds (map view (take i values)) (view value) four six four' six' all this)
-
--- what is given of the denied networks is all of them
-pub given_all : (listed : Option (List Data)) (four : Option (List Network)) (six : Option (List SixNetwork)) (fours : List Network) (sixes : List SixNetwork)
-    → IsSomeAnd listed (λ values. AreDenied values fours sixes) → (four ≡ None → listed ≡ Some [])
-    → IfSome four (λ given. given ≡ fours) → IfSome six (λ given. given ≡ sixes) → (six ≡ None → sixes ≡ [])
-    → IsSomeAnd listed (λ values. AreDenied values (unwrap_or four []) (unwrap_or six []))
-given_all None four six fours sixes h none e f no = absurd h
-given_all (Some values) (Some four) (Some six) fours sixes h none e f no = rw (e, f) h
-given_all (Some values) (Some four) None fours sixes h none e f no = rw (e, ← no refl) h
-given_all (Some values) None (Some six) fours sixes h none e f no = let empty : values ≡ [] = grind arith in rw (empty, f) (let k : AreDenied [] fours sixes = subst (λ vs. AreDenied vs fours sixes) empty h in (refl, k.1))
-given_all (Some values) None None fours sixes h none e f no = let empty : values ≡ [] = grind arith in rw (empty) (refl, refl)

@@ -51,7 +51,8 @@ fn each_mirror(alloc: Global, members: &Map<String, Value>) -> Result<Vec<Mirror
 {
     let mut mirrors = Vec::new(alloc);
     for (path, url) in members.iter() {
-        mirrors = with_mirror(mirrors, mirror(alloc, path.as_str(), url)?)?;
+        let mirror = mirror(alloc, path.as_str(), url)?;
+        mirrors = with_mirror(mirrors, mirror)?;
     }
     Ok(mirrors)
 }

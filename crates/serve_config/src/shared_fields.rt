@@ -52,7 +52,8 @@ fn each_field(alloc: Global, members: &Map<String, Value>) -> Result<Vec<SharedF
 {
     let mut fields = Vec::new(alloc);
     for (name, value) in members.iter() {
-        fields = with_field(fields, field(alloc, name.as_str(), value)?)?;
+        let field = field(alloc, name.as_str(), value)?;
+        fields = with_field(fields, field)?;
     }
     Ok(fields)
 }

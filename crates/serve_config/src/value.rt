@@ -225,10 +225,17 @@ pub(crate) fn ports_in(alloc: Global, given: &Value, key: &str) -> Result<Vec<u1
     let items = items_in(alloc, given, key)?;
     let mut ports = Vec::new(alloc);
     for i in 0..items.len() {
-        let port = number_of(alloc, &items[i], Place::item(key, i), 1, 65_535)? as u16;
+        let port = port_of(alloc, &items[i], Place::item(key, i))?;
         ports.push(port).map_err(AllocError::from)?;
     }
     Ok(ports)
+}
+
+// Parses a port, 1 to 65,535.
+fn port_of(alloc: Global, value: &Value, place: Place<'_>) -> Result<u16, Fault>
+    ensures { IfOk result (IsWhole 1 65535 (view value.now)) }
+{
+    Ok(number_of(alloc, value, place, 1, 65_535)? as u16)
 }
 
 /// Parses a network such as `10.0.0.0/8`.
