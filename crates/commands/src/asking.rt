@@ -21,7 +21,7 @@ pub enum Question<'a> {
 /// `version` is what `--version` tells.
 ///
 /// Errors: out of memory.
-#[tactic(auto, using(crate::proofs::Asked::text_asks, crate::proofs::Asked::check_asks))]
+#[tactic(auto, using(crate::proofs::Words::text_asks, crate::proofs::Words::check_asks))]
 pub fn asked<'a>(
     alloc: Global,
     version: &'a str,
