@@ -1,5 +1,5 @@
 -- Who asks for a text or for a check has a word that asks.
-use Rattle.std.proofs.Common.{◌≡◌, ℕ, List, [], ◌∷◌, ◌||◌, ◌&&◌, not, map, drop, refl, Bool, true, false, Option, Some, None, codes, arith}
+use Rattle.std.proofs.Common.{◌≡◌, ℕ, List, [], ◌∷◌, ◌||◌, ◌&&◌, not, map, drop, refl, sym, ◌∙◌, Bool, true, false, Option, Some, None, codes, arith}
 use Rattle.std.specs.Prelude.{String, bytes_eq, if◌then◌else◌}
 use Rattle.std.specs.List.{list_any}
 use Rattle.std.specs.String.{string_bytes}
@@ -12,6 +12,15 @@ text_asks [] h = absurd (grind arith)
 text_asks (name ∷ []) h = absurd (grind arith)
 text_asks (name ∷ word ∷ []) h = rw h refl
 text_asks (name ∷ word ∷ other ∷ words) h = absurd (grind arith)
+
+-- a truth has one value
+clash : true ≡ false → ⊥
+clash h = absurd (grind arith)
+
+-- who has no word that asks doesn't ask for a text
+pub no_text : (words : List (String Global)) → list_any (λ word. is_asking_word (string_bytes word)) (drop 1 words) ≡ false
+    → asks_for_text (map string_bytes words) ≡ true → ⊥
+no_text words none asks = clash (sym (text_asks words asks) ∙ none)
 
 -- where a file is found, one of two words asks for a check
 found : (serve one_asks one_is other_asks other_is : Bool) (one other file : List ℕ)
