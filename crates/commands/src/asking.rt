@@ -1,7 +1,7 @@
 //! Which argument lists ask for something of this crate, and for what.
-ghost use Rattle.std.specs.Prelude.{◌≡◌, None, Ok, false, drop, string_bytes};
+ghost use Rattle.std.specs.Prelude.{◌≡◌, IfOk, IfSome, IsSomeAnd, None, Ok, false, drop, is_some, map, option_map, string_bytes, true};
 ghost use Rattle.std.specs.List.{list_any};
-ghost use Rattle.commands.specs.Asking.{is_asking_word};
+ghost use Rattle.commands.specs.Asking.{IsConfiguration, IsText, asks_for_text, checked, checked_in, is_asking_word, is_text_word, is_version_word};
 
 use crate::program::program;
 use clap::error::ErrorKind;
@@ -21,16 +21,83 @@ pub enum Question<'a> {
 /// `version` is what `--version` tells.
 ///
 /// Errors: out of memory.
+#[tactic(auto, using(crate::proofs::Words::text_asks, crate::proofs::Words::check_asks))]
 pub fn asked<'a>(
     alloc: Global,
     version: &'a str,
     words: &'a [String],
 ) -> Result<Option<Question<'a>>, AllocError>
-    ensures { list_any (λ word. is_asking_word (string_bytes word)) (drop 1 words.entry.now) ≡ false → result ≡ Ok None }
+    ensures none { list_any (λ word. is_asking_word (string_bytes word)) (drop 1 words.entry.now) ≡ false → result ≡ Ok None }
+    ensures text { asks_for_text (map string_bytes words.entry.now) ≡ true → IfOk result (λ question. IsSomeAnd question IsText) }
+    ensures check { IfSome (checked (map string_bytes words.entry.now)) (λ file. IfOk result (λ question. IsSomeAnd question (IsConfiguration file))) }
 {
     if !is_asking(words) {
         return Ok(None);
     }
+    if let Some(word) = text_word(words) {
+        return Ok(Some(told(alloc, version, word)?));
+    }
+    if let Some(file) = checked_file(words) {
+        return Ok(Some(Question::Configuration(file)));
+    }
+    taken_apart(alloc, version, words)
+}
+
+// The word for a text that stands alone behind the program's name.
+fn text_word<'a>(words: &'a [String]) -> Option<&'a str>
+    ensures { is_some result ≡ asks_for_text (map string_bytes words.entry.now) }
+{
+    match words {
+        [_, word] if is_text_word(word.as_str()) => Some(word.as_str()),
+        _ => None,
+    }
+}
+
+// The text that one of the words for a text asks for alone.
+fn told<'a>(alloc: Global, version: &str, word: &str) -> Result<Question<'a>, AllocError>
+    ensures { IfOk result IsText }
+{
+    let mut command = program(alloc, version)?;
+    let text = if is_version_word(word) {
+        command.render_version()
+    } else {
+        command.render_help()
+    };
+    drop(command);
+    Ok(Question::Text(text?))
+}
+
+// The configuration that `serve --check` is to check, if that is what an argument list asks for.
+fn checked_file<'a>(words: &'a [String]) -> Option<&'a str>
+    ensures { option_map (λ file. file.now) result ≡ checked (map string_bytes words.entry.now) }
+{
+    match words {
+        [_, command, one, other] => checked_in(command.as_str(), one.as_str(), other.as_str()),
+        _ => None,
+    }
+}
+
+// The same of the words after the program's name. A word that may be an option is left to `clap`.
+fn checked_in<'a>(command: &str, one: &'a str, other: &'a str) -> Option<&'a str>
+    ensures { option_map (λ file. file.now) result ≡ checked_in command.now one.now other.now }
+{
+    if command != "serve" {
+        None
+    } else if one == "--check" && !other.starts_with('-') {
+        Some(other)
+    } else if other == "--check" && !one.starts_with('-') {
+        Some(one)
+    } else {
+        None
+    }
+}
+
+// What a command line asks for, as `clap` takes it apart. Errors: out of memory.
+fn taken_apart<'a>(
+    alloc: Global,
+    version: &'a str,
+    words: &'a [String],
+) -> Result<Option<Question<'a>>, AllocError> {
     let mut command = program(alloc, version)?;
     let found = command.try_get_matches_from_mut(words);
     drop(command);
@@ -88,10 +155,21 @@ fn has_asking_word(words: &[String]) -> bool
 fn is_asking_word(word: &str) -> bool
     ensures { result ≡ is_asking_word word.now }
 {
-    matches!(
-        word,
-        "help" | "--help" | "-h" | "--version" | "-V" | "--check"
-    )
+    is_text_word(word) || word == "--check"
+}
+
+// Whether a word alone asks for a text: a help text, or the version.
+fn is_text_word(word: &str) -> bool
+    ensures { result ≡ is_text_word word.now }
+{
+    is_version_word(word) || matches!(word, "help" | "--help" | "-h")
+}
+
+// Whether a word asks for the version.
+fn is_version_word(word: &str) -> bool
+    ensures { result ≡ is_version_word word.now }
+{
+    matches!(word, "--version" | "-V")
 }
 
 // The configuration file to check, if the command is `serve --check`.

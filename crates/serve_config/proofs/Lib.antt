@@ -1,2 +1,4 @@
+pub mod Listed
+pub mod Members
 pub mod Methods
 pub mod Shown

@@ -15,6 +15,11 @@ unfoldable pub has_slot : ℕ → Slot → Bool
 has_slot neighbours (slots.Socket s) = true
 has_slot neighbours (slots.Neighbour n) = nat_lt n neighbours
 
+-- the path of a file: a text that is not empty
+pub record IsPath (value : Data) (path : List ℕ) : Type 0 where
+  pub said : value ≡ string path
+  pub some : 1 ≤ length path
+
 -- a file for such a slot, with a path
 pub record IsFile (neighbours : ℕ) (file : FilterFile) : Type 0 where
   pub slot : has_slot neighbours file.slot ≡ true

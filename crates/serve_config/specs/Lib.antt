@@ -1,6 +1,8 @@
 pub mod Addresses
 pub mod Files
+pub mod Fronts
 pub mod Group
+pub mod Limits
 pub mod Mirrors
 pub mod Origins
 pub mod Own
@@ -8,7 +10,9 @@ pub mod OwnKey
 pub mod Parts
 pub mod Passing
 pub mod Refresh
+pub mod Said
+pub mod Settings
 pub mod SharedFields
+pub mod SixClients
 pub mod Tokens
 pub mod Words
-pub mod SixClients

@@ -1,7 +1,11 @@
 -- What requests in origin form stand for.
-use Rattle.std.specs.Prelude.{ℕ, ◌≡◌, ◌≤◌, List, All, length, codes, nat_eq, nat_le, nat_lt, ◌&&◌, Bool, true}
+use Rattle.std.specs.Prelude.{ℕ, ◌≡◌, ◌≤◌, List, [], All, map, length, codes, nat_eq, nat_le, nat_lt, ◌&&◌, Bool, true, Some, MatchOption, String}
 use Rattle.std.specs.List.{list_all, starts_with, ends_with}
 use Rattle.std.specs.String.{string_bytes}
+use Rattle.std.specs.declared.alloc.Global.{Global}
+use Rattle.serde_json.specs.Data.{Data, string}
+use Rattle.serde_json.specs.Find.{as_object, get}
+use Rattle.serde_json.specs.View.{members_of}
 use Rattle.serve_config.specs.Refresh.{is_visible}
 use Rattle.serve_config.specs.declared.mirrors.MirrorPath.{MirrorPath}
 
@@ -22,7 +26,13 @@ pub record IsMirror (mirror : MirrorPath) : Type 0 where
   pub path : is_mirror_path (string_bytes mirror.path) ≡ true
   pub url : is_mirror_url (string_bytes mirror.url) ≡ true
 
--- its mirrors: at most 64
-pub record AreMirrors (mirrors : List MirrorPath) : Type 0 where
+-- the key and the value that name it
+abbrev pub mirror_member : MirrorPath → String Global × Data
+mirror_member mirror = (mirror.path, string (string_bytes mirror.url))
+
+-- the mirrors of a configuration: those of its object, in that order, at most 64; none without the key
+pub record AreMirrors (settings : Data) (mirrors : List MirrorPath) : Type 0 where
+  pub said : MatchOption (get (codes "mirrors") settings) (mirrors ≡ [])
+      (λ value. as_object value ≡ Some (members_of (map mirror_member mirrors)))
   pub most : length mirrors ≤ 64
   pub each : All IsMirror mirrors

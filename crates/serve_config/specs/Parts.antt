@@ -1,66 +1,105 @@
 -- What is known of the parts of a configuration once they are parsed. No public contract depends on these definitions.
-use Rattle.std.specs.Prelude.{◌≡◌, ◌≤◌, All, IfSome, Some, length, true}
+use Rattle.std.specs.Prelude.{◌≡◌, ◌⊎◌, ◌++◌, List, [], ◌∷◌, codes, length, option_map}
 use Rattle.std.specs.String.{string_bytes}
+use Rattle.node_terms.specs.declared.network.Network.{Network}
 use Rattle.serde_json.specs.Data.{Data}
-use Rattle.serve_config.specs.Addresses.{is_host}
+use Rattle.serve_config.specs.Addresses.{IsHost}
 use Rattle.serve_config.specs.Files.{AreFiles}
-use Rattle.serve_config.specs.Group.{IsReachable, IsSecret}
+use Rattle.serve_config.specs.Fronts.{AreFronts, AreLogs}
+use Rattle.serve_config.specs.Limits.{AreLengths, AreLoads, ArePaces}
 use Rattle.serve_config.specs.Mirrors.{AreMirrors}
-use Rattle.serve_config.specs.Origins.{AreNetworks, ArePorts, AreSixNetworks}
-use Rattle.serve_config.specs.Passing.{AreConnectPorts, AreMethods, large_said}
-use Rattle.serve_config.specs.Refresh.{AreRules, AreStaleSeconds, IsVisible}
+use Rattle.serve_config.specs.Origins.{AreOrigins, IsNetwork, IsSixNetwork}
+use Rattle.serve_config.specs.Passing.{ArePassed}
+use Rattle.serve_config.specs.Refresh.{AreFreshness}
+use Rattle.serve_config.specs.Said.{IsTruth, IsWhole, Says}
+use Rattle.serve_config.specs.Settings.{IsNode}
 use Rattle.serve_config.specs.SharedFields.{AreSharedFields}
-use Rattle.serve_config.specs.SixClients.{AreSixClients}
-use Rattle.serve_config.specs.Tokens.{IsToken}
-use Rattle.serve_config.specs.Words.{form_said, freshness_said, level_said}
+use Rattle.serve_config.specs.declared.front.FrontKeys.{FrontKeys}
 use Rattle.serve_config.specs.declared.keys.BackKeys.{BackKeys}
 use Rattle.serve_config.specs.declared.keys.Keys.{Keys}
+use Rattle.serve_config.specs.declared.limits.LengthKeys.{LengthKeys}
+use Rattle.serve_config.specs.declared.limits.LoadKeys.{LoadKeys}
+use Rattle.serve_config.specs.declared.logs.LogKeys.{LogKeys}
+use Rattle.serve_config.specs.declared.freshness.FreshnessKeys.{FreshnessKeys}
+use Rattle.serve_config.specs.declared.node.NodeFrame.{NodeFrame}
+use Rattle.serve_config.specs.declared.node.NodeKeys.{NodeKeys}
+use Rattle.serve_config.specs.declared.origins.OriginKeys.{OriginKeys}
+use Rattle.serve_config.specs.declared.origins.SixNetwork.{SixNetwork}
+use Rattle.serve_config.specs.declared.passing.PaceKeys.{PaceKeys}
+use Rattle.serve_config.specs.declared.passing.PassingKeys.{PassingKeys}
+use Rattle.serve_config.specs.declared.web.SiteKeys.{SiteKeys}
 use Rattle.serve_config.specs.declared.web.WebKeys.{WebKeys}
+
+-- each part
+abbrev pub AreLengthKeys : Data → LengthKeys → Type 0
+AreLengthKeys d s = AreLengths d s.body_limit s.volume s.receipt_octets s.book_octets
+
+abbrev pub AreLoadKeys : Data → LoadKeys → Type 0
+AreLoadKeys d s = AreLoads d s.fetch_octets s.shelf_octets s.address_connections s.client_threads s.lookup_threads s.stop_after
+
+abbrev pub AreFrontKeys : Data → FrontKeys → Type 0
+AreFrontKeys d s = AreFronts d s.address s.http_port s.admin_port (string_bytes s.name) (option_map string_bytes s.admin_token) s.six_clients
+
+abbrev pub AreLogKeys : Data → LogKeys → Type 0
+AreLogKeys d s = AreLogs d (option_map string_bytes s.access_log) s.access_log_format s.log_level
+
+abbrev pub AreOriginKeys : Data → OriginKeys → Type 0
+AreOriginKeys d s =
+    AreOrigins d (option_map (λ v. v.items) s.deny_origins) (option_map (λ v. v.items) s.origin_ports) (option_map (λ v. v.items) s.origins6)
+
+-- one network more in one of two lists, which a value says
+abbrev pub AddsNetwork : Data → List Network → List SixNetwork → List Network → List SixNetwork → Type 0
+AddsNetwork value four six four' six' =
+    ((network : Network) × (four' ≡ four ++ network ∷ []) × (six' ≡ six) × IsNetwork value network)
+    ⊎ ((network : SixNetwork) × (four' ≡ four) × (six' ≡ six ++ network ∷ []) × IsSixNetwork value network)
+
+abbrev pub AreFreshnessKeys : Data → FreshnessKeys → Type 0
+AreFreshnessKeys d s = AreFreshness d s.freshness s.refresh.items s.serve_stale
+
+abbrev pub ArePaceKeys : Data → PaceKeys → Type 0
+ArePaceKeys d s =
+    ArePaces d s.streams s.tunnels s.fetch_seconds s.fetch_idle s.fetch_speed s.quick_abort_octets s.keep_alive
+
+pub record ArePassingKeys (d : Data) (s : PassingKeys) : Type 0 where
+  pub passed : ArePassed d s.methods.items s.connect_ports.items s.large
+  pub paces : ArePaceKeys d s.pace
+
+-- what of the node has no length of its own
+pub record IsFrame (d : Data) (s : NodeFrame) : Type 0 where
+  pub icp : Says IsHost (codes "address") d s.icp.addr
+  pub icp_port : Says (IsWhole 0 65535) (codes "icp_port") d s.icp.port
+  pub htcp : Says IsHost (codes "address") d s.htcp.addr
+  pub htcp_port : Says (IsWhole 0 65535) (codes "htcp_port") d s.htcp.port
+  pub miss_nofetch : Says IsTruth (codes "miss_nofetch") d s.miss_nofetch
+  pub origin : Says IsTruth (codes "origin") d s.origin
+  pub entries : Says (IsWhole 1 1000000) (codes "entries") d s.entries
+  pub octets : Says (IsWhole 1 1073741824) (codes "octets") d s.octets
+
+pub record AreNodeKeys (d : Data) (s : NodeKeys) : Type 0 where
+  pub node : IsNode d s.config
+  pub filters : AreFiles (length s.config.neighbours.items) d s.filters.items
 
 -- which origins are fetched from, for how long their answers are fresh, and what is passed on
 pub record AreWebKeys (d : Data) (s : WebKeys) : Type 0 where
-  pub deny_origins : IfSome s.origins.deny_origins (λ networks. AreNetworks networks.items)
-  pub origin_ports : IfSome s.origins.origin_ports (λ ports. ArePorts ports.items)
-  pub origins6 : IfSome s.origins.origins6 (λ networks. AreSixNetworks networks.items)
-  pub freshness : freshness_said d ≡ Some s.freshness.freshness
-  pub refresh : AreRules s.freshness.freshness s.freshness.refresh.items
-  pub serve_stale : AreStaleSeconds s.freshness.freshness s.freshness.serve_stale
-  pub methods : AreMethods d s.passing.methods.items
-  pub connect_ports : AreConnectPorts s.passing.connect_ports.items
-  pub large : large_said d ≡ Some s.passing.large
-  pub streams : (1 ≤ s.passing.pace.streams) × (s.passing.pace.streams ≤ 4096)
-  pub tunnels : (1 ≤ s.passing.pace.tunnels) × (s.passing.pace.tunnels ≤ 4096)
-  pub fetch_seconds : (1 ≤ s.passing.pace.fetch_seconds) × (s.passing.pace.fetch_seconds ≤ 86400)
-  pub fetch_idle : IfSome s.passing.pace.fetch_idle (λ n. (1 ≤ n) × (n ≤ 86400))
-  pub fetch_speed : s.passing.pace.fetch_speed ≤ 1000000
-  pub quick_abort_octets : IfSome s.passing.pace.quick_abort_octets (λ n. (1 ≤ n) × (n ≤ 1073741824))
-  pub keep_alive : s.passing.pace.keep_alive ≤ 3600
+  pub origins : AreOriginKeys d s.origins
+  pub freshness : AreFreshnessKeys d s.freshness
+  pub passing : ArePassingKeys d s.passing
+
+-- what requests in origin form stand for, and the fields of the fetches for all clients
+pub record AreSiteKeys (d : Data) (s : SiteKeys) : Type 0 where
+  pub mirrors : AreMirrors d s.mirrors.items
+  pub shared_fields : AreSharedFields d s.shared_fields.items
 
 -- what is behind the front
 pub record AreBackKeys (d : Data) (s : BackKeys) : Type 0 where
-  pub entries : (1 ≤ s.node.config.entries) × (s.node.config.entries ≤ 1000000)
-  pub octets : (1 ≤ s.node.config.octets) × (s.node.config.octets ≤ 1073741824)
-  pub reachable : All IsReachable s.node.config.neighbours.items
-  pub secrets : All IsSecret s.node.config.keys.items
-  pub filters : AreFiles (length s.node.config.neighbours.items) d s.node.filters.items
+  pub node : AreNodeKeys d s.node
   pub web : AreWebKeys d s.web
-  pub mirrors : AreMirrors s.site.mirrors.items
-  pub shared_fields : AreSharedFields s.site.shared_fields.items
+  pub site : AreSiteKeys d s.site
 
 -- all of it
 pub record AreKeys (d : Data) (s : Keys) : Type 0 where
-  pub body_limit : (1 ≤ s.lengths.body_limit) × (s.lengths.body_limit ≤ 1073741824)
-  pub volume : (1 ≤ s.lengths.volume) × (s.lengths.volume ≤ 1048576)
-  pub book_octets : IfSome s.lengths.book_octets (λ n. (1 ≤ n) × (n ≤ 1073741824))
-  pub fetch_octets : IfSome s.loads.fetch_octets (λ n. (1 ≤ n) × (n ≤ 1073741824))
-  pub shelf_octets : IfSome s.loads.shelf_octets (λ n. n ≤ 1073741824)
-  pub address_connections : IfSome s.loads.address_connections (λ n. (1 ≤ n) × (n ≤ 4096))
-  pub client_threads : IfSome s.loads.client_threads (λ n. (1 ≤ n) × (n ≤ 16))
-  pub lookup_threads : IfSome s.loads.lookup_threads (λ n. (1 ≤ n) × (n ≤ 256))
-  pub host : is_host s.front.address ≡ true
-  pub name : IsVisible (string_bytes s.front.name)
-  pub admin_token : IfSome s.front.admin_token (λ token. IsToken (string_bytes token))
-  pub six_clients : AreSixClients d s.front.six_clients
-  pub access_log_format : form_said d ≡ Some s.logs.access_log_format
-  pub log_level : level_said d ≡ Some s.logs.log_level
+  pub lengths : AreLengthKeys d s.lengths
+  pub loads : AreLoadKeys d s.loads
+  pub front : AreFrontKeys d s.front
+  pub logs : AreLogKeys d s.logs
   pub back : AreBackKeys d s.back

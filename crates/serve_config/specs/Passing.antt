@@ -1,11 +1,12 @@
 -- What is passed on beside the node.
-use Rattle.std.specs.Prelude.{◌≡◌, ℕ, ◌≤◌, List, [], All, map, length, codes, bytes_eq, if◌then◌else◌, Option, Some, None, MatchOption, option_and_then}
+use Rattle.std.specs.Prelude.{◌≡◌, ℕ, ◌≤◌, List, [], map, length, codes, bytes_eq, if◌then◌else◌, Option, Some, None, MatchOption, option_and_then}
 use Rattle.std.specs.List.{IsDistinct}
 use Rattle.serde_json.specs.Data.{Data, string, array}
 use Rattle.serde_json.specs.Find.{get}
 use Rattle.serde_json.specs.View.{items_of}
 use Rattle.http_traffic.specs.Methods.{method_name}
 use Rattle.http_traffic.specs.declared.passed_method.PassedMethod.{PassedMethod}
+use Rattle.serve_config.specs.Said.{IsWhole, Lists}
 use Rattle.serve_config.specs.Words.{word_or}
 use Rattle.serve_config.specs.declared.passing.Large.{Large}
 use Rattle.serve_config.specs.declared.passing.Large.TheVariants.{Refuse, Stream}
@@ -20,9 +21,9 @@ pub record AreMethods (settings : Data) (methods : List PassedMethod) : Type 0 w
   pub once : IsDistinct bytes_eq (map method_name methods)
 
 -- the ports of tunnels: at most 64, none of them 0
-pub record AreConnectPorts (ports : List ℕ) : Type 0 where
+pub record AreConnectPorts (settings : Data) (ports : List ℕ) : Type 0 where
+  pub said : Lists (IsWhole 1 65535) (codes "connect_ports") settings ports
   pub most : length ports ≤ 64
-  pub each : All (λ port. 1 ≤ port) ports
 
 -- what becomes of a long answer, by the word of a configuration
 abbrev pub large_named : List ℕ → Option Large
@@ -33,3 +34,9 @@ large_named word =
 -- what a configuration says, if it says one of these words or none
 abbrev pub large_said : Data → Option Large
 large_said settings = option_and_then large_named (word_or (codes "refuse") (get (codes "large") settings))
+
+-- what is passed on
+pub record ArePassed (settings : Data) (methods' : List PassedMethod) (connect_ports' : List ℕ) (large' : Large) : Type 0 where
+  pub methods : AreMethods settings methods'
+  pub connect_ports : AreConnectPorts settings connect_ports'
+  pub large : large_said settings ≡ Some large'

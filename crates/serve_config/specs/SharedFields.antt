@@ -1,7 +1,11 @@
 -- The fields that the fetches for all clients send.
-use Rattle.std.specs.Prelude.{ℕ, ◌≡◌, ◌≤◌, List, [], ◌∷◌, All, length, codes, bytes_eq, nat_eq, nat_le, ◌&&◌, ◌||◌, not, Bool, true}
+use Rattle.std.specs.Prelude.{ℕ, ◌≡◌, ◌≤◌, List, [], ◌∷◌, All, map, length, codes, bytes_eq, nat_eq, nat_le, ◌&&◌, ◌||◌, not, Bool, true, Some, MatchOption, String}
 use Rattle.std.specs.List.{list_all, list_any, starts_with, ends_with}
 use Rattle.std.specs.String.{string_bytes}
+use Rattle.std.specs.declared.alloc.Global.{Global}
+use Rattle.serde_json.specs.Data.{Data, string}
+use Rattle.serde_json.specs.Find.{as_object, get}
+use Rattle.serde_json.specs.View.{members_of}
 use Rattle.serve_config.specs.declared.shared_fields.SharedField.{SharedField}
 
 -- whether a field with this name may be set: User-Agent, Accept, Accept-Language and From
@@ -30,7 +34,13 @@ pub record IsSharedField (field : SharedField) : Type 0 where
   pub name : is_field_name (string_bytes field.name) ≡ true
   pub value : is_field_value (string_bytes field.value) ≡ true
 
--- its fields: at most 16
-pub record AreSharedFields (fields : List SharedField) : Type 0 where
+-- the key and the value that name it
+abbrev pub field_member : SharedField → String Global × Data
+field_member field = (field.name, string (string_bytes field.value))
+
+-- the fields of a configuration: those of its object, in that order, at most 16; none without the key
+pub record AreSharedFields (settings : Data) (fields : List SharedField) : Type 0 where
+  pub said : MatchOption (get (codes "shared_fields") settings) (fields ≡ [])
+      (λ value. as_object value ≡ Some (members_of (map field_member fields)))
   pub most : length fields ≤ 16
   pub each : All IsSharedField fields

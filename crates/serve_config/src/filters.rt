@@ -5,7 +5,7 @@ ghost use Rattle.filter_slots.specs.declared.slot.Slot.TheVariants.{Neighbour as
 ghost use Rattle.serde_json.specs.Data.{string};
 ghost use Rattle.serde_json.specs.Find.{get, as_object};
 ghost use Rattle.serde_json.specs.View.{view, members_view};
-ghost use Rattle.serve_config.specs.Files.{AreFiles, IsFile, all_keys, has_slot, is_number, row, rows, shown, socket_rows, value_at};
+ghost use Rattle.serve_config.specs.Files.{AreFiles, IsFile, IsPath, all_keys, has_slot, is_number, row, rows, shown, socket_rows, value_at};
 
 use crate::fault::Fault;
 use crate::place::Place;
@@ -183,25 +183,10 @@ fn is_number(alloc: Global, text: &str, neighbours: usize) -> Result<bool, Alloc
     Ok(written.as_str() == text)
 }
 
-/// The path of a file, if it is given. Errors: it is empty.
-pub(crate) fn file(
-    alloc: Global,
-    value: Option<&Value>,
-    place: Place<'_>,
-) -> Result<Option<String>, Fault>
-    ensures { IfOk result (λ file. option_map (λ path. string (string_bytes path)) file ≡ option_map (λ v. view v.now) value.entry) }
-{
-    match value {
-        Some(value) => Ok(Some(path(alloc, value, place)?)),
-        None => Ok(None),
-    }
-}
-
-// The path of a file. Errors: it is empty.
+/// The path of a file. Errors: it is empty.
 #[tactic(auto, using(crate::proofs::Shown::text_of))]
-fn path(alloc: Global, value: &Value, place: Place<'_>) -> Result<String, Fault>
-    ensures said { IfOk result (λ path. view value.now ≡ string (string_bytes path)) }
-    ensures some { IfOk result (λ path. 1 ≤ length (string_bytes path)) }
+pub(crate) fn path(alloc: Global, value: &Value, place: Place<'_>) -> Result<String, Fault>
+    ensures { IfOk result (λ path. IsPath (view value.now) (string_bytes path)) }
 {
     match value.as_str() {
         Some("") => Err(Fault::value(alloc, place, "empty")),

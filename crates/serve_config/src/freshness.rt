@@ -1,14 +1,15 @@
 //! How it is judged whether a stored answer is fresh, and the operator's rules about it.
-ghost use Rattle.std.specs.Prelude.{◌≡◌, ◌≤◌, All, IfOk, Some, length};
+ghost use Rattle.std.specs.Prelude.{◌≡◌, [], ◌∷◌, ◌++◌, IfOk, Some, codes};
 ghost use Rattle.std.specs.String.{string_bytes};
 ghost use Rattle.serde_json.specs.View.{view};
-ghost use Rattle.serve_config.specs.Refresh.{AreRules, AreStaleSeconds, IsRule, IsUrlPart, part_text};
+ghost use Rattle.serve_config.specs.Parts.{AreFreshnessKeys};
+ghost use Rattle.serve_config.specs.Refresh.{AreRules, AreStaleSeconds, ComparesPart, IsRule, IsUrlPart};
+ghost use Rattle.serve_config.specs.Said.{Lists, Says};
 ghost use Rattle.serve_config.specs.Words.{freshness_said};
 
 use crate::fault::Fault;
 use crate::place::Place;
-use crate::shape::items;
-use crate::value::{number, visible, word};
+use crate::value::{list, number, number_or, truth_or_false, visible, word};
 use serde_json::Value;
 use std::alloc::{AllocError, Global};
 
@@ -57,9 +58,7 @@ pub(crate) struct FreshnessKeys {
 
 /// Parses what a configuration says about it.
 pub(crate) fn freshness_keys(alloc: Global, value: &Value) -> Result<FreshnessKeys, Fault>
-    ensures freshness { IfOk result (λ s. freshness_said (view value.now) ≡ Some s.freshness) }
-    ensures refresh { IfOk result (λ s. AreRules s.freshness s.refresh.items) }
-    ensures serve_stale { IfOk result (λ s. AreStaleSeconds s.freshness s.serve_stale) }
+    ensures { IfOk result (AreFreshnessKeys (view value.now)) }
 {
     let freshness = freshness_of(alloc, value)?;
     let serve_stale = serve_stale(alloc, value, freshness)?;
@@ -91,7 +90,7 @@ fn refresh_rules(
     value: &Value,
     freshness: Freshness,
 ) -> Result<Vec<RefreshRule>, Fault>
-    ensures { IfOk result (λ rules. AreRules freshness rules.items) }
+    ensures said { IfOk result (λ rules. AreRules (view value.now) freshness rules.items) }
 {
     let place = Place::whole().key("refresh");
     let rules = rules(alloc, value)?;
@@ -113,15 +112,12 @@ fn refresh_rules(
 // Parses for how many seconds after it went stale an answer may be used whose origin is down; 0 without the key. Errors: not 0 to
 // 31,536,000, or above 0 where freshness is judged as published.
 fn serve_stale(alloc: Global, value: &Value, freshness: Freshness) -> Result<u32, Fault>
-    ensures { IfOk result (λ seconds. AreStaleSeconds freshness seconds) }
+    ensures said { IfOk result (AreStaleSeconds (view value.now) freshness) }
 {
-    if value.get("serve_stale").is_none() {
-        return Ok(0);
-    }
-    let place = Place::whole().key("serve_stale");
-    let seconds = number(alloc, value, place, 0, 31_536_000)? as u32;
+    let seconds = number_or(alloc, value, "serve_stale", 0, 31_536_000, 0)?;
     match freshness {
         Freshness::Published if seconds > 0 => {
+            let place = Place::whole().key("serve_stale");
             Err(Fault::value(alloc, place, "above 0, but freshness is not rfc9111"))
         }
         _ => Ok(seconds),
@@ -130,9 +126,9 @@ fn serve_stale(alloc: Global, value: &Value, freshness: Freshness) -> Result<u32
 
 // Parses each rule.
 fn rules(alloc: Global, value: &Value) -> Result<Vec<RefreshRule>, Fault>
-    ensures { IfOk result (λ rules. All IsRule rules.items) }
+    ensures { IfOk result (λ rules. Lists IsRule (codes "refresh") (view value.now) rules.items) }
 {
-    let items = items(value, "refresh");
+    let items = list(alloc, value, "refresh")?;
     let mut rules = Vec::new(alloc);
     for i in 0..items.len() {
         let rule = rule(alloc, &items[i], Place::item("refresh", i))?;
@@ -143,9 +139,7 @@ fn rules(alloc: Global, value: &Value) -> Result<Vec<RefreshRule>, Fault>
 
 // These rules and this one.
 fn with_rule(rules: Vec<RefreshRule>, rule: RefreshRule) -> Result<Vec<RefreshRule>, Fault>
-    requires others { All IsRule rules.items }
-    requires this { IsRule rule }
-    ensures { IfOk result (λ after. All IsRule after.items) }
+    ensures { IfOk result (λ after. after.items ≡ rules.items ++ rule ∷ []) }
 {
     let mut rules = rules;
     rules.push(rule).map_err(AllocError::from)?;
@@ -154,18 +148,18 @@ fn with_rule(rules: Vec<RefreshRule>, rule: RefreshRule) -> Result<Vec<RefreshRu
 
 // Parses one rule.
 fn rule(alloc: Global, item: &Value, place: Place<'_>) -> Result<RefreshRule, Fault>
-    ensures { IfOk result (λ rule. IsRule rule) }
+    ensures said { IfOk result (IsRule (view item.now)) }
 {
     Ok(RefreshRule {
         place: url_part(alloc, item, place)?,
         seconds: number(alloc, item, place.key("seconds"), 0, 31_536_000)? as u32,
-        overrides: item.get("override").and_then(Value::as_bool) == Some(true),
+        overrides: truth_or_false(alloc, item, place.key("override"))?,
     })
 }
 
 // Parses the part of the URL that a rule compares. Errors: none or two of them, or a malformed one.
 fn url_part(alloc: Global, item: &Value, place: Place<'_>) -> Result<UrlPart, Fault>
-    ensures { IfOk result (λ part. IsUrlPart (part_text part)) }
+    ensures said { IfOk result (ComparesPart (view item.now)) }
 {
     match (item.get("suffix").is_some(), item.get("prefix").is_some()) {
         (true, false) => Ok(UrlPart::Suffix(url_text(alloc, item, place.key("suffix"))?)),
@@ -177,7 +171,7 @@ fn url_part(alloc: Global, item: &Value, place: Place<'_>) -> Result<UrlPart, Fa
 
 // Parses the text that a rule compares.
 fn url_text(alloc: Global, item: &Value, place: Place<'_>) -> Result<String, Fault>
-    ensures { IfOk result (λ text. IsUrlPart (string_bytes text)) }
+    ensures { IfOk result (λ text. Says IsUrlPart place.entry.key.now (view item.now) (string_bytes text)) }
 {
     let text = visible(alloc, item, place)?;
     if text.len() > MOST_OCTETS {

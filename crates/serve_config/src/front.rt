@@ -1,11 +1,10 @@
 //! How the proxy is reached by clients and administrators.
-ghost use Rattle.std.specs.Prelude.{◌≡◌, IfOk, IfSome, true};
+ghost use Rattle.std.specs.Prelude.{IfOk, codes, option_map};
 ghost use Rattle.std.specs.String.{string_bytes};
 ghost use Rattle.serde_json.specs.View.{view};
-ghost use Rattle.serve_config.specs.Addresses.{is_host};
-ghost use Rattle.serve_config.specs.Refresh.{IsVisible};
-ghost use Rattle.serve_config.specs.SixClients.{AreSixClients};
-ghost use Rattle.serve_config.specs.Tokens.{IsToken};
+ghost use Rattle.serve_config.specs.Fronts.{IsName, IsSaidToken};
+ghost use Rattle.serve_config.specs.Parts.{AreFrontKeys};
+ghost use Rattle.serve_config.specs.Said.{MaySay, Says};
 
 use crate::fault::Fault;
 use crate::place::Place;
@@ -28,10 +27,7 @@ pub(crate) struct FrontKeys {
 
 /// Parses what a configuration says about this.
 pub(crate) fn front_keys(alloc: Global, value: &Value) -> Result<FrontKeys, Fault>
-    ensures host { IfOk result (λ s. is_host s.address ≡ true) }
-    ensures name { IfOk result (λ s. IsVisible (string_bytes s.name)) }
-    ensures admin_token { IfOk result (λ s. IfSome s.admin_token (λ token. IsToken (string_bytes token))) }
-    ensures six_clients { IfOk result (λ s. AreSixClients (view value.now) s.six_clients) }
+    ensures said { IfOk result (AreFrontKeys (view value.now)) }
 {
     let top = Place::whole();
     Ok(FrontKeys {
@@ -46,7 +42,7 @@ pub(crate) fn front_keys(alloc: Global, value: &Value) -> Result<FrontKeys, Faul
 
 // Parses the name in Via fields.
 fn name(alloc: Global, value: &Value, place: Place<'_>) -> Result<String, Fault>
-    ensures { IfOk result (λ name. IsVisible (string_bytes name)) }
+    ensures said { IfOk result (λ name. Says IsName place.entry.key.now (view value.now) (string_bytes name)) }
 {
     let name = visible(alloc, value, place)?;
     Ok(String::from_str(alloc, name)?)
@@ -54,7 +50,7 @@ fn name(alloc: Global, value: &Value, place: Place<'_>) -> Result<String, Fault>
 
 // Parses the administrator's token, if it is given. A fault does not show it.
 fn admin_token(alloc: Global, value: &Value) -> Result<Option<String>, Fault>
-    ensures { IfOk result (λ given. IfSome given (λ token. IsToken (string_bytes token))) }
+    ensures said { IfOk result (λ token. MaySay IsSaidToken (codes "admin_token") (view value.now) (option_map string_bytes token)) }
 {
     if value.get("admin_token").is_none() {
         return Ok(None);

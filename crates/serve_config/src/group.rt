@@ -1,11 +1,13 @@
 //! The neighbours and the signing keys.
-ghost use Rattle.std.specs.Prelude.{◌≤◌, All, IfOk, length};
-ghost use Rattle.serve_config.specs.Group.{IsReachable, IsSecret};
+ghost use Rattle.std.specs.Prelude.{◌≡◌, [], ◌∷◌, ◌++◌, IfOk, IfSome, codes, map};
+ghost use Rattle.std.specs.List.{AllZip};
+ghost use Rattle.serde_json.specs.View.{view};
+ghost use Rattle.serve_config.specs.Group.{IsKey, IsKeyName, IsNeighbour, IsProtocol, IsRole, IsSecret};
+ghost use Rattle.serve_config.specs.Said.{Lists, Says};
 
 use crate::fault::Fault;
 use crate::place::Place;
-use crate::shape::items;
-use crate::value::{address, number, peer_port, text};
+use crate::value::{address, list, number, peer_port, text};
 use hex::FromHexError;
 use neighbours::{End, Key, Neighbour, Octets, Role, Socket};
 use serde_json::Value;
@@ -13,9 +15,9 @@ use std::alloc::{AllocError, Global};
 
 /// The signing keys. Errors: a malformed key, an empty secret, or a name that occurs twice.
 pub(crate) fn keys(alloc: Global, value: &Value) -> Result<Vec<Key>, Fault>
-    ensures { IfOk result (λ keys. All IsSecret keys.items) }
+    ensures { IfOk result (λ keys. Lists IsKey (codes "keys") (view value.now) keys.items) }
 {
-    let items = items(value, "keys");
+    let items = list(alloc, value, "keys")?;
     let mut keys = Vec::new(alloc);
     for i in 0..items.len() {
         let place = Place::item("keys", i);
@@ -30,7 +32,7 @@ pub(crate) fn keys(alloc: Global, value: &Value) -> Result<Vec<Key>, Fault>
 
 // Parses one signing key.
 fn key(alloc: Global, item: &Value, place: Place<'_>) -> Result<Key, Fault>
-    ensures { IfOk result (λ key. IsSecret key) }
+    ensures { IfOk result (IsKey (view item.now)) }
 {
     let name = text(alloc, item, place.key("name"))?;
     if name.is_empty() || name.len() > 255 {
@@ -41,19 +43,16 @@ fn key(alloc: Global, item: &Value, place: Place<'_>) -> Result<Key, Fault>
             "is empty or over 255 octets",
         ));
     }
-    let secret = secret(
-        alloc,
-        text(alloc, item, place.key("secret"))?,
-        place.key("secret"),
-    )?;
+    let secret = secret(alloc, item, place.key("secret"))?;
     let name = Octets::new(name.as_bytes().to_vec(alloc)?);
     Ok(Key { name, secret })
 }
 
 // Decodes a secret of at least one octet from hexadecimal. An error message does not contain its text.
-fn secret(alloc: Global, text: &str, place: Place<'_>) -> Result<Octets, Fault>
-    ensures { IfOk result (λ secret. 1 ≤ length secret) }
+fn secret(alloc: Global, item: &Value, place: Place<'_>) -> Result<Octets, Fault>
+    ensures said { IfOk result (Says IsSecret place.entry.key.now (view item.now)) }
 {
+    let text = text(alloc, item, place)?;
     match hex::decode(alloc, text.as_bytes()) {
         Ok(octets) if octets.is_empty() => Err(Fault::value(alloc, place, "empty")),
         Ok(octets) => Ok(Octets::new(octets)),
@@ -79,9 +78,9 @@ pub(crate) fn neighbours(
     value: &Value,
     keys: &[Key],
 ) -> Result<Vec<Neighbour>, Fault>
-    ensures { IfOk result (λ neighbours. All IsReachable neighbours.items) }
+    ensures { IfOk result (λ neighbours. Lists IsNeighbour (codes "neighbours") (view value.now) neighbours.items) }
 {
-    let items = items(value, "neighbours");
+    let items = list(alloc, value, "neighbours")?;
     let neighbours = each_neighbour(alloc, items, keys)?;
     if items.len() > 64 {
         drop(neighbours);
@@ -92,7 +91,7 @@ pub(crate) fn neighbours(
 
 // Parses each neighbour.
 fn each_neighbour(alloc: Global, items: &[Value], keys: &[Key]) -> Result<Vec<Neighbour>, Fault>
-    ensures { IfOk result (λ neighbours. All IsReachable neighbours.items) }
+    ensures { IfOk result (λ neighbours. AllZip IsNeighbour (map view items.now) neighbours.items) }
 {
     let mut neighbours = Vec::new(alloc);
     for i in 0..items.len() {
@@ -110,9 +109,7 @@ fn with_neighbour(
     neighbour: Neighbour,
     place: Place<'_>,
 ) -> Result<Vec<Neighbour>, Fault>
-    requires others { All IsReachable neighbours.items }
-    requires this { IsReachable neighbour }
-    ensures { IfOk result (λ after. All IsReachable after.items) }
+    ensures { IfOk result (λ after. after.items ≡ neighbours.items ++ neighbour ∷ []) }
 {
     let mut neighbours = neighbours;
     if has_end(neighbours.as_slice(), neighbour.end) {
@@ -143,7 +140,7 @@ fn neighbour(
     place: Place<'_>,
     keys: &[Key],
 ) -> Result<Neighbour, Fault>
-    ensures { IfOk result (λ neighbour. IsReachable neighbour) }
+    ensures said { IfOk result (IsNeighbour (view item.now)) }
 {
     Ok(Neighbour {
         kind: role(alloc, item, place.key("kind"))?,
@@ -159,7 +156,9 @@ fn neighbour(
 }
 
 // Parses the kind of a neighbour: `sibling` or `parent`.
-fn role(alloc: Global, item: &Value, place: Place<'_>) -> Result<Role, Fault> {
+fn role(alloc: Global, item: &Value, place: Place<'_>) -> Result<Role, Fault>
+    ensures said { IfOk result (Says IsRole place.entry.key.now (view item.now)) }
+{
     match text(alloc, item, place)? {
         "sibling" => Ok(Role::Sibling),
         "parent" => Ok(Role::Parent),
@@ -168,7 +167,9 @@ fn role(alloc: Global, item: &Value, place: Place<'_>) -> Result<Role, Fault> {
 }
 
 // Parses the query protocol of a neighbour: `icp` or `htcp`.
-fn protocol(alloc: Global, item: &Value, place: Place<'_>) -> Result<Socket, Fault> {
+fn protocol(alloc: Global, item: &Value, place: Place<'_>) -> Result<Socket, Fault>
+    ensures { IfOk result (Says IsProtocol place.entry.key.now (view item.now)) }
+{
     match text(alloc, item, place)? {
         "icp" => Ok(Socket::Icp),
         "htcp" => Ok(Socket::Htcp),
@@ -182,7 +183,9 @@ fn key_name(
     item: &Value,
     place: Place<'_>,
     keys: &[Key],
-) -> Result<Option<Octets>, Fault> {
+) -> Result<Option<Octets>, Fault>
+    ensures said { IfOk result (Says IsKeyName place.entry.key.now (view item.now)) }
+{
     let name = text(alloc, item, place)?;
     if name.is_empty() {
         return Ok(None);

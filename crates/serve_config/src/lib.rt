@@ -1,9 +1,10 @@
 //! The configuration of `serve`: a JSON object with exactly the known keys, parsed into [`Settings`], or a [`Fault`] that says
 //! what is wrong and where.
 //!
-//! The contract of [`Settings::read`] gives the ranges of the numbers that other crates rely on, and what holds of the neighbours
-//! and the signing keys of an accepted configuration (`specs/Group.antt`); keys, kinds and messages are only tested. Which keys the node
-//! is given, and whether there is one for the cache's requests to itself, is defined in `specs/OwnKey.antt`.
+//! The contract of [`Settings::read`] says what the settings are at each key of the text (`specs/Settings.antt`, in the words of
+//! `specs/Said.antt`), within which bounds, and what holds of the neighbours and the sockets of an accepted configuration. That there
+//! are no other keys, and the messages, is only tested. Which keys the node is given, and whether there is one for the cache's requests
+//! to itself, is defined in `specs/OwnKey.antt`.
 //! Tested by: tests/configurations (rows of cases/configurations), crates/test_http_rules, cases/serve, must-fail edits.
 #![tactic(auto)]
 

@@ -1,9 +1,11 @@
 //! The sizes and numbers that the program keeps within.
-ghost use Rattle.std.specs.Prelude.{◌≤◌, IfOk, IfSome};
+ghost use Rattle.std.specs.Prelude.{IfOk};
+ghost use Rattle.serde_json.specs.View.{view};
+ghost use Rattle.serve_config.specs.Parts.{AreLengthKeys, AreLoadKeys};
 
 use crate::fault::Fault;
 use crate::place::Place;
-use crate::value::number;
+use crate::value::{number, optional};
 use serde_json::Value;
 use std::alloc::Global;
 
@@ -29,9 +31,7 @@ pub(crate) struct LoadKeys {
 
 /// Parses what a configuration says about the lengths of bodies and of the event log.
 pub(crate) fn length_keys(alloc: Global, value: &Value) -> Result<LengthKeys, Fault>
-    ensures body_limit { IfOk result (λ s. (1 ≤ s.body_limit) × (s.body_limit ≤ 1073741824)) }
-    ensures volume { IfOk result (λ s. (1 ≤ s.volume) × (s.volume ≤ 1048576)) }
-    ensures book_octets { IfOk result (λ s. IfSome s.book_octets (λ n. (1 ≤ n) × (n ≤ 1073741824))) }
+    ensures said { IfOk result (AreLengthKeys (view value.now)) }
 {
     let top = Place::whole();
     Ok(LengthKeys {
@@ -44,11 +44,7 @@ pub(crate) fn length_keys(alloc: Global, value: &Value) -> Result<LengthKeys, Fa
 
 /// Parses what a configuration says about how much the program takes on.
 pub(crate) fn load_keys(alloc: Global, value: &Value) -> Result<LoadKeys, Fault>
-    ensures fetch_octets { IfOk result (λ s. IfSome s.fetch_octets (λ n. (1 ≤ n) × (n ≤ 1073741824))) }
-    ensures shelf_octets { IfOk result (λ s. IfSome s.shelf_octets (λ n. n ≤ 1073741824)) }
-    ensures address_connections { IfOk result (λ s. IfSome s.address_connections (λ n. (1 ≤ n) × (n ≤ 4096))) }
-    ensures client_threads { IfOk result (λ s. IfSome s.client_threads (λ n. (1 ≤ n) × (n ≤ 16))) }
-    ensures lookup_threads { IfOk result (λ s. IfSome s.lookup_threads (λ n. (1 ≤ n) × (n ≤ 256))) }
+    ensures said { IfOk result (AreLoadKeys (view value.now)) }
 {
     let top = Place::whole();
     Ok(LoadKeys {
@@ -59,21 +55,4 @@ pub(crate) fn load_keys(alloc: Global, value: &Value) -> Result<LoadKeys, Fault>
         lookup_threads: optional(alloc, value, "lookup_threads", 1, 256)?,
         stop_after: number(alloc, value, top.key("stop_after"), 0, u64::MAX)?,
     })
-}
-
-// Parses the number of a key that may be left out, from `least` to `most`.
-fn optional(
-    alloc: Global,
-    value: &Value,
-    key: &str,
-    least: u32,
-    most: u32,
-) -> Result<Option<u32>, Fault>
-    ensures { IfOk result (λ given. IfSome given (λ n. (least ≤ n) × (n ≤ most))) }
-{
-    if value.get(key).is_none() {
-        return Ok(None);
-    }
-    let place = Place::whole().key(key);
-    Ok(Some(number(alloc, value, place, u64::from(least), u64::from(most))? as u32))
 }

@@ -1,10 +1,14 @@
 //! What the program tells: lines about answers to clients, and about its own work.
-ghost use Rattle.std.specs.Prelude.{◌≡◌, IfOk, Some};
+ghost use Rattle.std.specs.Prelude.{◌≡◌, IfOk, Some, codes, option_map};
+ghost use Rattle.std.specs.String.{string_bytes};
 ghost use Rattle.serde_json.specs.View.{view};
+ghost use Rattle.serve_config.specs.Files.{IsPath};
+ghost use Rattle.serve_config.specs.Parts.{AreLogKeys};
+ghost use Rattle.serve_config.specs.Said.{MaySay};
 ghost use Rattle.serve_config.specs.Words.{form_said, level_said};
 
 use crate::fault::Fault;
-use crate::filters::file;
+use crate::filters::path;
 use crate::place::Place;
 use crate::settings::{LogFormat, LogLevel};
 use crate::value::word;
@@ -21,15 +25,23 @@ pub(crate) struct LogKeys {
 
 /// Parses what a configuration says about these lines.
 pub(crate) fn log_keys(alloc: Global, value: &Value) -> Result<LogKeys, Fault>
-    ensures access_log_format { IfOk result (λ s. form_said (view value.now) ≡ Some s.access_log_format) }
-    ensures log_level { IfOk result (λ s. level_said (view value.now) ≡ Some s.log_level) }
+    ensures { IfOk result (AreLogKeys (view value.now)) }
 {
-    let place = Place::whole().key("access_log");
     Ok(LogKeys {
-        access_log: file(alloc, value.get("access_log"), place)?,
+        access_log: access_log(alloc, value)?,
         access_log_format: log_format(alloc, value)?,
         log_level: log_level(alloc, value)?,
     })
+}
+
+// Parses where the lines about answers go, if it is given.
+fn access_log(alloc: Global, value: &Value) -> Result<Option<String>, Fault>
+    ensures said { IfOk result (λ file. MaySay IsPath (codes "access_log") (view value.now) (option_map string_bytes file)) }
+{
+    match value.get("access_log") {
+        Some(given) => Ok(Some(path(alloc, given, Place::whole().key("access_log"))?)),
+        None => Ok(None),
+    }
 }
 
 // Parses the form of the lines about answers.

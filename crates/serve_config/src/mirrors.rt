@@ -1,7 +1,9 @@
 //! What requests in origin form stand for.
-ghost use Rattle.std.specs.Prelude.{◌≡◌, All, IfOk, true};
+ghost use Rattle.std.specs.Prelude.{◌≡◌, [], ◌∷◌, ◌++◌, All, IfOk, map, true};
 ghost use Rattle.std.specs.String.{string_bytes};
-ghost use Rattle.serve_config.specs.Mirrors.{AreMirrors, IsMirror, is_folder, is_mirror_path, is_mirror_url};
+ghost use Rattle.serde_json.specs.Data.{string};
+ghost use Rattle.serde_json.specs.View.{members_of, members_view, view};
+ghost use Rattle.serve_config.specs.Mirrors.{AreMirrors, IsMirror, is_folder, is_mirror_path, is_mirror_url, mirror_member};
 
 use crate::fault::Fault;
 use crate::place::Place;
@@ -26,14 +28,17 @@ pub struct MirrorPath {
 
 /// Parses the mirrors, in the order of their paths. Errors: a malformed one, or over 64 of them.
 pub(crate) fn mirrors(alloc: Global, value: &Value) -> Result<Vec<MirrorPath>, Fault>
-    ensures { IfOk result (λ mirrors. AreMirrors mirrors.items) }
+    ensures said { IfOk result (λ mirrors. AreMirrors (view value.now) mirrors.items) }
 {
-    let Some(members) = value.get("mirrors").and_then(Value::as_object) else {
+    let Some(given) = value.get("mirrors") else {
         return Ok(Vec::new(alloc));
+    };
+    let place = Place::whole().key("mirrors");
+    let Some(members) = given.as_object() else {
+        return Err(Fault::shape(alloc, place, "not an object"));
     };
     let mirrors = each_mirror(alloc, members)?;
     if mirrors.len() > MOST_MIRRORS {
-        let place = Place::whole().key("mirrors");
         return Err(Fault::value(alloc, place, "over 64 of them"));
     }
     Ok(mirrors)
@@ -41,11 +46,13 @@ pub(crate) fn mirrors(alloc: Global, value: &Value) -> Result<Vec<MirrorPath>, F
 
 // Parses each mirror.
 fn each_mirror(alloc: Global, members: &Map<String, Value>) -> Result<Vec<MirrorPath>, Fault>
-    ensures { IfOk result (λ mirrors. All IsMirror mirrors.items) }
+    ensures said { IfOk result (λ mirrors. members_view members.now.entries ≡ members_of (map mirror_member mirrors.items)) }
+    ensures each { IfOk result (λ mirrors. All IsMirror mirrors.items) }
 {
     let mut mirrors = Vec::new(alloc);
     for (path, url) in members.iter() {
-        mirrors = with_mirror(mirrors, mirror(alloc, path.as_str(), url)?)?;
+        let mirror = mirror(alloc, path.as_str(), url)?;
+        mirrors = with_mirror(mirrors, mirror)?;
     }
     Ok(mirrors)
 }
@@ -54,7 +61,8 @@ fn each_mirror(alloc: Global, members: &Map<String, Value>) -> Result<Vec<Mirror
 fn with_mirror(mirrors: Vec<MirrorPath>, mirror: MirrorPath) -> Result<Vec<MirrorPath>, Fault>
     requires others { All IsMirror mirrors.items }
     requires this { IsMirror mirror }
-    ensures { IfOk result (λ after. All IsMirror after.items) }
+    ensures all { IfOk result (λ after. after.items ≡ mirrors.items ++ mirror ∷ []) }
+    ensures each { IfOk result (λ after. All IsMirror after.items) }
 {
     let mut mirrors = mirrors;
     mirrors.push(mirror).map_err(AllocError::from)?;
@@ -63,7 +71,9 @@ fn with_mirror(mirrors: Vec<MirrorPath>, mirror: MirrorPath) -> Result<Vec<Mirro
 
 // Parses one mirror.
 fn mirror(alloc: Global, path: &str, url: &Value) -> Result<MirrorPath, Fault>
-    ensures { IfOk result (λ mirror. IsMirror mirror) }
+    ensures path { IfOk result (λ mirror. string_bytes mirror.path ≡ path.now) }
+    ensures value { IfOk result (λ mirror. view url.now ≡ string (string_bytes mirror.url)) }
+    ensures form { IfOk result IsMirror }
 {
     if !is_mirror_path(path.as_bytes()) {
         let place = Place::whole().key("mirrors");

@@ -1,8 +1,8 @@
 //! The node, and the filters that are in force from the start.
-ghost use Rattle.std.specs.Prelude.{◌≤◌, All, IfOk, length};
+ghost use Rattle.std.specs.Prelude.{IfOk};
 ghost use Rattle.serde_json.specs.View.{view};
-ghost use Rattle.serve_config.specs.Files.{AreFiles};
-ghost use Rattle.serve_config.specs.Group.{IsReachable, IsSecret};
+ghost use Rattle.serve_config.specs.Parts.{AreNodeKeys, IsFrame};
+ghost use Rattle.serve_config.specs.Settings.{IsNode};
 
 use crate::fault::Fault;
 use crate::filters::filters;
@@ -36,11 +36,7 @@ struct NodeFrame {
 
 /// Parses what a configuration says about the node.
 pub(crate) fn node_keys(alloc: Global, value: &Value) -> Result<NodeKeys, Fault>
-    ensures entries { IfOk result (λ s. (1 ≤ s.config.entries) × (s.config.entries ≤ 1000000)) }
-    ensures octets { IfOk result (λ s. (1 ≤ s.config.octets) × (s.config.octets ≤ 1073741824)) }
-    ensures reachable { IfOk result (λ s. All IsReachable s.config.neighbours.items) }
-    ensures secrets { IfOk result (λ s. All IsSecret s.config.keys.items) }
-    ensures filters { IfOk result (λ s. AreFiles (length s.config.neighbours.items) (view value.now) s.filters.items) }
+    ensures { IfOk result (AreNodeKeys (view value.now)) }
 {
     let config = config(alloc, value)?;
     let filters = filters(alloc, value, config.neighbours.len())?;
@@ -49,10 +45,7 @@ pub(crate) fn node_keys(alloc: Global, value: &Value) -> Result<NodeKeys, Fault>
 
 // Parses the configuration of the node.
 fn config(alloc: Global, value: &Value) -> Result<Config, Fault>
-    ensures entries { IfOk result (λ c. (1 ≤ c.entries) × (c.entries ≤ 1000000)) }
-    ensures octets { IfOk result (λ c. (1 ≤ c.octets) × (c.octets ≤ 1073741824)) }
-    ensures reachable { IfOk result (λ c. All IsReachable c.neighbours.items) }
-    ensures secrets { IfOk result (λ c. All IsSecret c.keys.items) }
+    ensures said { IfOk result (IsNode (view value.now)) }
 {
     let frame = frame(alloc, value)?;
     let allowed = networks(alloc, value, "allowed")?;
@@ -73,8 +66,7 @@ fn config(alloc: Global, value: &Value) -> Result<Config, Fault>
 
 // Parses what of it has no length of its own.
 fn frame(alloc: Global, value: &Value) -> Result<NodeFrame, Fault>
-    ensures entries { IfOk result (λ c. (1 ≤ c.entries) × (c.entries ≤ 1000000)) }
-    ensures octets { IfOk result (λ c. (1 ≤ c.octets) × (c.octets ≤ 1073741824)) }
+    ensures said { IfOk result (IsFrame (view value.now)) }
 {
     let top = Place::whole();
     let addr = address(alloc, value, top.key("address"))?;

@@ -1,11 +1,14 @@
 //! Which origins are fetched from.
-ghost use Rattle.std.specs.Prelude.{◌≤◌, All, IfOk, IfSome};
-ghost use Rattle.serve_config.specs.Origins.{AreNetworks, ArePorts, AreSixNetworks};
+ghost use Rattle.std.specs.Prelude.{◌≡◌, [], IfOk, IfSome, IsSomeAnd, codes, false, is_some, option_map};
+ghost use Rattle.serde_json.specs.Find.{get};
+ghost use Rattle.serde_json.specs.View.{view};
+ghost use Rattle.serve_config.specs.Origins.{AreDenied, ArePorts, IsSixNetwork};
+ghost use Rattle.serve_config.specs.Parts.{AddsNetwork, AreOriginKeys};
+ghost use Rattle.serve_config.specs.Said.{MaySay, listed};
 
 use crate::fault::Fault;
 use crate::place::Place;
-use crate::shape::items;
-use crate::value::{network, number_of, prefix_of, truth};
+use crate::value::{list, network, ports_in, prefix_of, truth_or_false};
 use node_words::Network;
 use serde_json::Value;
 use std::alloc::{AllocError, Global};
@@ -35,45 +38,43 @@ struct Networks {
 
 /// Parses what a configuration says about origins.
 pub(crate) fn origin_keys(alloc: Global, value: &Value) -> Result<OriginKeys, Fault>
-    ensures deny_origins { IfOk result (λ s. IfSome s.deny_origins (λ networks. AreNetworks networks.items)) }
-    ensures origin_ports { IfOk result (λ s. IfSome s.origin_ports (λ ports. ArePorts ports.items)) }
-    ensures origins6 { IfOk result (λ s. IfSome s.origins6 (λ networks. AreSixNetworks networks.items)) }
+    ensures { IfOk result (AreOriginKeys (view value.now)) }
 {
-    let has_six = has_six(alloc, value)?;
+    let has_six = truth_or_false(alloc, value, Place::whole().key("origins6"))?;
     let Networks { four, six } = denied(alloc, value, has_six)?;
     Ok(OriginKeys {
-        deny_origins: given(value, "deny_origins", four),
+        deny_origins: given(value, four),
         origin_ports: origin_ports(alloc, value)?,
-        origins6: if has_six { Some(six) } else { None },
+        origins6: six_given(has_six, six),
     })
 }
 
-// Whether origins are fetched from at addresses of IPv6.
-fn has_six(alloc: Global, value: &Value) -> Result<bool, Fault> {
-    if value.get("origins6").is_none() {
-        return Ok(false);
-    }
-    truth(alloc, value, Place::whole().key("origins6"))
-}
-
-// These networks, if there is such a key.
-fn given(value: &Value, key: &str, networks: Vec<Network>) -> Option<Vec<Network>>
-    requires { AreNetworks networks.items }
-    ensures { IfSome result (λ given. AreNetworks given.items) }
+// The networks of `deny_origins`, if there is such a key.
+fn given(value: &Value, networks: Vec<Network>) -> Option<Vec<Network>>
+    ensures there { is_some result ≡ is_some (get (codes "deny_origins") (view value.now)) }
+    ensures all { IfSome result (λ given. given.items ≡ networks.items) }
 {
-    if value.get(key).is_some() {
+    if value.get("deny_origins").is_some() {
         Some(networks)
     } else {
         None
     }
 }
 
+// Those of IPv6, if such origins are fetched from.
+fn six_given(has_six: bool, networks: Vec<SixNetwork>) -> Option<Vec<SixNetwork>>
+    ensures there { is_some result ≡ has_six }
+    ensures all { IfSome result (λ given. given.items ≡ networks.items) }
+{
+    if has_six { Some(networks) } else { None }
+}
+
 // Parses the networks that are never fetched from as origins, those of IPv6 where such origins are fetched from.
 fn denied(alloc: Global, value: &Value, has_six: bool) -> Result<Networks, Fault>
-    ensures four { IfOk result (λ networks. AreNetworks networks.four.items) }
-    ensures six { IfOk result (λ networks. AreSixNetworks networks.six.items) }
+    ensures said { IfOk result (λ networks. IsSomeAnd (listed (codes "deny_origins") (view value.now)) (λ values. AreDenied values networks.four.items networks.six.items)) }
+    ensures six { IfOk result (λ networks. has_six ≡ false → networks.six.items ≡ []) }
 {
-    let items = items(value, "deny_origins");
+    let items = list(alloc, value, "deny_origins")?;
     let mut networks = Networks {
         four: Vec::new(alloc),
         six: Vec::new(alloc),
@@ -93,10 +94,8 @@ fn with_network(
     place: Place<'_>,
     has_six: bool,
 ) -> Result<Networks, Fault>
-    requires four { AreNetworks networks.four.items }
-    requires six { AreSixNetworks networks.six.items }
-    ensures four { IfOk result (λ after. AreNetworks after.four.items) }
-    ensures six { IfOk result (λ after. AreSixNetworks after.six.items) }
+    ensures said { IfOk result (λ after. AddsNetwork (view item.now) networks.four.items networks.six.items after.four.items after.six.items) }
+    ensures six { IfOk result (λ after. has_six ≡ false → after.six.items ≡ networks.six.items) }
 {
     let mut networks = networks;
     if has_six && let Some(network) = six_network(item) {
@@ -110,7 +109,7 @@ fn with_network(
 
 /// Parses the text of a network of IPv6, such as `2001:db8::/32`; `None` if it is none.
 pub(crate) fn six_network(value: &Value) -> Option<SixNetwork>
-    ensures { IfSome result (λ network. network.prefix ≤ 128) }
+    ensures { IfSome result (IsSixNetwork (view value.now)) }
 {
     let (address, bits) = value.as_str()?.split_once('/')?;
     let address = address.parse::<Ipv6Addr>().ok()?.to_bits();
@@ -124,28 +123,14 @@ pub(crate) fn six_network(value: &Value) -> Option<SixNetwork>
 
 // Parses the only ports that origins are fetched from, if they are given.
 fn origin_ports(alloc: Global, value: &Value) -> Result<Option<Vec<u16>>, Fault>
-    ensures { IfOk result (λ given. IfSome given (λ ports. ArePorts ports.items)) }
+    ensures said { IfOk result (λ ports. MaySay ArePorts (codes "origin_ports") (view value.now) (option_map (λ v. v.items) ports)) }
 {
-    if value.get("origin_ports").is_none() {
+    let Some(given) = value.get("origin_ports") else {
         return Ok(None);
-    }
-    let ports = ports(alloc, value)?;
+    };
+    let ports = ports_in(alloc, given, "origin_ports")?;
     if ports.is_empty() {
         return Err(Fault::value(alloc, Place::whole().key("origin_ports"), "empty"));
     }
     Ok(Some(ports))
-}
-
-// Parses the ports of `origin_ports`.
-fn ports(alloc: Global, value: &Value) -> Result<Vec<u16>, Fault>
-    ensures { IfOk result (λ ports. All (λ port. 1 ≤ port) ports.items) }
-{
-    let items = items(value, "origin_ports");
-    let mut ports = Vec::new(alloc);
-    for i in 0..items.len() {
-        let place = Place::item("origin_ports", i);
-        let port = number_of(alloc, &items[i], place, 1, 65_535)? as u16;
-        ports.push(port).map_err(AllocError::from)?;
-    }
-    Ok(ports)
 }

@@ -1,14 +1,14 @@
 //! What is passed on beside the node: requests with other methods, tunnels, and answers that are too long for the store.
-ghost use Rattle.std.specs.Prelude.{◌≡◌, ◌≤◌, [], ◌∷◌, ◌++◌, All, IfOk, IfSome, Some, bytes_eq, false, map};
+ghost use Rattle.std.specs.Prelude.{◌≡◌, [], ◌∷◌, ◌++◌, IfOk, IfSome, Some, bytes_eq, false, map};
 ghost use Rattle.std.specs.List.{IsDistinct, list_any};
 ghost use Rattle.serde_json.specs.View.{view};
 ghost use Rattle.http_traffic.specs.Methods.{method_name};
+ghost use Rattle.serve_config.specs.Parts.{ArePaceKeys, ArePassingKeys};
 ghost use Rattle.serve_config.specs.Passing.{AreConnectPorts, AreMethods, large_said, name_of};
 
 use crate::fault::Fault;
 use crate::place::Place;
-use crate::shape::items;
-use crate::value::{number, number_of, word};
+use crate::value::{number_or, optional, ports_in, word};
 use http_traffic::PassedMethod;
 use serde_json::Value;
 use std::alloc::{AllocError, Global};
@@ -48,16 +48,7 @@ pub(crate) struct PaceKeys {
 
 /// Parses what a configuration says about all of it.
 pub(crate) fn passing_keys(alloc: Global, value: &Value) -> Result<PassingKeys, Fault>
-    ensures methods { IfOk result (λ s. AreMethods (view value.now) s.methods.items) }
-    ensures connect_ports { IfOk result (λ s. AreConnectPorts s.connect_ports.items) }
-    ensures large { IfOk result (λ s. large_said (view value.now) ≡ Some s.large) }
-    ensures streams { IfOk result (λ s. (1 ≤ s.pace.streams) × (s.pace.streams ≤ 4096)) }
-    ensures tunnels { IfOk result (λ s. (1 ≤ s.pace.tunnels) × (s.pace.tunnels ≤ 4096)) }
-    ensures fetch_seconds { IfOk result (λ s. (1 ≤ s.pace.fetch_seconds) × (s.pace.fetch_seconds ≤ 86400)) }
-    ensures fetch_idle { IfOk result (λ s. IfSome s.pace.fetch_idle (λ n. (1 ≤ n) × (n ≤ 86400))) }
-    ensures fetch_speed { IfOk result (λ s. s.pace.fetch_speed ≤ 1000000) }
-    ensures quick_abort_octets { IfOk result (λ s. IfSome s.pace.quick_abort_octets (λ n. (1 ≤ n) × (n ≤ 1073741824))) }
-    ensures keep_alive { IfOk result (λ s. s.pace.keep_alive ≤ 3600) }
+    ensures { IfOk result (ArePassingKeys (view value.now)) }
 {
     Ok(PassingKeys {
         methods: methods(alloc, value)?,
@@ -69,22 +60,16 @@ pub(crate) fn passing_keys(alloc: Global, value: &Value) -> Result<PassingKeys, 
 
 // Parses how much is passed on at a time, and for how long.
 fn pace_keys(alloc: Global, value: &Value) -> Result<PaceKeys, Fault>
-    ensures streams { IfOk result (λ s. (1 ≤ s.streams) × (s.streams ≤ 4096)) }
-    ensures tunnels { IfOk result (λ s. (1 ≤ s.tunnels) × (s.tunnels ≤ 4096)) }
-    ensures fetch_seconds { IfOk result (λ s. (1 ≤ s.fetch_seconds) × (s.fetch_seconds ≤ 86400)) }
-    ensures fetch_idle { IfOk result (λ s. IfSome s.fetch_idle (λ n. (1 ≤ n) × (n ≤ 86400))) }
-    ensures fetch_speed { IfOk result (λ s. s.fetch_speed ≤ 1000000) }
-    ensures quick_abort_octets { IfOk result (λ s. IfSome s.quick_abort_octets (λ n. (1 ≤ n) × (n ≤ 1073741824))) }
-    ensures keep_alive { IfOk result (λ s. s.keep_alive ≤ 3600) }
+    ensures said { IfOk result (ArePaceKeys (view value.now)) }
 {
     Ok(PaceKeys {
-        streams: number_or(alloc, value, "streams", 4096, 256)?,
-        tunnels: number_or(alloc, value, "tunnels", 4096, 1024)?,
-        fetch_seconds: number_or(alloc, value, "fetch_seconds", 86_400, 30)?,
-        fetch_idle: fetch_idle(alloc, value)?,
-        fetch_speed: fetch_speed(alloc, value)?,
-        quick_abort_octets: quick_abort_octets(alloc, value)?,
-        keep_alive: keep_alive(alloc, value)?,
+        streams: number_or(alloc, value, "streams", 1, 4096, 256)?,
+        tunnels: number_or(alloc, value, "tunnels", 1, 4096, 1024)?,
+        fetch_seconds: number_or(alloc, value, "fetch_seconds", 1, 86_400, 30)?,
+        fetch_idle: optional(alloc, value, "fetch_idle", 1, 86_400)?,
+        fetch_speed: number_or(alloc, value, "fetch_speed", 0, 1_000_000, 0)?,
+        quick_abort_octets: optional(alloc, value, "quick_abort_octets", 1, 1_073_741_824)?,
+        keep_alive: number_or(alloc, value, "keep_alive", 0, 3600, 0)?,
     })
 }
 
@@ -173,26 +158,15 @@ fn has_method(methods: &[PassedMethod], method: PassedMethod) -> bool
 
 // Parses the ports that a tunnel may lead to. Errors: over 64 of them, or one that is none.
 fn connect_ports(alloc: Global, value: &Value) -> Result<Vec<u16>, Fault>
-    ensures { IfOk result (λ ports. AreConnectPorts ports.items) }
+    ensures said { IfOk result (λ ports. AreConnectPorts (view value.now) ports.items) }
 {
-    let ports = each_port(alloc, value)?;
+    let Some(given) = value.get("connect_ports") else {
+        return Ok(Vec::new(alloc));
+    };
+    let ports = ports_in(alloc, given, "connect_ports")?;
     if ports.len() > MOST_PORTS {
         let place = Place::whole().key("connect_ports");
         return Err(Fault::value(alloc, place, "over 64 of them"));
-    }
-    Ok(ports)
-}
-
-// Parses each of these ports.
-fn each_port(alloc: Global, value: &Value) -> Result<Vec<u16>, Fault>
-    ensures { IfOk result (λ ports. All (λ port. 1 ≤ port) ports.items) }
-{
-    let items = items(value, "connect_ports");
-    let mut ports = Vec::new(alloc);
-    for i in 0..items.len() {
-        let place = Place::item("connect_ports", i);
-        let port = number_of(alloc, &items[i], place, 1, 65_535)? as u16;
-        ports.push(port).map_err(AllocError::from)?;
     }
     Ok(ports)
 }
@@ -209,61 +183,4 @@ fn large_of(alloc: Global, value: &Value) -> Result<Large, Fault>
             Err(Fault::text(alloc, place, given, "is neither refuse nor stream"))
         }
     }
-}
-
-// Parses how many seconds a fetch may be without an octet, if that is limited.
-fn fetch_idle(alloc: Global, value: &Value) -> Result<Option<u32>, Fault>
-    ensures { IfOk result (λ given. IfSome given (λ n. (1 ≤ n) × (n ≤ 86400))) }
-{
-    if value.get("fetch_idle").is_none() {
-        return Ok(None);
-    }
-    let place = Place::whole().key("fetch_idle");
-    Ok(Some(number(alloc, value, place, 1, 86_400)? as u32))
-}
-
-// Parses how many octets of a content have to come in a second; 0, as few as may be, if there is no such key.
-fn fetch_speed(alloc: Global, value: &Value) -> Result<u32, Fault>
-    ensures { IfOk result (λ n. n ≤ 1000000) }
-{
-    if value.get("fetch_speed").is_none() {
-        return Ok(0);
-    }
-    let place = Place::whole().key("fetch_speed");
-    Ok(number(alloc, value, place, 0, 1_000_000)? as u32)
-}
-
-// Parses under how many missing octets a fetch goes on whose last client has gone, if such fetches end.
-fn quick_abort_octets(alloc: Global, value: &Value) -> Result<Option<u32>, Fault>
-    ensures { IfOk result (λ given. IfSome given (λ n. (1 ≤ n) × (n ≤ 1073741824))) }
-{
-    if value.get("quick_abort_octets").is_none() {
-        return Ok(None);
-    }
-    let place = Place::whole().key("quick_abort_octets");
-    Ok(Some(number(alloc, value, place, 1, 1_073_741_824)? as u32))
-}
-
-// Parses how many seconds a connection is kept for further fetches; 0, none is, if there is no such key.
-fn keep_alive(alloc: Global, value: &Value) -> Result<u32, Fault>
-    ensures { IfOk result (λ n. n ≤ 3600) }
-{
-    if value.get("keep_alive").is_none() {
-        return Ok(0);
-    }
-    let place = Place::whole().key("keep_alive");
-    Ok(number(alloc, value, place, 0, 3600)? as u32)
-}
-
-// Parses the number of a key, from 1 to `most`; `usual` if there is no such key.
-fn number_or(alloc: Global, value: &Value, key: &str, most: u32, usual: u32) -> Result<u32, Fault>
-    requires least { 1 ≤ usual }
-    requires most { usual ≤ most }
-    ensures { IfOk result (λ n. (1 ≤ n) × (n ≤ most)) }
-{
-    if value.get(key).is_none() {
-        return Ok(usual);
-    }
-    let place = Place::whole().key(key);
-    Ok(number(alloc, value, place, 1, u64::from(most))? as u32)
 }

@@ -1,4 +1,6 @@
 //! The location of a value in a configuration.
+ghost use Rattle.std.specs.Prelude.{◌≡◌};
+
 use std::fmt;
 
 /// The location of a value: a key of the configuration, an item of one of its lists, a key of such an item, or a key of one of its
@@ -35,7 +37,9 @@ impl<'a> Place<'a> {
     }
 
     /// A key of the object at this location.
-    pub(crate) fn key(self, key: &'a str) -> Place<'a> {
+    pub(crate) fn key(self, key: &'a str) -> Place<'a>
+        ensures { result.key.now ≡ key.now }
+    {
         Place {
             item: self.item,
             key,
@@ -43,7 +47,9 @@ impl<'a> Place<'a> {
     }
 
     /// The key; empty for the whole configuration, an item of a list or an object.
-    pub(crate) fn name(self) -> &'a str {
+    pub(crate) fn name(self) -> &'a str
+        ensures { result.now ≡ self.entry.key.now }
+    {
         self.key
     }
 }

@@ -1,21 +1,10 @@
 //! The settings of `serve`.
-ghost use Rattle.std.specs.Prelude.{◌≡◌, ◌≤◌, All, IfOk, IfSome, IsSomeAnd, Some, length, option_and_then, true, false};
+ghost use Rattle.std.specs.Prelude.{◌≡◌, IfOk, IsSomeAnd, Some, false};
 ghost use Rattle.std.specs.List.{list_any};
-ghost use Rattle.std.specs.String.{string_bytes};
 ghost use Rattle.serde_json.specs.Read.{read as read_json};
 ghost use Rattle.serde_json.specs.View.{view};
-ghost use Rattle.serve_config.specs.Addresses.{is_host};
-ghost use Rattle.serve_config.specs.Files.{AreFiles};
-ghost use Rattle.serve_config.specs.Group.{IsReachable, IsSecret};
-ghost use Rattle.serve_config.specs.Mirrors.{AreMirrors};
-ghost use Rattle.serve_config.specs.Origins.{AreNetworks, ArePorts, AreSixNetworks};
 ghost use Rattle.serve_config.specs.Own.{is_self, shares_port};
-ghost use Rattle.serve_config.specs.Passing.{AreConnectPorts, AreMethods, large_said};
-ghost use Rattle.serve_config.specs.Refresh.{AreRules, AreStaleSeconds, IsVisible};
-ghost use Rattle.serve_config.specs.SharedFields.{AreSharedFields};
-ghost use Rattle.serve_config.specs.SixClients.{AreSixClients};
-ghost use Rattle.serve_config.specs.Tokens.{IsToken};
-ghost use Rattle.serve_config.specs.Words.{form_said, freshness_said, level_said};
+ghost use Rattle.serve_config.specs.Settings.{AreSettings};
 
 use crate::fault::Fault;
 use crate::freshness::{Freshness, RefreshRule};
@@ -149,43 +138,7 @@ impl Settings {
     /// Errors: [`Fault`]. If there are several, syntax comes first, then missing or unknown keys and wrong kinds, then values, then
     /// a neighbour that is this cache itself, and last clients and administration at the same port.
     pub fn read(alloc: Global, text: &[u8]) -> Result<Settings, Fault>
-        ensures body_limit { IfOk result (λ s. (1 ≤ s.body_limit) × (s.body_limit ≤ 1073741824)) }
-        ensures volume { IfOk result (λ s. (1 ≤ s.volume) × (s.volume ≤ 1048576)) }
-        ensures book_octets { IfOk result (λ s. IfSome s.book_octets (λ n. (1 ≤ n) × (n ≤ 1073741824))) }
-        ensures fetch_octets { IfOk result (λ s. IfSome s.fetch_octets (λ n. (1 ≤ n) × (n ≤ 1073741824))) }
-        ensures shelf_octets { IfOk result (λ s. IfSome s.shelf_octets (λ n. n ≤ 1073741824)) }
-        ensures address_connections { IfOk result (λ s. IfSome s.address_connections (λ n. (1 ≤ n) × (n ≤ 4096))) }
-        ensures client_threads { IfOk result (λ s. IfSome s.client_threads (λ n. (1 ≤ n) × (n ≤ 16))) }
-        ensures lookup_threads { IfOk result (λ s. IfSome s.lookup_threads (λ n. (1 ≤ n) × (n ≤ 256))) }
-        ensures deny_origins { IfOk result (λ s. IfSome s.deny_origins (λ networks. AreNetworks networks.items)) }
-        ensures origin_ports { IfOk result (λ s. IfSome s.origin_ports (λ ports. ArePorts ports.items)) }
-        ensures origins6 { IfOk result (λ s. IfSome s.origins6 (λ networks. AreSixNetworks networks.items)) }
-        ensures admin_token { IfOk result (λ s. IfSome s.admin_token (λ token. IsToken (string_bytes token))) }
-        ensures six_clients { IfOk result (λ s. IsSomeAnd (read_json text.now) (λ d. AreSixClients d s.six_clients)) }
-        ensures name { IfOk result (λ s. IsVisible (string_bytes s.name)) }
-        ensures access_log_format { IfOk result (λ s. option_and_then form_said (read_json text.now) ≡ Some s.access_log_format) }
-        ensures log_level { IfOk result (λ s. option_and_then level_said (read_json text.now) ≡ Some s.log_level) }
-        ensures freshness { IfOk result (λ s. option_and_then freshness_said (read_json text.now) ≡ Some s.freshness) }
-        ensures refresh { IfOk result (λ s. AreRules s.freshness s.refresh.items) }
-        ensures serve_stale { IfOk result (λ s. AreStaleSeconds s.freshness s.serve_stale) }
-        ensures mirrors { IfOk result (λ s. AreMirrors s.mirrors.items) }
-        ensures methods { IfOk result (λ s. IsSomeAnd (read_json text.now) (λ d. AreMethods d s.methods.items)) }
-        ensures connect_ports { IfOk result (λ s. AreConnectPorts s.connect_ports.items) }
-        ensures large { IfOk result (λ s. option_and_then large_said (read_json text.now) ≡ Some s.large) }
-        ensures streams { IfOk result (λ s. (1 ≤ s.streams) × (s.streams ≤ 4096)) }
-        ensures tunnels { IfOk result (λ s. (1 ≤ s.tunnels) × (s.tunnels ≤ 4096)) }
-        ensures fetch_seconds { IfOk result (λ s. (1 ≤ s.fetch_seconds) × (s.fetch_seconds ≤ 86400)) }
-        ensures fetch_idle { IfOk result (λ s. IfSome s.fetch_idle (λ n. (1 ≤ n) × (n ≤ 86400))) }
-        ensures fetch_speed { IfOk result (λ s. s.fetch_speed ≤ 1000000) }
-        ensures quick_abort_octets { IfOk result (λ s. IfSome s.quick_abort_octets (λ n. (1 ≤ n) × (n ≤ 1073741824))) }
-        ensures keep_alive { IfOk result (λ s. s.keep_alive ≤ 3600) }
-        ensures shared_fields { IfOk result (λ s. AreSharedFields s.shared_fields.items) }
-        ensures entries { IfOk result (λ s. (1 ≤ s.node.entries) × (s.node.entries ≤ 1000000)) }
-        ensures octets { IfOk result (λ s. (1 ≤ s.node.octets) × (s.node.octets ≤ 1073741824)) }
-        ensures host { IfOk result (λ s. is_host s.address ≡ true) }
-        ensures reachable { IfOk result (λ s. All IsReachable s.node.neighbours.items) }
-        ensures secrets { IfOk result (λ s. All IsSecret s.node.keys.items) }
-        ensures filters { IfOk result (λ s. IsSomeAnd (read_json text.now) (λ d. AreFiles (length s.node.neighbours.items) d s.filters.items)) }
+        ensures said { IfOk result (λ s. IsSomeAnd (read_json text.now) (λ d. AreSettings d s)) }
         ensures apart { IfOk result (λ s. list_any (is_self s) s.node.neighbours.items ≡ false) }
         ensures ports { IfOk result (λ s. shares_port s ≡ false) }
     {
@@ -278,43 +231,7 @@ impl fmt::Debug for Settings {
 
 // Checks the keys of a configuration and the kinds of their values, and parses them.
 fn parse_values(alloc: Global, value: &Value) -> Result<Settings, Fault>
-    ensures body_limit { IfOk result (λ s. (1 ≤ s.body_limit) × (s.body_limit ≤ 1073741824)) }
-    ensures volume { IfOk result (λ s. (1 ≤ s.volume) × (s.volume ≤ 1048576)) }
-    ensures book_octets { IfOk result (λ s. IfSome s.book_octets (λ n. (1 ≤ n) × (n ≤ 1073741824))) }
-    ensures fetch_octets { IfOk result (λ s. IfSome s.fetch_octets (λ n. (1 ≤ n) × (n ≤ 1073741824))) }
-    ensures shelf_octets { IfOk result (λ s. IfSome s.shelf_octets (λ n. n ≤ 1073741824)) }
-    ensures address_connections { IfOk result (λ s. IfSome s.address_connections (λ n. (1 ≤ n) × (n ≤ 4096))) }
-    ensures client_threads { IfOk result (λ s. IfSome s.client_threads (λ n. (1 ≤ n) × (n ≤ 16))) }
-    ensures lookup_threads { IfOk result (λ s. IfSome s.lookup_threads (λ n. (1 ≤ n) × (n ≤ 256))) }
-    ensures deny_origins { IfOk result (λ s. IfSome s.deny_origins (λ networks. AreNetworks networks.items)) }
-    ensures origin_ports { IfOk result (λ s. IfSome s.origin_ports (λ ports. ArePorts ports.items)) }
-    ensures origins6 { IfOk result (λ s. IfSome s.origins6 (λ networks. AreSixNetworks networks.items)) }
-    ensures admin_token { IfOk result (λ s. IfSome s.admin_token (λ token. IsToken (string_bytes token))) }
-    ensures six_clients { IfOk result (λ s. AreSixClients (view value.now) s.six_clients) }
-    ensures name { IfOk result (λ s. IsVisible (string_bytes s.name)) }
-    ensures access_log_format { IfOk result (λ s. form_said (view value.now) ≡ Some s.access_log_format) }
-    ensures log_level { IfOk result (λ s. level_said (view value.now) ≡ Some s.log_level) }
-    ensures freshness { IfOk result (λ s. freshness_said (view value.now) ≡ Some s.freshness) }
-    ensures refresh { IfOk result (λ s. AreRules s.freshness s.refresh.items) }
-    ensures serve_stale { IfOk result (λ s. AreStaleSeconds s.freshness s.serve_stale) }
-    ensures mirrors { IfOk result (λ s. AreMirrors s.mirrors.items) }
-    ensures methods { IfOk result (λ s. AreMethods (view value.now) s.methods.items) }
-    ensures connect_ports { IfOk result (λ s. AreConnectPorts s.connect_ports.items) }
-    ensures large { IfOk result (λ s. large_said (view value.now) ≡ Some s.large) }
-    ensures streams { IfOk result (λ s. (1 ≤ s.streams) × (s.streams ≤ 4096)) }
-    ensures tunnels { IfOk result (λ s. (1 ≤ s.tunnels) × (s.tunnels ≤ 4096)) }
-    ensures fetch_seconds { IfOk result (λ s. (1 ≤ s.fetch_seconds) × (s.fetch_seconds ≤ 86400)) }
-    ensures fetch_idle { IfOk result (λ s. IfSome s.fetch_idle (λ n. (1 ≤ n) × (n ≤ 86400))) }
-    ensures fetch_speed { IfOk result (λ s. s.fetch_speed ≤ 1000000) }
-    ensures quick_abort_octets { IfOk result (λ s. IfSome s.quick_abort_octets (λ n. (1 ≤ n) × (n ≤ 1073741824))) }
-    ensures keep_alive { IfOk result (λ s. s.keep_alive ≤ 3600) }
-    ensures shared_fields { IfOk result (λ s. AreSharedFields s.shared_fields.items) }
-    ensures entries { IfOk result (λ s. (1 ≤ s.node.entries) × (s.node.entries ≤ 1000000)) }
-    ensures octets { IfOk result (λ s. (1 ≤ s.node.octets) × (s.node.octets ≤ 1073741824)) }
-    ensures host { IfOk result (λ s. is_host s.address ≡ true) }
-    ensures reachable { IfOk result (λ s. All IsReachable s.node.neighbours.items) }
-    ensures secrets { IfOk result (λ s. All IsSecret s.node.keys.items) }
-    ensures filters { IfOk result (λ s. AreFiles (length s.node.neighbours.items) (view value.now) s.filters.items) }
+    ensures { IfOk result (AreSettings (view value.now)) }
 {
     check(alloc, value)?;
     let Keys {

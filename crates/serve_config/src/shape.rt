@@ -204,8 +204,8 @@ fn check_items(alloc: Global, value: &Value, key: &str, kind: Kind) -> Result<()
     Ok(())
 }
 
-/// The items of a list of an object; none if the list is missing.
-pub(crate) fn items<'a>(object: &'a Value, key: &str) -> &'a [Value] {
+// The items of a list of an object; none if the list is missing.
+fn items<'a>(object: &'a Value, key: &str) -> &'a [Value] {
     match object.get(key).and_then(Value::as_array) {
         Some(items) => items.as_slice(),
         None => &[],

@@ -1,8 +1,10 @@
 //! The fields that the fetches for all clients send.
-ghost use Rattle.std.specs.Prelude.{◌≡◌, All, IfOk, true};
+ghost use Rattle.std.specs.Prelude.{◌≡◌, [], ◌∷◌, ◌++◌, All, IfOk, map, true};
 ghost use Rattle.std.specs.List.{list_all};
 ghost use Rattle.std.specs.String.{string_bytes};
-ghost use Rattle.serve_config.specs.SharedFields.{AreSharedFields, IsSharedField, is_field_name, is_field_value, is_padded, is_short_text, is_text_octet};
+ghost use Rattle.serde_json.specs.Data.{string};
+ghost use Rattle.serde_json.specs.View.{members_of, members_view, view};
+ghost use Rattle.serve_config.specs.SharedFields.{AreSharedFields, IsSharedField, field_member, is_field_name, is_field_value, is_padded, is_short_text, is_text_octet};
 
 use crate::fault::Fault;
 use crate::place::Place;
@@ -27,14 +29,17 @@ pub struct SharedField {
 
 /// Parses the fields, in the order of their names. Errors: a malformed one, or over 16 of them.
 pub(crate) fn shared_fields(alloc: Global, value: &Value) -> Result<Vec<SharedField>, Fault>
-    ensures { IfOk result (λ fields. AreSharedFields fields.items) }
+    ensures said { IfOk result (λ fields. AreSharedFields (view value.now) fields.items) }
 {
-    let Some(members) = value.get("shared_fields").and_then(Value::as_object) else {
+    let Some(given) = value.get("shared_fields") else {
         return Ok(Vec::new(alloc));
+    };
+    let place = Place::whole().key("shared_fields");
+    let Some(members) = given.as_object() else {
+        return Err(Fault::shape(alloc, place, "not an object"));
     };
     let fields = each_field(alloc, members)?;
     if fields.len() > MOST_FIELDS {
-        let place = Place::whole().key("shared_fields");
         return Err(Fault::value(alloc, place, "over 16 of them"));
     }
     Ok(fields)
@@ -42,11 +47,13 @@ pub(crate) fn shared_fields(alloc: Global, value: &Value) -> Result<Vec<SharedFi
 
 // Parses each field.
 fn each_field(alloc: Global, members: &Map<String, Value>) -> Result<Vec<SharedField>, Fault>
-    ensures { IfOk result (λ fields. All IsSharedField fields.items) }
+    ensures said { IfOk result (λ fields. members_view members.now.entries ≡ members_of (map field_member fields.items)) }
+    ensures each { IfOk result (λ fields. All IsSharedField fields.items) }
 {
     let mut fields = Vec::new(alloc);
     for (name, value) in members.iter() {
-        fields = with_field(fields, field(alloc, name.as_str(), value)?)?;
+        let field = field(alloc, name.as_str(), value)?;
+        fields = with_field(fields, field)?;
     }
     Ok(fields)
 }
@@ -55,7 +62,8 @@ fn each_field(alloc: Global, members: &Map<String, Value>) -> Result<Vec<SharedF
 fn with_field(fields: Vec<SharedField>, field: SharedField) -> Result<Vec<SharedField>, Fault>
     requires others { All IsSharedField fields.items }
     requires this { IsSharedField field }
-    ensures { IfOk result (λ after. All IsSharedField after.items) }
+    ensures all { IfOk result (λ after. after.items ≡ fields.items ++ field ∷ []) }
+    ensures each { IfOk result (λ after. All IsSharedField after.items) }
 {
     let mut fields = fields;
     fields.push(field).map_err(AllocError::from)?;
@@ -64,7 +72,9 @@ fn with_field(fields: Vec<SharedField>, field: SharedField) -> Result<Vec<Shared
 
 // Parses one field.
 fn field(alloc: Global, name: &str, value: &Value) -> Result<SharedField, Fault>
-    ensures { IfOk result (λ field. IsSharedField field) }
+    ensures name { IfOk result (λ field. string_bytes field.name ≡ name.now) }
+    ensures value { IfOk result (λ field. view value.now ≡ string (string_bytes field.value)) }
+    ensures form { IfOk result IsSharedField }
 {
     if !is_field_name(name.as_bytes()) {
         let place = Place::whole().key("shared_fields");

@@ -1,14 +1,14 @@
 //! Clients with addresses of IPv6.
-ghost use Rattle.std.specs.Prelude.{◌≡◌, ◌≤◌, IfOk, is_some, not, true};
+ghost use Rattle.std.specs.Prelude.{◌≡◌, IfOk, codes, is_some, not};
 ghost use Rattle.serde_json.specs.View.{view};
-ghost use Rattle.serve_config.specs.Origins.{AreSixNetworks};
-ghost use Rattle.serve_config.specs.SixClients.{AreSixClients, is_host_six};
+ghost use Rattle.serve_config.specs.Origins.{IsSixNetwork};
+ghost use Rattle.serve_config.specs.Said.{Lists, Says};
+ghost use Rattle.serve_config.specs.SixClients.{AreSixClients, IsHostSix, is_host_six};
 
 use crate::fault::Fault;
 use crate::origins::{SixNetwork, six_network};
 use crate::place::Place;
-use crate::shape::items;
-use crate::value::text;
+use crate::value::{list, text};
 use serde_json::Value;
 use std::alloc::{AllocError, Global};
 use std::net::Ipv6Addr;
@@ -48,7 +48,7 @@ pub(crate) fn six_clients(alloc: Global, value: &Value) -> Result<Option<SixClie
 
 // Parses the address of the socket for clients of IPv6.
 fn socket_address(alloc: Global, value: &Value) -> Result<u128, Fault>
-    ensures { IfOk result (λ address. is_host_six address ≡ true) }
+    ensures said { IfOk result (Says IsHostSix (codes "http_address6") (view value.now)) }
 {
     let place = Place::whole().key("http_address6");
     let text = text(alloc, value, place)?;
@@ -82,9 +82,9 @@ fn refusal(address: u128) -> Option<&'static str>
 
 // Parses the networks whose clients may come in.
 fn allowed(alloc: Global, value: &Value) -> Result<Vec<SixNetwork>, Fault>
-    ensures { IfOk result (λ networks. AreSixNetworks networks.items) }
+    ensures { IfOk result (λ networks. Lists IsSixNetwork (codes "allowed6") (view value.now) networks.items) }
 {
-    let items = items(value, "allowed6");
+    let items = list(alloc, value, "allowed6")?;
     let mut networks = Vec::new(alloc);
     for i in 0..items.len() {
         let network = network(alloc, &items[i], Place::item("allowed6", i))?;
@@ -95,7 +95,7 @@ fn allowed(alloc: Global, value: &Value) -> Result<Vec<SixNetwork>, Fault>
 
 // Parses a network such as `2001:db8::/32`.
 fn network(alloc: Global, value: &Value, place: Place<'_>) -> Result<SixNetwork, Fault>
-    ensures { IfOk result (λ network. network.prefix ≤ 128) }
+    ensures { IfOk result (IsSixNetwork (view value.now)) }
 {
     let Some(text) = value.as_str() else {
         return Err(Fault::shape(alloc, place, "not a text"));

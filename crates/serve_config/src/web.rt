@@ -1,9 +1,7 @@
 //! What is fetched, kept and passed on.
 ghost use Rattle.std.specs.Prelude.{IfOk};
 ghost use Rattle.serde_json.specs.View.{view};
-ghost use Rattle.serve_config.specs.Mirrors.{AreMirrors};
-ghost use Rattle.serve_config.specs.Parts.{AreWebKeys};
-ghost use Rattle.serve_config.specs.SharedFields.{AreSharedFields};
+ghost use Rattle.serve_config.specs.Parts.{AreSiteKeys, AreWebKeys};
 
 use crate::fault::Fault;
 use crate::freshness::{FreshnessKeys, freshness_keys};
@@ -42,8 +40,7 @@ pub(crate) fn web_keys(alloc: Global, value: &Value) -> Result<WebKeys, Fault>
 
 /// Parses what a configuration says about mirrors and about the fields that the fetches for all clients send.
 pub(crate) fn site_keys(alloc: Global, value: &Value) -> Result<SiteKeys, Fault>
-    ensures mirrors { IfOk result (λ s. AreMirrors s.mirrors.items) }
-    ensures shared_fields { IfOk result (λ s. AreSharedFields s.shared_fields.items) }
+    ensures { IfOk result (AreSiteKeys (view value.now)) }
 {
     Ok(SiteKeys {
         mirrors: mirrors(alloc, value)?,

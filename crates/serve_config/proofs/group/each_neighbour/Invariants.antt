@@ -1,6 +1,8 @@
-use Rattle.std.specs.List.{All}
-use Rattle.serve_config.specs.Group.{IsReachable}
+use Rattle.std.proofs.Common.{map, take}
+use Rattle.std.specs.List.{AllZip}
+use Rattle.serde_json.specs.View.{view}
+use Rattle.serve_config.specs.Group.{IsNeighbour}
 use Rattle.serve_config.proofs.group.each_neighbour.Given as goal
 
 abbrev pub invariant-loop-i : goal.invariant-loop-i
-invariant-loop-i l = All IsReachable l.neighbours.items
+invariant-loop-i l = AllZip IsNeighbour (map view (take l.i l.items)) l.neighbours.items
