@@ -8,7 +8,7 @@ use Rattle.neighbours.specs.declared.neighbour.Role.{Role}
 use Rattle.neighbours.specs.declared.neighbour.Role.TheVariants.{Sibling, Parent}
 use Rattle.neighbours.specs.declared.key.Key.{Key}
 use Rattle.serde_json.specs.Data.{Data}
-use Rattle.serde_json.specs.Find.{as_str, get}
+use Rattle.serde_json.specs.Find.{as_str}
 use Rattle.serve_config.specs.Addresses.{IsHost}
 use Rattle.serve_config.specs.Said.{IsText, IsWhole, Says}
 

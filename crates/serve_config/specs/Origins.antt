@@ -1,5 +1,5 @@
 -- Which origins a configuration allows and denies, and how addresses and networks are written. 47 is a slash.
-use Rattle.std.specs.Prelude.{ℕ, ◌≡◌, ◌≤◌, ◌==◌, ◌⊎◌, List, [], ◌∷◌, length, codes, Bool, false, Option, IsSomeAnd, is_some, unwrap_or}
+use Rattle.std.specs.Prelude.{ℕ, ◌≡◌, ◌≤◌, ◌==◌, ◌⊎◌, List, [], ◌∷◌, length, codes, false, Option, IsSomeAnd, is_some, unwrap_or}
 use Rattle.std.specs.List.{after_first, before_first}
 use Rattle.std.specs.Net.Addr.{ipv6_bits}
 use Rattle.std.specs.Net.Grammar.{IsDotted, IsIpv6Text, IsNumber}

@@ -1,5 +1,5 @@
 -- The operator's rules about how long answers are fresh.
-use Rattle.std.specs.Prelude.{◌≡◌, ℕ, ◌≤◌, List, [], length, codes, nat_le, ◌&&◌, Bool, true, false, is_some, Option, Some}
+use Rattle.std.specs.Prelude.{◌≡◌, ℕ, ◌≤◌, List, [], length, codes, nat_le, ◌&&◌, Bool, true, false, is_some, Some}
 use Rattle.std.specs.List.{list_all}
 use Rattle.std.specs.String.{string_bytes}
 use Rattle.serde_json.specs.Data.{Data}

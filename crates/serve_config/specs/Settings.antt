@@ -1,8 +1,6 @@
 -- What the settings are that a configuration says.
-use Rattle.std.specs.Prelude.{◌≡◌, ℕ, length, List, codes, Option, option_map}
+use Rattle.std.specs.Prelude.{length, codes, option_map}
 use Rattle.std.specs.String.{string_bytes}
-use Rattle.neighbours.specs.declared.neighbour.Neighbour.{Neighbour}
-use Rattle.neighbours.specs.declared.key.Key.{Key}
 use Rattle.node_words.specs.declared.config.Config.{Config}
 use Rattle.serde_json.specs.Data.{Data}
 use Rattle.serve_config.specs.Addresses.{IsHost}

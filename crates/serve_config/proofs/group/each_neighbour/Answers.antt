@@ -1,4 +1,4 @@
-use Rattle.std.proofs.Common.{arith, rules}
+use Rattle.std.proofs.Common.{arith}
 use Rattle.serve_config.proofs.Listed.{more}
 use Rattle.serve_config.proofs.group.each_neighbour.Goals as goal
 
