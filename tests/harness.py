@@ -568,6 +568,25 @@ class Received:
                 raise ValueError("no end of a chunk")
 
 
+def tunnels_of(clients, port):
+    """The statuses of tunnels that these connections ask for at the same time."""
+    def status(s):
+        try:
+            return read_head(s).status
+        except OSError as fault:
+            return type(fault).__name__
+
+    for s in clients:
+        s.sendall(f"CONNECT 127.0.0.1:{port} HTTP/1.1\r\nHost: x\r\n\r\n".encode())
+        s.settimeout(3)
+    return [status(s) for s in clients]
+
+
+def connections_of_many(proxy, count):
+    """So many connections of clients, eight of each address."""
+    return [socket.create_connection((proxy.address, proxy.ports["http_port"]), timeout=10, source_address=(f"127.0.2.{1 + n // 8}", 0)) for n in range(count)]
+
+
 class Recorder(Server):
     """A server that reads each request with its content, and answers with what `answer(request)` returns; where that is None it has
     answered by itself. It reads on behind its answer, so a second request on the connection is seen. With `is_early` the answer is
@@ -701,6 +720,26 @@ def with_silent_names(name):
     with_names(name, "/etc/resolv.conf", "nameserver 127.0.0.1\noptions timeout:30 attempts:2\n")
 
 
+@contextlib.contextmanager
+def silent_at(port, *lasts):
+    """Has these addresses answer no attempt to connect to this port: their queues are full."""
+    waiting = []
+    for last in lasts:
+        address = (f"127.0.0.{last}", port)
+        full = socket.socket()
+        full.bind(address)
+        full.listen(0)
+        waiting += [full, *(socket.socket() for _ in range(4))]
+        for s in waiting[-4:]:
+            s.setblocking(False)
+            s.connect_ex(address)
+    try:
+        yield
+    finally:
+        for s in waiting:
+            s.close()
+
+
 def with_names(name, path, text):
     """Runs a test of the calling file in a network and mount namespace of its own, in which this text stands at the path."""
     tools = shutil.which("unshare") and shutil.which("ip") and shutil.which("mount")
@@ -725,11 +764,12 @@ def silent_names():
 
 class Names:
     """A name server that tells 127.0.0.1 for every name, after some time; nothing for names that begin with 'silent', that there is no
-    such name for those that are `gone`, and of those that begin with 'held' once `tell` is called. It counts the questions for addresses of
-    each."""
+    such name for those that are `gone`, and of those that begin with 'held' once `tell` is called, also what is asked of these later. It
+    counts the questions for addresses of each."""
 
     def __init__(self, delay=0.0):
-        self.delay, self.asked, self.gone, self.is_silent, self.held = delay, [], set(), False, {}
+        self.delay, self.asked, self.gone, self.is_silent = delay, [], set(), False
+        self.held, self.told, self.holds = {}, set(), threading.Lock()
         self.socket = socket.socket(socket.AF_INET, socket.SOCK_DGRAM)
         self.socket.bind(("127.0.0.1", 53))
         threading.Thread(target=self.run, daemon=True).start()
@@ -747,14 +787,25 @@ class Names:
             told = b"\xc0\x0c\0\1\0\1\0\0\0\0\0\4\x7f\0\0\1" if is_told else b""
             flags = b"\x81\x83" if name in self.gone else b"\x81\x80"
             reply = octets[:2] + flags + b"\0\1" + (b"\0\1" if is_told else b"\0\0") + bytes(4) + octets[12:end] + told
-            if name.startswith("held"):
-                self.held.setdefault(name, []).append((reply, sender))
+            if name.startswith("held") and self.is_held(name, reply, sender):
                 continue
             threading.Timer(self.delay, self.socket.sendto, (reply, sender)).start()
 
+    def is_held(self, name, reply, sender):
+        """Whether this is answered only once the name is told."""
+        with self.holds:
+            if name in self.told:
+                return False
+            self.held.setdefault(name, []).append((reply, sender))
+            return True
+
     def tell(self, name):
-        """Answers the questions about a name that is held."""
-        for reply, sender in self.held.pop(name):
+        """Answers the questions about a name that is held, and those that are on their way: of two, for addresses of either family, the
+        second may come once the first was seen."""
+        with self.holds:
+            self.told.add(name)
+            replies = self.held.pop(name, [])
+        for reply, sender in replies:
             self.socket.sendto(reply, sender)
 
     def names(self):
