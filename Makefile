@@ -13,7 +13,7 @@
 #   make format  lays out the files of all crates as rt fmt does; the gate refuses a crate with a file that is laid out otherwise
 #   make fuzz    gives the proxy 100,000 mutated requests and answers to pass on (some 5 minutes); `make test` does 3,000
 #   make limits  runs 100 streams of 1 GiB, silent streams and tunnels, and streams beside nginx (10 minutes and more; needs nginx)
-#   make edits   tries every must-fail edit, also those in more-edits/
+#   make edits   tries every must-fail edit, also those in more-edits/; and every wrong table (tools/wrong_tables)
 #   make slow    tests the proxy with clients and origins that are silent for a minute (80 s)
 #   make interop tests the proxy beside a real squid (needs squid and curl)
 #   make clients runs curl, wget, git, pip, apt and a Chromium through it, and says what each fetched of the origin, beside squid (needs nginx and openssl)
@@ -155,6 +155,7 @@ format:
 
 edits:
 	@tools/edits
+	@tools/wrong_tables
 
 bench: build
 	@bench/all $(PROGRAM)

@@ -2,4 +2,4 @@
 
 /// The day of the newest entry of CHANGELOG.md, and the revision of the sources that this program was built from, as `tools/revision`
 /// sums them up.
-pub const VERSION: &str = "2026-11-26+f30a82d03188";
+pub const VERSION: &str = "2026-11-26+89173b1792a5";

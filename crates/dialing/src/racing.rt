@@ -15,6 +15,13 @@ use tokio::net::{ConnectFuture, TcpStream};
 use tokio::runtime::Handle;
 use tokio::time::Sleep;
 
+// How long after an attempt that found no open file it is made again, in milliseconds: idle connections that give way to it leave theirs within
+// that.
+const FILE_PAUSE: u64 = 20;
+
+// Until when in the race such attempts are made again, in milliseconds.
+const FILE_PATIENCE: u64 = 1_000;
+
 /// A connection to a server, and the address at which it was reached.
 #[derive(Drop)]
 pub struct Connected {
@@ -38,6 +45,8 @@ struct Attempt {
     server: SocketAddr,
     // While it is under way.
     connecting: Option<ConnectFuture>,
+    // Whether it found no open file, and is made again.
+    lacks_file: bool,
     // What it holds meanwhile where it goes beside another one.
     ticket: Option<Ticket>,
 }
@@ -48,6 +57,7 @@ impl Drop for Attempt {
         let Self {
             server: _,
             connecting: _,
+            lacks_file: _,
             ticket: _,
         } = self;
     }
@@ -63,6 +73,8 @@ pub struct Dialing<R> {
     attempts: Vec<Attempt>,
     // Whether an attempt was refused that would have gone beside another one.
     is_held: bool,
+    // When attempts that found no open file are made again.
+    again: Option<u64>,
     // Runs while there is nothing to be done.
     sleep: Option<Sleep>,
 }
@@ -78,6 +90,7 @@ impl<R: Drop> Drop for Dialing<R> {
             began: _,
             attempts,
             is_held: _,
+            again: _,
             sleep,
         } = self;
         drop(rt);
@@ -106,6 +119,7 @@ impl<R: Net + Wait + Clock + Copy> Dialing<R> {
             began: Instant::now(&rt).ok(),
             attempts: Vec::new(alloc),
             is_held: false,
+            again: None,
             sleep: None,
         };
         let _ = dialing.begin(0, None);
@@ -122,6 +136,7 @@ impl<R: Net + Wait + Clock + Copy> Dialing<R> {
         let attempt = Attempt {
             server,
             connecting: Some(TcpStream::connect(&self.rt, server, self.handle.reactor())),
+            lacks_file: false,
             ticket,
         };
         match self.attempts.push(attempt) {
@@ -133,9 +148,35 @@ impl<R: Net + Wait + Clock + Copy> Dialing<R> {
         }
     }
 
+    // Makes those attempts again that found no open file, if it is time for that. Returns whether it is.
+    fn makes_again(&mut self, now: u64) -> bool {
+        let Some(again) = self.again else {
+            return false;
+        };
+        if now < again {
+            return false;
+        }
+        self.again = None;
+        for attempt in &mut self.attempts {
+            if attempt.lacks_file {
+                attempt.lacks_file = false;
+                let connecting = TcpStream::connect(
+                    &self.rt,
+                    attempt.server,
+                    self.handle.reactor(),
+                );
+                put(&mut attempt.connecting, Some(connecting));
+            }
+        }
+        true
+    }
+
     // Takes the next step of the race. Returns until when there is nothing to be done, or `None` if an attempt has begun. Errors: it is over.
     fn step(&mut self) -> Result<Option<u64>, DialFault> {
         let now = self.now();
+        if self.makes_again(now) {
+            return Ok(None);
+        }
         let ticket = self.asked(now);
         match self.race.next(now, !self.is_held) {
             Move::Begin => {
@@ -148,7 +189,7 @@ impl<R: Net + Wait + Clock + Copy> Dialing<R> {
                 self.begin(now, None)?;
                 Ok(None)
             }
-            Move::Wait(until) => Ok(Some(until)),
+            Move::Wait(until) => Ok(Some(self.again.unwrap_or(until).min(until))),
             Move::Late => Err(DialFault::Late),
             Move::Failed => Err(DialFault::Failed),
         }
@@ -186,6 +227,7 @@ impl<R: Wait + Clock> Dialing<R> {
             self.race.note_ended(now);
         }
         self.attempts.clear();
+        self.again = None;
     }
 
     // The address of the attempt at this place, which has ended.
@@ -229,9 +271,35 @@ impl<R: Wait + Clock> Dialing<R> {
             return None;
         };
         match connecting.poll(cx) {
-            Poll::Ready(connected) => self.ended(place, connected),
+            Poll::Ready(connected) => self.came(place, connected),
             Poll::Pending => None,
         }
+    }
+
+    // Notes how the attempt at this place came out. Returns the connection, if it has connected; then the others are closed.
+    fn came(&mut self, place: usize, connected: io::Result<TcpStream>) -> Option<Connected> {
+        match connected {
+            Err(fault) if finds_no_file(&fault) && self.postpones(place) => {
+                drop(fault);
+                None
+            }
+            connected => self.ended(place, connected),
+        }
+    }
+
+    // Has the attempt at this place, which found no open file, be made again a little later. Returns whether it is early enough for that.
+    fn postpones(&mut self, place: usize) -> bool {
+        let now = self.now();
+        let Some(attempt) = self.attempts.get_mut(place) else {
+            return false;
+        };
+        if FILE_PATIENCE <= now {
+            return false;
+        }
+        put(&mut attempt.connecting, None);
+        attempt.lacks_file = true;
+        self.again = Some(now.saturating_add(FILE_PAUSE));
+        true
     }
 
     // Sets the timer to this time of the race.
@@ -267,6 +335,11 @@ impl<R: Wait + Clock> Dialing<R> {
             Poll::Pending => Poll::Pending,
         }
     }
+}
+
+// Whether no open file was left for the program.
+fn finds_no_file(fault: &io::Error) -> bool {
+    matches!(fault.raw_os_error(), Some(libc::EMFILE))
 }
 
 // Puts a value in the place of another, which is let go of by a call: an assignment would lay out its parts for the prover.
