@@ -174,15 +174,19 @@ def threads_seconds(pid):
     return seconds
 
 
+WAITED = {}     # what `owed` has seen of each thread: what it waited so far, and, under its number, what others of that number had waited before it
+
+
 def owed(*pids):
-    """For how many seconds so far threads of these processes were ready to run and had no processor, all threads together. What took longer
-    because others had the processors took longer by at most what this grew by meanwhile; with nothing beside it that is next to nothing."""
-    seconds = 0.0
+    """For how many seconds so far threads of these processes were ready to run and had no processor, all threads together that were seen, also
+    those that have ended. What took longer because others had the processors took longer by at most what this grew by meanwhile; with
+    nothing beside it that is next to nothing."""
     for pid in pids:
         for thread in os.listdir(f"/proc/{pid}/task"):
             with contextlib.suppress(OSError), open(f"/proc/{pid}/task/{thread}/schedstat") as it:
-                seconds += int(it.read().split()[1]) / 1e9
-    return seconds
+                seconds, (last, gone) = int(it.read().split()[1]) / 1e9, WAITED.get((pid, thread), (0.0, 0.0))
+                WAITED[pid, thread] = (seconds, gone + (last if seconds < last else 0.0))
+    return sum(last + gone for (pid, _), (last, gone) in WAITED.items() if pid in pids)
 
 
 def busiest(before, after):
