@@ -1,6 +1,6 @@
 //! Destinations of fetches: origin servers and neighbours.
-use filter_slots::End;
 use http_traffic::address_in_digits;
+use node_terms::End;
 use std::alloc::Global;
 use std::net::SocketAddr;
 
