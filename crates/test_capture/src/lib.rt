@@ -1,5 +1,5 @@
-//! Tests of captures: reading (`capture`), with frames of each link type and with each fault, and classic and pcapng files of both
-//! byte orders, made by hand; and the blocks that are written (`capture_file`). No contract is proved here beyond the safety of the
+//! Tests of captures (`capture`): reading, with frames of each link type and with each fault, and classic and pcapng files of both
+//! byte orders, made by hand; and the blocks that are written. No contract is proved here beyond the safety of the
 //! tests.
 //! Tested by: nothing; its `#[test]` functions are the tests.
 #![tactic(auto)]

@@ -3,11 +3,11 @@ ghost use Rattle.std.specs.Prelude.{◌<◌};
 
 use crate::limits::{AllBut, fetch_limits, fetch_rules};
 use crate::origin::{Origin, listen, nowhere};
-use fetch_chain::Submit;
 use futures::channel::mpsc::{UnboundedReceiver, UnboundedSender, unbounded};
 use futures::channel::oneshot;
 use http_fetches::{FetchLimits, FetchRules, run_fetches};
 use http_traffic::{Ended, FetchEnd, FetchFault, Fetched, Job, Order, Server, Work};
+use shared_thread::Submit;
 use std::alloc::{AllocGlobal, Global};
 use std::net::{Net, SocketAddr};
 use std::random::RandomSource;

@@ -1,4 +1,4 @@
-//! Tests of the network edge over loopback: `client_streams`, `fetch_chain`, `http_clients`, `http_fetches` and `name_lookup`, against
+//! Tests of the network edge over loopback: `client_streams`, `shared_thread`, `http_clients`, `http_fetches` and `name_lookup`, against
 //! clients and origin servers on plain sockets. Nothing here has a contract that another crate uses. What can be seen of the built
 //! program, by its clients, its log or its administration, is tested there: tests/serve, tests/serve_operator and those beside them.
 //!
