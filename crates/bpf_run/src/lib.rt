@@ -1,5 +1,5 @@
 //! Runs classic BPF filters (McCanne and Jacobson, 1993) on datagrams: the packet that a filter sees of a datagram, and the
-//! interpreter that returns an accepted program's verdict on it. Also the endpoints, sockets and moments that other crates share.
+//! interpreter that returns an accepted program's verdict on it. It hands on the endpoints, sockets and moments of `node_terms`.
 //!
 //! Contracts see a packet as the list of its octets and a moment as its number of milliseconds. `specs/Machine.antt` defines the
 //! effect of each operation, `specs/Chain.antt` the runs. Every run ends, within as many steps as the program has instructions;

@@ -1,7 +1,7 @@
 -- An IPv4 packet (RFC 791) that holds a UDP datagram (RFC 768): what stands before the payload.
 use Rattle.std.specs.Prelude.{ℕ, ◌+◌, ◌-◌, ◌%◌, List, [], ◌∷◌, ◌++◌, drop}
 use Rattle.byteorder.specs.Endian.{big_bytes, big_number}
-use Rattle.bpf_run.specs.declared.ends.End.{End}
+use Rattle.node_terms.specs.declared.ends.End.{End}
 
 -- the two octets from place `at` of an address
 abbrev pub pair : List ℕ → ℕ → ℕ

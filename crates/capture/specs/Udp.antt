@@ -3,7 +3,7 @@
 -- what was captured of its packet: so it is in the first of several fragments, whose UDP length counts all of them, and in a packet
 -- that the capture's snap length cut. Nothing else of a first fragment is looked at.
 use Rattle.std.specs.Prelude.{ℕ, ◌==◌, ◌&&◌, ◌-◌, ◌*◌, ◌/◌, ◌%◌, nat_le, Bool, if◌then◌else◌, List, [], ◌∷◌, length, take, drop, slice_index, Option, Some, None}
-use Rattle.bpf_run.specs.declared.ends.End.{End}
+use Rattle.node_terms.specs.declared.ends.End.{End}
 use Rattle.capture.specs.declared.link.Link.{Link}
 use Rattle.capture.specs.Fields.{pair}
 use Rattle.capture.specs.Link.{packet_in}

@@ -2,7 +2,7 @@
 -- that of the net: the highest octet first.
 use Rattle.std.specs.Prelude.{ℕ, ◌+◌, ◌-◌, ◌%◌, ◌^◌, List, [], ◌∷◌, ◌++◌, length, replicate}
 use Rattle.byteorder.specs.Endian.{big_bytes}
-use Rattle.bpf_run.specs.declared.ends.End.{End}
+use Rattle.node_terms.specs.declared.ends.End.{End}
 use Rattle.capture.specs.declared.fate.Fate.{Fate}
 use Rattle.capture.specs.declared.fate.Fate.TheVariants.{Accepted, Cut, Rejected}
 use Rattle.capture.specs.Headers.{headers}

@@ -1,9 +1,9 @@
 -- The line of a script that delivers a datagram.
 use Rattle.std.specs.Prelude.{ℕ, List, ◌++◌, length, slice_index, codes, decimal, ◌==◌, if◌then◌else◌}
 use Rattle.hex.specs.Hex.{encode_lower}
-use Rattle.bpf_run.specs.declared.ends.End.{End}
-use Rattle.bpf_run.specs.declared.ends.Socket.{Socket}
-use Rattle.bpf_run.specs.declared.ends.Socket.TheVariants.{Icp, Htcp}
+use Rattle.node_terms.specs.declared.ends.End.{End}
+use Rattle.node_terms.specs.declared.ends.Socket.{Socket}
+use Rattle.node_terms.specs.declared.ends.Socket.TheVariants.{Icp, Htcp}
 
 -- octets in hexadecimal, `-` if there are none
 abbrev pub octets_text : List ℕ → List ℕ

@@ -4,8 +4,8 @@ use Rattle.std.specs.Prelude.{slice_get, slice_set, replicate, IsTrue, false}
 use Rattle.std.specs.Option.{option_map}
 use Rattle.std.proofs.lemmas.List.{get_or_push, get_or_append_left, get_or-set_same, get_or-set_other}
 use Rattle.std.proofs.lemmas.Option.{slice_get_within, slice_get-map, slice_get-get_or}
-use Rattle.bpf_run.specs.declared.ends.End.{End}
-use Rattle.bpf_run.specs.declared.ends.Socket.{Socket}
+use Rattle.node_terms.specs.declared.ends.End.{End}
+use Rattle.node_terms.specs.declared.ends.Socket.{Socket}
 use Rattle.filter_slots.specs.declared.senders.Sender.{Sender}
 use Rattle.filter_slots.specs.Filters.{AreNeighbours}
 use Rattle.filter_slots.specs.Senders.{pair_of, bucket_of, buckets, IsLast, AreChained}

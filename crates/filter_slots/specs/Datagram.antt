@@ -1,8 +1,8 @@
 -- Datagrams, and their source and destination as 12 octets.
 use Rattle.std.specs.Prelude.{ℕ, List, ◌++◌}
 use Rattle.std.specs.Int.{to_be_bytes, w16}
-use Rattle.bpf_run.specs.declared.ends.End.{End}
-use Rattle.bpf_run.specs.declared.ends.Socket.{Socket}
+use Rattle.node_terms.specs.declared.ends.End.{End}
+use Rattle.node_terms.specs.declared.ends.Socket.{Socket}
 
 -- a datagram: the socket that received it, source, destination and payload
 pub record DatagramFields : Type 0 where

@@ -3,9 +3,9 @@ use Rattle.std.specs.Prelude.{◌≡◌, ℕ, zero, suc, ◌≤◌, ◌==◌, �
 use Rattle.std.specs.Str.{bytes_eq}
 use Rattle.bpf_check.specs.declared.insn.Insn.{Insn}
 use Rattle.bpf_check.specs.Accepted.{IsAccepted}
-use Rattle.bpf_run.specs.declared.ends.End.{End}
-use Rattle.bpf_run.specs.declared.ends.Socket.{Socket}
-use Rattle.bpf_run.specs.declared.ends.Socket.TheVariants.{Icp, Htcp}
+use Rattle.node_terms.specs.declared.ends.End.{End}
+use Rattle.node_terms.specs.declared.ends.Socket.{Socket}
+use Rattle.node_terms.specs.declared.ends.Socket.TheVariants.{Icp, Htcp}
 use Rattle.filter_slots.specs.declared.slot.Slot.{Slot}
 use Rattle.filter_slots.specs.declared.slot.Slot.TheVariants as slots
 

@@ -1,8 +1,8 @@
 -- The hash table that finds neighbours by socket and end. Internal: no public contract refers to this file.
 use Rattle.std.specs.Prelude.{◌≡◌, ℕ, ◌+◌, ◌*◌, ◌%◌, ◌<◌, List, [], ◌∷◌, length, map, get_or, slice_get, Option, Some, None}
 use Rattle.bpf_check.specs.declared.insn.Insn.{Insn}
-use Rattle.bpf_run.specs.declared.ends.End.{End}
-use Rattle.bpf_run.specs.declared.ends.Socket.{Socket}
+use Rattle.node_terms.specs.declared.ends.End.{End}
+use Rattle.node_terms.specs.declared.ends.Socket.{Socket}
 use Rattle.filter_slots.specs.declared.senders.Sender.{Sender}
 use Rattle.filter_slots.specs.Filters.{AreNeighbours, NeighbourSlot}
 

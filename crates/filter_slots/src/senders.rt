@@ -56,8 +56,8 @@ pub(crate) struct Senders {
 
 impl Model for Senders {
     ghost use Rattle.std.specs.Prelude.{List, map};
-    ghost use Rattle.bpf_run.specs.declared.ends.End.{End};
-    ghost use Rattle.bpf_run.specs.declared.ends.Socket.{Socket};
+    ghost use Rattle.node_terms.specs.declared.ends.End.{End};
+    ghost use Rattle.node_terms.specs.declared.ends.Socket.{Socket};
     ghost use Rattle.filter_slots.specs.Senders.{pair_of, AreChained};
 
     ghost Value = { List (Socket × End) };

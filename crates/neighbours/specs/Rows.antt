@@ -1,9 +1,9 @@
 -- The table of neighbours: the configuration, and for each neighbour its smoothed time and missed rounds.
 use Rattle.std.specs.Prelude.{ℕ, ◌+◌, ◌-◌, ◌*◌, ◌/◌, ◌≤◌, min, Bool, nat_lt, ◌==◌, ◌&&◌, List, length, replicate, Option, Some, None, option_map, unwrap_or, slice_get, slice_set, find, position, true, false}
 use Rattle.std.specs.Str.{bytes_eq}
-use Rattle.bpf_run.specs.declared.ends.End.{End}
-use Rattle.bpf_run.specs.declared.ends.Socket.{Socket}
-use Rattle.bpf_run.specs.declared.ends.Socket.TheVariants.{Icp, Htcp}
+use Rattle.node_terms.specs.declared.ends.End.{End}
+use Rattle.node_terms.specs.declared.ends.Socket.{Socket}
+use Rattle.node_terms.specs.declared.ends.Socket.TheVariants.{Icp, Htcp}
 use Rattle.neighbours.specs.declared.neighbour.Neighbour.{Neighbour}
 use Rattle.neighbours.specs.declared.key.Key.{Key}
 use Rattle.neighbours.specs.declared.table.Mark.{Mark}

@@ -10,7 +10,7 @@ use crate::fault::ConfigFault;
 use crate::key::Key;
 use crate::neighbour::Neighbour;
 use crate::octets::Octets;
-use filter_slots::End;
+use node_terms::End;
 
 /// Returns the first fault of a configuration, in the order of `ConfigFault`, or `None`.
 pub fn fault_in(neighbours: &[Neighbour], keys: &[Key]) -> Option<ConfigFault>

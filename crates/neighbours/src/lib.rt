@@ -16,13 +16,13 @@ mod rank;
 mod table;
 
 pub use fault::ConfigFault;
-pub use filter_slots::{End, Moment, Socket};
 pub use key::Key;
 pub use laws::{
     distinct_law, irreflexive_law, one_way_law, order_law, test_law, through_law, total_law,
     transitive_law,
 };
 pub use neighbour::{Neighbour, Role};
+pub use node_terms::{End, Moment, Socket};
 pub use octets::Octets;
 pub use rank::{Ranked, is_before};
 pub use std::alloc::AllocError as NoMemory;

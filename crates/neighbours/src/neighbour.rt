@@ -3,7 +3,7 @@
 ghost use Rattle.std.specs.Prelude.{◌≡◌, IfOk};
 
 use crate::octets::Octets;
-use filter_slots::{End, Socket};
+use node_terms::{End, Socket};
 use std::alloc::{AllocError, Global};
 
 /// Relation of a neighbour to this cache.

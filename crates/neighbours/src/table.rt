@@ -12,7 +12,7 @@ use crate::fault::ConfigFault;
 use crate::key::Key;
 use crate::neighbour::Neighbour;
 use crate::rank::{Ranked, is_before};
-use filter_slots::{End, Socket};
+use node_terms::{End, Socket};
 use std::alloc::{AllocError, Global};
 use std::marker::Model;
 

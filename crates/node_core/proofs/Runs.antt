@@ -2,7 +2,7 @@
 use Rattle.std.proofs.Common.{◌≡◌, ◌<◌, ℕ, ◌+◌, length, take, map, get_or, Bool, true, List, [], ◌∷◌, ◌++◌, Option, Some, None, refl, ap, sym, ◌∙◌, arith}
 use Rattle.std.proofs.lemmas.Bool.Decides.{nat_tests}
 use Rattle.std.proofs.lemmas.List.{map_more, take-map}
-use Rattle.bpf_run.specs.declared.ends.Socket.{Socket}
+use Rattle.node_terms.specs.declared.ends.Socket.{Socket}
 use Rattle.filter_slots.specs.Datagram.{DatagramFields}
 use Rattle.filter_slots.specs.Filters.{Filters}
 use Rattle.filter_slots.specs.Verdict.{verdict_in_force}

@@ -4,8 +4,8 @@ use Rattle.std.specs.Prelude.{slice_get, if◌then◌else◌}
 use Rattle.std.specs.List.{list_any}
 use Rattle.std.proofs.lemmas.Bool.Decides.{nat_tests}
 use Rattle.std.proofs.lemmas.Slice.Eq.{bytes_eq-Decides}
-use Rattle.bpf_run.specs.declared.ends.End.{End}
-use Rattle.bpf_run.specs.declared.ends.Socket.{Socket}
+use Rattle.node_terms.specs.declared.ends.End.{End}
+use Rattle.node_terms.specs.declared.ends.Socket.{Socket}
 use Rattle.filter_slots.specs.Filters.{AreNeighbours}
 use Rattle.neighbours.specs.declared.fault.ConfigFault.{ConfigFault}
 use Rattle.neighbours.specs.declared.fault.ConfigFault.TheVariants.{Count, DoubleAddress}

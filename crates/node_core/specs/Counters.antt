@@ -1,7 +1,7 @@
 -- The datagram counters of each socket, as a function of the events.
 use Rattle.std.specs.Prelude.{ℕ, ◌+◌, ◌==◌, nat_lt, not, ◌&&◌, min, Bool, true, false, List, [], ◌∷◌, length, if◌then◌else◌}
-use Rattle.bpf_run.specs.declared.ends.Socket.{Socket}
-use Rattle.bpf_run.specs.declared.ends.Socket.TheVariants.{Icp, Htcp}
+use Rattle.node_terms.specs.declared.ends.Socket.{Socket}
+use Rattle.node_terms.specs.declared.ends.Socket.TheVariants.{Icp, Htcp}
 use Rattle.filter_slots.specs.Datagram.{DatagramFields}
 use Rattle.filter_slots.specs.Filters.{Filters}
 use Rattle.filter_slots.specs.Verdict.{verdict_in_force}

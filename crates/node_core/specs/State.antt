@@ -1,7 +1,7 @@
 -- The node as contracts see it, and what it means that it has taken events.
 use Rattle.std.specs.Prelude.{◌≡◌, ◌⊎◌, Bool, true, false, List, [], ◌∷◌, map, Option, Some, None}
-use Rattle.bpf_run.specs.declared.ends.End.{End}
-use Rattle.bpf_run.specs.declared.ends.Socket.{Socket}
+use Rattle.node_terms.specs.declared.ends.End.{End}
+use Rattle.node_terms.specs.declared.ends.Socket.{Socket}
 use Rattle.filter_slots.specs.Filters.{Filters, NeighbourSlot, no_filters, has_slot}
 use Rattle.neighbours.specs.declared.neighbour.Neighbour.{Neighbour}
 use Rattle.pending_fetch.specs.Fetches.{fetch_of}

@@ -5,7 +5,7 @@ ghost use Rattle.object_store.specs.Pairs.{size_of, total_size, entry_at};
 ghost use Rattle.object_store.specs.Store.{AreLimits, IsStoreFault, IsPutFault, after_remove};
 ghost use Rattle.object_shelf.specs.Shelf.{IsShelf, after_object, entry_of};
 
-use bpf_run::Moment;
+use node_terms::Moment;
 use object_store::{CacheKey, Entry, KeyHashes, PutFault, SharedObject, Store, StoreFault};
 use std::alloc::{AllocError, Global};
 use std::marker::Model;

@@ -1,7 +1,7 @@
 //! Tests of the shelf: what is found, what makes room, and what is too large.
 
 use crate::Shelf;
-use bpf_run::Moment;
+use node_terms::Moment;
 use object_store::{CacheKey, Object, PutFault, SharedObject};
 use std::alloc::Global;
 use std::test::Fail;

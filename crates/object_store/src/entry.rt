@@ -5,7 +5,7 @@ ghost use Rattle.object_store.specs.Object.{head_of};
 ghost use Rattle.object_store.specs.Pairs.{is_fresh, octets_in};
 
 use crate::object::SharedObject;
-use bpf_run::Moment;
+use node_terms::Moment;
 use std::alloc::AllocError;
 
 /// An object and the time at which it was stored.

@@ -12,7 +12,7 @@ use crate::entry::{Entry, size};
 use crate::faults::{PutFault, StoreFault};
 use crate::key::CacheKey;
 use crate::store::{MOST_ENTRIES, MOST_OCTETS};
-use bpf_run::Moment;
+use node_terms::Moment;
 use std::alloc::Global;
 use std::marker::Model;
 

@@ -11,8 +11,8 @@ use crate::faults::{PutFault, StoreFault};
 use crate::hashing::KeyHashes;
 use crate::key::{CacheKey, KeyOctets};
 use crate::pairs::{Pairs, copy_pairs, evict, newest_pairs, put_pair};
-use bpf_run::Moment;
 use lru::LruCache;
+use node_terms::Moment;
 use std::alloc::{AllocError, Global};
 use std::marker::Model;
 

@@ -1,7 +1,7 @@
 -- Which servers may be fetched from as origins.
 use Rattle.std.specs.Prelude.{ℕ, List, [], ◌∷◌, bytes_eq, not, ◌==◌, ◌&&◌, ◌||◌, Bool, true, Vec, Option, Some, None, if◌then◌else◌}
 use Rattle.std.specs.List.{list_any}
-use Rattle.bpf_run.specs.declared.ends.End.{End}
+use Rattle.node_terms.specs.declared.ends.End.{End}
 use Rattle.node_terms.specs.declared.network.Network.{Network}
 use Rattle.node_terms.specs.Networks.{is_inside}
 use Rattle.origin_rules.specs.declared.origins.OriginRules.{OriginRules}

@@ -4,8 +4,7 @@ ghost use Rattle.std.specs.List.{list_any};
 ghost use Rattle.origin_rules.specs.Origins.{admits, is_own, is_denied, is_port, reached, usual_denials};
 
 use crate::origins_six::{SixEnd, SixNetwork};
-use filter_slots::End;
-use node_terms::Network;
+use node_terms::{End, Network};
 use std::alloc::{AllocError, Global};
 
 /// This host.

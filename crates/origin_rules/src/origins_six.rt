@@ -19,7 +19,7 @@ ghost use Rattle.origin_rules.specs.OriginsSix.{
 };
 
 use crate::origins::OriginRules;
-use filter_slots::End;
+use node_terms::End;
 use std::alloc::{AllocError, Global};
 use std::net::{IpAddr, SocketAddr};
 

@@ -1,7 +1,7 @@
 -- The result of a request suits its operation, and its code fits four bits.
 use Rattle.std.proofs.Common.{◌≡◌, ◌==◌, ◌<◌, ℕ, Bool, true, false, cond, Some, None, if◌then◌else◌, not, ◌&&◌, arith, refl}
 use Rattle.std.proofs.lemmas.Bool.Decides.{nat_tests}
-use Rattle.bpf_run.specs.declared.ends.End.{End}
+use Rattle.node_terms.specs.declared.ends.End.{End}
 use Rattle.htcp_packet.specs.declared.message.Form.TheVariants as forms
 use Rattle.htcp_packet.specs.Message.{Body, Spec, empty, specifier, clear, detail, cache_headers, opaque, request_form}
 use Rattle.htcp_packet.specs.Writing.{FitsForm}

@@ -2,7 +2,7 @@
 use Rattle.std.proofs.Common.{◌≡◌, ℕ, ◌+◌, ◌-◌, Bool, true, false, cond, eqb, List, [], ◌∷◌, length, Some, refl, ap, sym, ◌∙◌, arith, if◌then◌else◌, not, ◌||◌, ◌++◌, length-append}
 use Rattle.std.specs.Option.{is_some}
 use Rattle.std.proofs.lemmas.Bool.Decides.{nat_tests}
-use Rattle.bpf_run.specs.declared.ends.End.{End}
+use Rattle.node_terms.specs.declared.ends.End.{End}
 use Rattle.icp_packet.specs.declared.message.Opcode.{Opcode}
 use Rattle.icp_packet.specs.declared.message.Opcode.TheVariants.{Hit, Miss, MissNoFetch, Error, Denied}
 use Rattle.icp_packet.specs.Message.{url_only, payload, spelling, HasNoZero, FitsOpcode}

@@ -1,7 +1,7 @@
 -- HTCP responses (RFC 2756): a trusted response from a neighbour counts for the polling round that asked for it.
 use Rattle.std.specs.Prelude.{ℕ, ◌==◌, Bool, true, List, [], Option, Some, None, unwrap_or, option_map, slice_get, if◌then◌else◌}
-use Rattle.bpf_run.specs.declared.ends.End.{End}
-use Rattle.bpf_run.specs.declared.ends.Socket.TheVariants.{Htcp}
+use Rattle.node_terms.specs.declared.ends.End.{End}
+use Rattle.node_terms.specs.declared.ends.Socket.TheVariants.{Htcp}
 use Rattle.htcp_packet.specs.Message.{Message}
 use Rattle.htcp_packet.specs.Reading.{Received}
 use Rattle.neighbours.specs.declared.neighbour.Neighbour.{Neighbour}

@@ -3,8 +3,8 @@
 use Rattle.std.specs.Prelude.{ℕ, ◌+◌, ◌==◌, nat_eq, not, Bool, true, false, ◌&&◌, ◌||◌, List, [], ◌∷◌, ◌++◌, take, drop, Option, Some, None, is_some, option_map, position, if◌then◌else◌}
 use Rattle.std.specs.List.{ends_with}
 use Rattle.std.specs.Str.{bytes_eq}
-use Rattle.bpf_run.specs.declared.ends.End.{End}
-use Rattle.bpf_run.specs.declared.ends.Socket.TheVariants.{Htcp}
+use Rattle.node_terms.specs.declared.ends.End.{End}
+use Rattle.node_terms.specs.declared.ends.Socket.TheVariants.{Htcp}
 use Rattle.htcp_packet.specs.Message.{Message, Spec, Body, empty, specifier, clear, detail, cache_headers, opaque, unsigned}
 use Rattle.htcp_packet.specs.Reading.{Received}
 use Rattle.object_store.specs.Pairs.{entry_at}

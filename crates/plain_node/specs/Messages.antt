@@ -2,8 +2,8 @@
 use Rattle.std.specs.Prelude.{ℕ, ◌-◌, nat_lt, not, Bool, ◌&&◌, List, [], ◌∷◌, length, Option, Some, None, is_some, unwrap_or, if◌then◌else◌, nat_eq}
 use Rattle.std.specs.List.{starts_with}
 use Rattle.std.specs.Str.{bytes_eq}
-use Rattle.bpf_run.specs.declared.ends.End.{End}
-use Rattle.bpf_run.specs.declared.ends.Socket.TheVariants.{Icp}
+use Rattle.node_terms.specs.declared.ends.End.{End}
+use Rattle.node_terms.specs.declared.ends.Socket.TheVariants.{Icp}
 use Rattle.icp_packet.specs.declared.message.Opcode.{Opcode}
 use Rattle.icp_packet.specs.declared.message.Opcode.TheVariants as op
 use Rattle.icp_packet.specs.Message.{Message, Body, query, url_only, object, spelling}

@@ -1,10 +1,10 @@
 -- The step of the node without filters and counters: one event to the next state and a list of actions. Each kind of event
 -- has a file of its own.
 use Rattle.std.specs.Prelude.{ℕ, Bool, true, false, List, [], Option, Some, None, is_none}
-use Rattle.bpf_run.specs.declared.ends.Socket.{Socket}
-use Rattle.bpf_run.specs.declared.ends.Socket.TheVariants.{Icp, Htcp}
+use Rattle.node_terms.specs.declared.ends.Socket.{Socket}
+use Rattle.node_terms.specs.declared.ends.Socket.TheVariants.{Icp, Htcp}
 use Rattle.filter_slots.specs.Datagram.{DatagramFields}
-use Rattle.bpf_run.specs.declared.ends.End.{End}
+use Rattle.node_terms.specs.declared.ends.End.{End}
 use Rattle.icp_packet.specs.Reading as icp
 use Rattle.htcp_packet.specs.Reading as htcp
 use Rattle.pending_fetch.specs.Fetches.{left}

@@ -1,7 +1,7 @@
 -- Client requests: answered from the store, joined to a pending fetch, or served by a new one.
 use Rattle.std.specs.Prelude.{ℕ, ◌+◌, ◌-◌, ◌/◌, min, Bool, true, false, List, [], ◌∷◌, map, Option, Some, None, if◌then◌else◌}
-use Rattle.bpf_run.specs.declared.ends.Socket.{Socket}
-use Rattle.bpf_run.specs.declared.ends.Socket.TheVariants.{Icp, Htcp}
+use Rattle.node_terms.specs.declared.ends.Socket.{Socket}
+use Rattle.node_terms.specs.declared.ends.Socket.TheVariants.{Icp, Htcp}
 use Rattle.icp_packet.specs.declared.message.Opcode.TheVariants as op
 use Rattle.icp_packet.specs.Message.{Message, query, spelling}
 use Rattle.htcp_packet.specs.Message as htcp

@@ -2,7 +2,7 @@
 -- of its store, and its neighbours with their keys.
 use Rattle.std.specs.Prelude.{ℕ, ◌&&◌, nat_le, Bool, List, Option, Some, None, if◌then◌else◌}
 use Rattle.std.specs.List.{list_all, list_any}
-use Rattle.bpf_run.specs.declared.ends.End.{End}
+use Rattle.node_terms.specs.declared.ends.End.{End}
 use Rattle.neighbours.specs.declared.neighbour.Neighbour.{Neighbour}
 use Rattle.neighbours.specs.declared.key.Key.{Key}
 use Rattle.neighbours.specs.declared.fault.ConfigFault.{ConfigFault}

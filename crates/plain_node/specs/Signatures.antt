@@ -2,7 +2,7 @@
 -- (RFC 2756, with this project's choice of what a signature covers).
 use Rattle.std.specs.Prelude.{ℕ, ◌/◌, Bool, true, false, List, Option, Some, None, option_map}
 use Rattle.std.specs.Str.{bytes_eq}
-use Rattle.bpf_run.specs.declared.ends.End.{End}
+use Rattle.node_terms.specs.declared.ends.End.{End}
 use Rattle.filter_slots.specs.Datagram.{ends_of}
 use Rattle.htcp_packet.specs.declared.verifying.Sign.{Sign}
 use Rattle.htcp_packet.specs.declared.verifying.Sign.TheVariants as sign

@@ -1,7 +1,7 @@
 //! HTCP responses.
 ghost use Rattle.std.specs.Prelude.{◌≡◌, ◌<◌, [], length, true, Some, IfSome};
 ghost use Rattle.std.specs.Option.{option_map};
-ghost use Rattle.bpf_run.specs.declared.ends.Socket.TheVariants.{Htcp};
+ghost use Rattle.node_terms.specs.declared.ends.Socket.TheVariants.{Htcp};
 ghost use Rattle.htcp_packet.specs.View.{shown, received};
 ghost use Rattle.pending_fetch.specs.Fetches.{PendingFetch, fetch_of};
 ghost use Rattle.pending_fetch.specs.FetchIndex.{fetch_index};

@@ -4,7 +4,7 @@ ghost use Rattle.std.specs.Str.{bytes_eq};
 ghost use Rattle.icp_packet.specs.Message.{FitsOpcode, HasNoZero, spelling, url_only};
 ghost use Rattle.icp_packet.specs.Reading.{message_of};
 ghost use Rattle.icp_packet.specs.View.{shown as shown_message, shown_body};
-ghost use Rattle.bpf_run.specs.declared.ends.Socket.TheVariants.{Icp};
+ghost use Rattle.node_terms.specs.declared.ends.Socket.TheVariants.{Icp};
 ghost use Rattle.neighbours.specs.Rows.{neighbour_index};
 ghost use Rattle.pending_fetch.specs.Fetches.{PendingFetch, fetch_of, changed, with_reply};
 ghost use Rattle.pending_fetch.specs.Calls.{told, shown};

@@ -3,9 +3,9 @@ ghost use Rattle.std.specs.Prelude.{◌≡◌, IfSome};
 ghost use Rattle.std.specs.String.{string_bytes};
 ghost use Rattle.http_rules.specs.Destinations.{IsDestination};
 
-use filter_slots::End;
 use http_rules::destination_of;
 use http_traffic::address_in_digits;
+use node_terms::End;
 use object_store::CacheKey;
 use std::alloc::Global;
 use std::net::SocketAddr;

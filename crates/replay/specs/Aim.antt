@@ -1,9 +1,9 @@
 -- Which datagrams of a capture are judged: those for the two query sockets that were captured as a whole.
 use Rattle.std.specs.Prelude.{ℕ, ◌==◌, ◌&&◌, nat_le, Bool, true, if◌then◌else◌, List, length, Option, Some, None}
 use Rattle.std.specs.Str.{bytes_eq}
-use Rattle.bpf_run.specs.declared.ends.End.{End}
-use Rattle.bpf_run.specs.declared.ends.Socket.{Socket}
-use Rattle.bpf_run.specs.declared.ends.Socket.TheVariants.{Icp, Htcp}
+use Rattle.node_terms.specs.declared.ends.End.{End}
+use Rattle.node_terms.specs.declared.ends.Socket.{Socket}
+use Rattle.node_terms.specs.declared.ends.Socket.TheVariants.{Icp, Htcp}
 use Rattle.bpf_run.specs.Packet.{most_payload}
 use Rattle.capture.specs.Udp.{UdpFields}
 use Rattle.replay.specs.declared.aim.Aim.{Aim}

@@ -1,8 +1,8 @@
 -- The counts of two filters over one capture, as a function of the datagrams that its frames hold.
 use Rattle.std.specs.Prelude.{◌≡◌, ℕ, if◌then◌else◌, List, [], ◌∷◌, Option, Some, None}
 use Rattle.bpf_check.specs.declared.insn.Insn.{Insn}
-use Rattle.bpf_run.specs.declared.ends.Socket.{Socket}
-use Rattle.bpf_run.specs.declared.ends.Socket.TheVariants.{Icp, Htcp}
+use Rattle.node_terms.specs.declared.ends.Socket.{Socket}
+use Rattle.node_terms.specs.declared.ends.Socket.TheVariants.{Icp, Htcp}
 use Rattle.capture.specs.Packet.{SoFar}
 use Rattle.capture.specs.Start.{IsStart}
 use Rattle.capture.specs.Udp.{UdpFields}

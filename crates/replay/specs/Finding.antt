@@ -1,8 +1,8 @@
 -- What a filter makes of a datagram, and whether the octets are a message, as a node counts it.
 use Rattle.std.specs.Prelude.{ℕ, ◌==◌, ◌-◌, ◌&&◌, not, nat_lt, Bool, List, length, take, is_none}
 use Rattle.bpf_check.specs.declared.insn.Insn.{Insn}
-use Rattle.bpf_run.specs.declared.ends.Socket.{Socket}
-use Rattle.bpf_run.specs.declared.ends.Socket.TheVariants.{Icp, Htcp}
+use Rattle.node_terms.specs.declared.ends.Socket.{Socket}
+use Rattle.node_terms.specs.declared.ends.Socket.TheVariants.{Icp, Htcp}
 use Rattle.bpf_run.specs.Packet.{filter_packet, header_octets}
 use Rattle.bpf_run.specs.Verdict.{verdict_of}
 use Rattle.capture.specs.Udp.{UdpFields}

@@ -1,8 +1,8 @@
 -- The counts of a capture, as a function of the datagrams that its frames hold.
 use Rattle.std.specs.Prelude.{ℕ, ◌+◌, ◌==◌, min, Bool, if◌then◌else◌, List, [], ◌∷◌, Option, Some, None}
 use Rattle.bpf_check.specs.declared.insn.Insn.{Insn}
-use Rattle.bpf_run.specs.declared.ends.Socket.{Socket}
-use Rattle.bpf_run.specs.declared.ends.Socket.TheVariants.{Icp, Htcp}
+use Rattle.node_terms.specs.declared.ends.Socket.{Socket}
+use Rattle.node_terms.specs.declared.ends.Socket.TheVariants.{Icp, Htcp}
 use Rattle.capture.specs.Udp.{UdpFields}
 use Rattle.replay.specs.declared.aim.Aim.{Aim}
 use Rattle.replay.specs.declared.finding.Finding.{Finding}

@@ -6,8 +6,8 @@ use Rattle.std.specs.Str.Lines.{lines}
 use Rattle.bpf_check.specs.declared.insn.Insn.{Insn}
 use Rattle.bpf_check.specs.declared.checked.CheckFault.{CheckFault}
 use Rattle.bpf_check.specs.Refusal.{program_fault}
-use Rattle.bpf_run.specs.declared.ends.End.{End}
-use Rattle.bpf_run.specs.declared.ends.Socket.{Socket}
+use Rattle.node_terms.specs.declared.ends.End.{End}
+use Rattle.node_terms.specs.declared.ends.Socket.{Socket}
 use Rattle.bpf_run.specs.Packet.{most_payload}
 use Rattle.filter_slots.specs.declared.slot.Slot.{Slot}
 use Rattle.neighbours.specs.declared.key.Key.{Key}

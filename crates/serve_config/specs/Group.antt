@@ -1,7 +1,7 @@
 -- The neighbours and the signing keys of a configuration, and what else it says about its node.
 use Rattle.std.specs.Prelude.{◌≡◌, ℕ, ◌≤◌, ◌==◌, List, length, codes, if◌then◌else◌, Option, Some, None, IsSomeAnd, Ok}
-use Rattle.bpf_run.specs.declared.ends.Socket.{Socket}
-use Rattle.bpf_run.specs.declared.ends.Socket.TheVariants.{Icp, Htcp}
+use Rattle.node_terms.specs.declared.ends.Socket.{Socket}
+use Rattle.node_terms.specs.declared.ends.Socket.TheVariants.{Icp, Htcp}
 use Rattle.hex.specs.Hex.{decode_of}
 use Rattle.neighbours.specs.declared.neighbour.Neighbour.{Neighbour}
 use Rattle.neighbours.specs.declared.neighbour.Role.{Role}

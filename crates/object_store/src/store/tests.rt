@@ -7,7 +7,7 @@ ghost use Rattle.object_store.specs.Store.{after_get, fresh_at};
 
 use crate::plain::PlainStore;
 use crate::{CacheKey, Entry, KeyFault, Object, PutFault, SharedObject, Store, StoreFault};
-use bpf_run::Moment;
+use node_terms::Moment;
 use std::alloc::Global;
 use std::mem;
 use std::process::Abort;

@@ -1,5 +1,5 @@
 use Rattle.std.proofs.Common.{◌≡◌, ◌/◌, sym, ap, ◌∙◌}
-use Rattle.bpf_run.specs.declared.ends.End.{End}
+use Rattle.node_terms.specs.declared.ends.End.{End}
 use Rattle.filter_slots.specs.Datagram.{ends_of}
 use Rattle.plain_node.specs.PlainNode.{PlainNode}
 use Rattle.plain_node.proofs.core_node.Core.signed_to.Goals as goal
