@@ -6,7 +6,7 @@
 //! `specs/Packet.antt` which packet stands in front of a file's octets, and what the file says of it: in a record (`specs/Head.antt`,
 //! `specs/Record.antt`) or in a block (`specs/Block.antt`, `specs/Blocks.antt`, `specs/Interface.antt`, `specs/Moment.antt`).
 //! Contracts see a frame as the list of its octets, and of a reader what it has left.
-//! Tested by: crates/test_capture, must-fail edits.
+//! Tested by: crates/test_codecs, must-fail edits.
 #![tactic(auto)]
 
 mod block;

@@ -3,7 +3,7 @@
 //!
 //! `specs/Blocks.antt` defines the octets of a file's blocks, and `specs/Datagram.antt` those of the IPv4 packet that is made of a
 //! datagram. Contracts say that exactly those octets are given.
-//! Tested by: crates/test_capture, tests/serve, more-edits.
+//! Tested by: crates/test_codecs, tests/serve, more-edits.
 #![tactic(auto)]
 
 mod blocks;

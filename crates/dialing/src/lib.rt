@@ -2,7 +2,7 @@
 //! the first that connects is taken and the others are closed.
 //!
 //! What is done next is decided by `fair_use::Race`. The contracts here see only that whoever waits is woken. Tested by:
-//! tests/serve_addresses, tests/serve_six, crates/test_edge.
+//! tests/serve_addresses, tests/serve_six, tests/serve.
 #![tactic(auto)]
 
 mod racing;

@@ -2,7 +2,7 @@
 //!
 //! The contracts see only that the future of a job may be polled, and require a limit of at least one job.
 //!
-//! Tested by: crates/test_edge.
+//! Tested by: crates/test_http.
 #![tactic(auto)]
 
 ghost use Rattle.std.specs.Prelude.{◌<◌};

@@ -3,7 +3,7 @@
 //!
 //! The contracts see only that every future is polled in a state in which it may be; nothing is proved about the HTTP messages.
 //!
-//! Tested by: crates/test_edge; tests/serve, serve_operator, serve_passages, serve_freshness, serve_slow and serve_hostile, which run the
+//! Tested by: tests/serve, serve_operator, serve_passages, serve_freshness, serve_slow and serve_hostile, which run the
 //! built program over loopback.
 #![tactic(auto)]
 

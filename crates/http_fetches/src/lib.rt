@@ -3,7 +3,7 @@
 //!
 //! The contracts see only that every future is polled in a state in which it may be; nothing is proved about the HTTP messages.
 //!
-//! Tested by: crates/test_edge; tests/serve, tests/serve_slow, tests/serve_passages, tests/serve_kept, tests/serve_early and
+//! Tested by: tests/serve, tests/serve_slow, tests/serve_passages, tests/serve_kept, tests/serve_early and
 //! tests/serve_hostile, which run the built program over loopback.
 #![tactic(auto)]
 

@@ -1,13 +1,10 @@
 //! What JSON's grammar (RFC 8259) has at the place where a text was found to be no JSON, for whoever wrote the text. The reader of the
 //! kit (`serde_json`) tells the place alone.
 //!
-//! Tested by: src/tests.rt, cases of `serve --check` in tests/serve and docs/OPERATING.md.
+//! Tested by: crates/test_codecs, cases of `serve --check` in tests/serve and docs/OPERATING.md.
 #![tactic(auto)]
 
 mod expected;
 mod front;
 
 pub use expected::{Expected, expected_at, offset_of};
-
-#[cfg(test)]
-mod tests;

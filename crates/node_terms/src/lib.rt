@@ -1,6 +1,6 @@
 //! Two terms of the node that crates beside it use too: an IPv4 network, and how a client's request may be answered.
 //!
-//! Tested by: crates/test_http_rules, cases/.
+//! Tested by: tests/serve_rules, cases/.
 #![tactic(auto)]
 
 mod mode;

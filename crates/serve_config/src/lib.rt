@@ -4,7 +4,7 @@
 //! The contract of [`Settings::read`] gives the ranges of the numbers that other crates rely on, and what holds of the neighbours
 //! and the signing keys of an accepted configuration (`specs/Group.antt`); keys, kinds and messages are only tested. Which keys the node
 //! is given, and whether there is one for the cache's requests to itself, is defined in `specs/OwnKey.antt`.
-//! Tested by: tests/configurations (rows of cases/configurations), crates/test_http_rules, cases/serve, must-fail edits.
+//! Tested by: tests/configurations (rows of cases/configurations), crates/test_http, cases/serve, must-fail edits.
 #![tactic(auto)]
 
 mod fault;

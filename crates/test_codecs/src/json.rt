@@ -1,8 +1,14 @@
-//! Texts that are no JSON by RFC 8259, each with the octet at which that shows, and what its grammar has there.
+//! Texts that are no JSON by RFC 8259, each with the octet at which that shows, and what its grammar has there (json_fault).
 
-use crate::{Expected, expected_at, offset_of};
+use crate::rows::{Question, all_hold};
+use json_fault::{Expected, expected_at, offset_of};
+use std::alloc::Global;
+use std::process::Abort;
 
-const ROWS: [(&str, usize, Expected); 27] = [
+/// A text, a place in it, and what the grammar has there.
+type Row = (&'static str, usize, Expected);
+
+const ROWS: [Row; 27] = [
     ("", 0, Expected::Value),
     ("  \n", 3, Expected::Value),
     ("// c\n{}", 0, Expected::Value),
@@ -32,14 +38,17 @@ const ROWS: [(&str, usize, Expected); 27] = [
     (r#"{"\\" 1}"#, 6, Expected::Colon),
 ];
 
-// The first row in which something else is expected.
-fn first_other() -> Option<usize> {
-    ROWS.iter().position(|(text, at, wanted)| expected_at(text.as_bytes(), *at) != *wanted)
+struct IsExpected;
+
+impl Question<Row> for IsExpected {
+    fn holds<R: Abort>(&self, _rt: &R, _alloc: Global, row: &Row) -> bool {
+        expected_at(row.0.as_bytes(), row.1) == row.2
+    }
 }
 
 #[test]
 fn what_the_grammar_has_where_a_text_is_none(rt: HostRuntime) {
-    assert_eq!(rt; first_other(), None);
+    all_hold(&rt, rt.alloc(), &ROWS, &IsExpected);
 }
 
 // So many lists, each in the one before.
@@ -54,11 +63,18 @@ fn only_so_many_are_in_one_another(rt: HostRuntime) {
     assert!(rt; is_too_deep(127));
 }
 
+/// A line and a column of the text, and the octet that stands there.
+const PLACES: [(usize, usize, usize); 4] = [(1, 1, 0), (2, 7, 8), (3, 1, 10), (1, 9, 10)];
+
+struct IsAt;
+
+impl Question<(usize, usize, usize)> for IsAt {
+    fn holds<R: Abort>(&self, _rt: &R, _alloc: Global, row: &(usize, usize, usize)) -> bool {
+        offset_of(b"{\n \"a\": }\n", row.0, row.1) == row.2
+    }
+}
+
 #[test]
 fn a_place_by_line_and_column(rt: HostRuntime) {
-    let text = b"{\n \"a\": }\n";
-    assert_eq!(rt; offset_of(text, 1, 1), 0);
-    assert_eq!(rt; offset_of(text, 2, 7), 8);
-    assert_eq!(rt; offset_of(text, 3, 1), text.len());
-    assert_eq!(rt; offset_of(text, 1, 9), text.len());
+    all_hold(&rt, rt.alloc(), &PLACES, &IsAt);
 }

@@ -1,19 +1,15 @@
-//! Tests of names and their look-ups. Times are given, but for those of the last test.
-use crate::fetches::order_of;
-use futures::channel::mpsc::{UnboundedReceiver, UnboundedSender, unbounded};
+//! Tests of names and their look-ups, at times that are given. That a name of the built program is looked up, and digits are not, is tested
+//! there.
 use futures::channel::oneshot;
-use http_traffic::{Addresses, Beside, Found, Job, Server};
-use name_lookup::{
-    Answer, LookUp, NameDesk, NameLimits, NameTable, Seeking, Waiter, hand_over, look_up,
-    open_names,
-};
+use http_traffic::{Addresses, Beside, Found};
+use name_lookup::{Answer, LookUp, NameLimits, NameTable, Seeking, Waiter};
 use server_connections::ServerConnections;
 use std::alloc::{AllocError, Global};
 use std::io;
-use std::net::{IpAddr, Ipv4Addr, Ipv6Addr, Net};
-use std::sync::{Arc, Wait};
+use std::net::{IpAddr, Ipv4Addr, Ipv6Addr};
+use std::sync::Arc;
 use std::test::Fail;
-use std::time::{Clock, Duration, Instant};
+use std::time::{Duration, Instant};
 
 // So many names, and five threads. All times are the usual ones.
 fn limits(names: usize) -> NameLimits {
@@ -583,133 +579,4 @@ const FOR_AN_HOUR: [Step; 11] = [
 #[test]
 fn for_an_hour(rt: HostRuntime) -> Result<(), Fail> {
     take_steps(&rt, 3, &FOR_AN_HOUR)
-}
-
-// The address of a server, if it is known by now.
-fn address_of(alloc: Global, server: Server) -> Result<String, AllocError> {
-    match server {
-        Server::At(address) => address.to_string(alloc),
-        Server::Sought(mut sought) => {
-            let told = told(alloc, &mut sought);
-            drop(sought);
-            told
-        }
-    }
-}
-
-// Names with their ports, and the addresses of their servers.
-const NAMES: [(&str, u16); 3] = [
-    ("127.0.0.1", 80),
-    ("[2001:db8::1]", 81),
-    ("no.such.name.invalid", 82),
-];
-
-const SERVERS: [&str; 3] = ["127.0.0.1:80", "[2001:db8::1]:81", "none"];
-
-// Hands over an order for a name. Returns the sender that keeps its fetch going.
-fn hand_name<R: Wait + Clock>(
-    rt: &R,
-    alloc: Global,
-    desk: &NameDesk,
-    lanes: &[UnboundedSender<Job>],
-    fetch: u32,
-    (name, port): (&str, u16),
-) -> io::Result<oneshot::Sender<()>> {
-    let name = String::from_str(alloc, name)?;
-    let (order, keep) = order_of(rt, alloc, fetch, "/")?;
-    if hand_over(rt, alloc, desk, lanes, name, port, order).is_ok() {
-        Ok(keep)
-    } else {
-        drop(keep);
-        Err(io::Error::other("not taken"))
-    }
-}
-
-// Hands over an order for each name, and keeps the senders that keep them going.
-fn hand_names<R: Wait + Clock>(
-    rt: &R,
-    alloc: Global,
-    desk: &NameDesk,
-    lanes: &[UnboundedSender<Job>],
-    keeps: &mut Vec<oneshot::Sender<()>>,
-) -> io::Result<()> {
-    let mut fetch = 0u32;
-    for name in &NAMES {
-        keeps.push(hand_name(rt, alloc, desk, lanes, fetch, *name)?)?;
-        fetch = fetch.saturating_add(2);
-    }
-    Ok(())
-}
-
-// Two lanes in a list.
-fn lanes_of(
-    alloc: Global,
-    first: UnboundedSender<Job>,
-    second: UnboundedSender<Job>,
-) -> Result<Vec<UnboundedSender<Job>>, AllocError> {
-    let mut lanes = Vec::with_capacity(alloc, 2)?;
-    lanes.push(first)?;
-    lanes.push(second)?;
-    Ok(lanes)
-}
-
-// Has all names looked up, and their orders sent on these lanes. Returns the senders that keep their fetches going.
-fn look_up_names<R: Wait + Net + Clock>(
-    rt: &R,
-    alloc: Global,
-    lanes: &[UnboundedSender<Job>],
-) -> io::Result<Vec<oneshot::Sender<()>>> {
-    let (desk, watch) = open_names(alloc, NameLimits::usual(1), true, &no_servers(alloc)?)?;
-    let mut keeps = Vec::new(alloc);
-    let handed = hand_names(rt, alloc, &desk, lanes, &mut keeps);
-    drop(desk);
-    if let Some(hired) = watch.hire(rt) {
-        look_up(rt, hired);
-    }
-    drop(watch);
-    match handed {
-        Ok(()) => Ok(keeps),
-        Err(fault) => {
-            drop(keeps);
-            Err(fault)
-        }
-    }
-}
-
-// Whether the next job is for a server at this address.
-fn is_next_at(alloc: Global, jobs: &mut UnboundedReceiver<Job>, wanted: &str) -> io::Result<bool> {
-    let Ok(Some(job)) = jobs.try_next() else {
-        return Ok(false);
-    };
-    let Job { server, work } = job;
-    drop(work);
-    let address = address_of(alloc, server)?;
-    Ok(address.as_str() == wanted)
-}
-
-// Whether the next jobs are for the servers that the names have.
-fn are_at_servers(alloc: Global, jobs: &mut UnboundedReceiver<Job>) -> io::Result<bool> {
-    for wanted in &SERVERS {
-        if !is_next_at(alloc, jobs, *wanted)? {
-            return Ok(false);
-        }
-    }
-    Ok(true)
-}
-
-/// A host name goes through a look-up, an address in digits straight to its fetch thread.
-#[test]
-fn names_are_looked_up(rt: HostRuntime) -> Result<(), Fail> {
-    let (jobs, mut work) = unbounded(rt.alloc())?;
-    let (more, mut other) = unbounded(rt.alloc())?;
-    let lanes = lanes_of(rt.alloc(), jobs, more)?;
-    let keeps = look_up_names(&rt, rt.alloc(), lanes.as_slice())?;
-    drop(lanes);
-    let are_found = are_at_servers(rt.alloc(), &mut work);
-    let is_empty = matches!(other.try_next(), Ok(None));
-    drop(work);
-    drop(other);
-    drop(keeps);
-    assert!(rt; are_found? && is_empty);
-    Ok(())
 }
