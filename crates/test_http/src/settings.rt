@@ -1,20 +1,12 @@
 //! The values of a configuration of `serve`, which `serve --check` does not tell: those that it says, and the usual ones of what it
 //! leaves out. Which configurations are accepted, and what is told of all others, is in cases/configurations.
 
+use crate::rows::{NO_MEMORY, all_true};
 use serve_config::{
     Freshness, Large, LogLevel, PassedMethod, RefreshRule, Settings, SharedField, UrlPart,
 };
 use std::alloc::Global;
 use std::process::Abort;
-
-const NO_MEMORY: &str = "no memory";
-
-// Ends the test with the place of the first of these that does not hold, counted from 0.
-fn all_true<R: Abort>(rt: &R, found: &[bool]) {
-    for (place, holds) in found.iter().enumerate() {
-        assert!(*rt; *holds, "what stands at place {place} does not hold");
-    }
-}
 
 const GOOD: &str =
     r#"{"address": "127.0.0.1", "icp_port": 3130, "htcp_port": 4827, "http_port": 3128, "admin_port": 3129, "name": "a", "allowed": ["10.0.0.0/8"], "miss_nofetch": false, "origin": true, "entries": 1000, "octets": 1048576, "body_limit": 65536, "volume": 1024, "stop_after": 2, "keys": [{"name": "k", "secret": "0aFF"}], "neighbours": [{"kind": "parent", "protocol": "htcp", "address": "10.0.0.2", "query_port": 4827, "http_port": 3128, "weight": 7, "key": "k"}]}"#;
