@@ -7,7 +7,7 @@ use object_store::{CacheKey, Object, SharedObject};
 use std::alloc::Global;
 use std::sync::Arc;
 
-const OWN: End = End {
+pub(crate) const OWN: End = End {
     addr: [10, 0, 0, 1],
     port: 3130,
 };
@@ -49,7 +49,7 @@ fn allowed(alloc: Global) -> Option<Vec<Network>> {
 }
 
 /// The configuration of a node at 10.0.0.1 without neighbours.
-fn config_of(alloc: Global, settings: &Settings) -> Option<Config> {
+pub(crate) fn config_of(alloc: Global, settings: &Settings) -> Option<Config> {
     let htcp = End {
         addr: OWN.addr,
         port: 4827,

@@ -1,4 +1,4 @@
-//! Lists of events: a short one with a filter that is swapped in it, and a long one.
+//! Lists of events: a short one with a filter that is swapped in it, and long ones.
 
 use crate::calls::{outs_by, outs_of};
 use crate::events::{PEER, Settings, all_of, arrival, node_with, spells, swap};
@@ -145,4 +145,36 @@ fn takes_all(alloc: Global) -> Option<bool> {
 #[test]
 fn a_run_takes_a_long_list(rt: HostRuntime) {
     assert!(rt; takes_all(rt.alloc()) == Some(true));
+}
+
+/// This many queries.
+fn queries(alloc: Global, count: u64) -> Option<Vec<Event>> {
+    let mut events = Vec::new(alloc);
+    for now in 0..count {
+        events.push(spelled(alloc, QUERY, now)?).ok()?;
+    }
+    Some(events)
+}
+
+/// Whether all that each event does is to send the MISS.
+fn are_missed(alloc: Global, outs: &[Out]) -> bool {
+    for out in outs {
+        if !sends(alloc, out, MISS) {
+            return false;
+        }
+    }
+    true
+}
+
+/// For how many of this many queries, in one list, a new node gives actions, and whether each of these is to send the MISS.
+fn missed(alloc: Global, count: u64) -> Option<(usize, bool)> {
+    let outs = outs_of(alloc, &ROOMY, queries(alloc, count)?)?;
+    let missed = (outs.len(), are_missed(alloc, &outs));
+    drop(outs);
+    Some(missed)
+}
+
+#[test]
+fn a_long_list_is_taken(rt: HostRuntime) {
+    assert!(rt; missed(rt.alloc(), 1_000) == Some((1_000, true)));
 }

@@ -1,9 +1,10 @@
-//! A test of copies of nodes.
+//! Tests of a node that takes many queries, of copies of nodes, and of configurations that the node refuses.
 
 use crate::calls::{is_sent, is_taken};
-use crate::events::{MISS, node_of, query, request};
-use filter_slots::Moment;
-use node_core::{Event, Mode, Node, Out};
+use crate::events::{MISS, OWN, USUAL, config_of, node_of, query, request};
+use filter_slots::{Moment, Socket};
+use neighbours::{ConfigFault, Neighbour, Role};
+use node_core::{Event, Mode, Network, Node, NodeFault, Out};
 use std::alloc::Global;
 use std::test::Fail;
 
@@ -56,4 +57,86 @@ fn a_copy_goes_its_own_way(rt: HostRuntime) -> Result<(), Fail> {
     drop(node);
     assert!(rt; is_copied == Some(true));
     Ok(())
+}
+
+/// How many of this many equal queries a node answers with a MISS.
+fn missed(alloc: Global, node: &mut Node, event: &Event, queries: u32) -> Option<u32> {
+    let mut out = Out::new(alloc).ok()?;
+    let mut count = 0u32;
+    for _ in 0..queries {
+        let is_missed = is_taken(alloc, node, event, &mut out) && is_sent(&out, MISS);
+        count = count.wrapping_add(is_missed as u32);
+    }
+    drop(out);
+    Some(count)
+}
+
+/// The same of a new node.
+fn missed_by_a_node(alloc: Global, queries: u32) -> Option<u32> {
+    let event = query(alloc, 5)?;
+    let Some(mut node) = node_of(alloc) else {
+        drop(event);
+        return None;
+    };
+    let count = missed(alloc, &mut node, &*event, queries);
+    drop(node);
+    drop(event);
+    count
+}
+
+#[test]
+fn many_queries_get_their_replies(rt: HostRuntime) {
+    assert!(rt; missed_by_a_node(rt.alloc(), 100_000) == Some(100_000));
+}
+
+/// This many neighbours, all at the node's own address.
+fn neighbours_of(alloc: Global, count: u8) -> Option<Vec<Neighbour>> {
+    let mut list = Vec::new(alloc);
+    for _ in 0..count {
+        let neighbour = Neighbour {
+            kind: Role::Parent,
+            protocol: Socket::Icp,
+            end: OWN,
+            http_port: 3128,
+            weight: 1,
+            key: None,
+        };
+        list.push(neighbour).ok()?;
+    }
+    Some(list)
+}
+
+/// The prefix of the network 10.0.0.0 whose queries are answered, a store's number of entries, a number of neighbours, and the fault of
+/// such a configuration, in which HTCP has the port of ICP.
+type Refused = (u8, u32, u8, NodeFault);
+
+const REFUSED: [Refused; 5] = [
+    (33, 10, 0, NodeFault::Limits),
+    (8, 0, 0, NodeFault::Limits),
+    (8, 1_000_001, 1, NodeFault::Limits),
+    (33, 0, 2, NodeFault::Table(ConfigFault::DoubleAddress)),
+    (8, 10, 65, NodeFault::Table(ConfigFault::Count)),
+];
+
+/// The fault of the configuration of a row.
+fn fault_of(alloc: Global, row: &Refused) -> Option<NodeFault> {
+    let ten = Network {
+        addr: [10, 0, 0, 0],
+        prefix: row.0,
+    };
+    let allowed = Vec::from_array(alloc, [ten]).ok()?;
+    let neighbours = neighbours_of(alloc, row.2)?;
+    let mut config = config_of(alloc, &USUAL)?;
+    config.htcp = OWN;
+    config.allowed = allowed;
+    config.entries = row.1;
+    config.neighbours = neighbours;
+    Node::new(alloc, config).err()
+}
+
+#[test]
+fn configurations_are_refused(rt: HostRuntime) {
+    for row in &REFUSED {
+        assert!(rt; fault_of(rt.alloc(), row) == Some(row.3));
+    }
 }

@@ -1,11 +1,11 @@
-//! Tests of a fixed list of events (clients' requests, a fetch, a neighbour's query), submitted through two clerks, and to a book that
-//! is turned.
+//! Tests of a fixed list of events (clients' requests, a fetch, a neighbour's query), submitted to a node alone, through two
+//! clerks, and to a book that is turned.
 ghost use Rattle.std.specs.Prelude.{◌≡◌};
 
 use crate::desks::{book_of, desk_of, settled_with};
 use crate::events::{QUERY, arrival, fetched, node_of, request};
 use filter_slots::{Moment, Socket};
-use node_book::{BookFault, Booked, Clerk, Desk, Report, Seat, Seated, TakeFault};
+use node_book::{BookFault, Booked, Clerk, Desk, Lone, Report, Seat, Seated, TakeFault};
 use node_core::{Action, Answer, Event, Mode, Out};
 use object_store::SharedObject;
 use std::alloc::Global;
@@ -100,6 +100,31 @@ fn tell<C: Clerk>(alloc: Global, clerk: &mut C, i: usize) -> Option<(u64, Said)>
 /// Whether a clerk gives the event at index `i` the number `i` and the expected actions.
 fn is_told<C: Clerk>(alloc: Global, clerk: &mut C, i: usize) -> bool {
     i < 6 && tell(alloc, clerk, i) == Some((i as u64, SAID[i]))
+}
+
+/// Whether a clerk does so for the whole list.
+fn tells_all<C: Clerk>(alloc: Global, clerk: &mut C) -> bool {
+    for i in 0..6 {
+        if !is_told(alloc, clerk, i) {
+            return false;
+        }
+    }
+    true
+}
+
+/// Whether a node alone acts as expected, how many actions it was passed, and whether it knows the key of the second fetch.
+fn told_alone(alloc: Global) -> Option<(bool, usize, bool)> {
+    let mut clerk = Lone::new(alloc, node_of(alloc)?);
+    let tells = tells_all(alloc, &mut clerk);
+    let passed = clerk.passed().len();
+    let key = clerk.key_of(alloc, 2);
+    drop(clerk);
+    Some((tells, passed, key.ok()?.is_some()))
+}
+
+#[test]
+fn a_node_by_itself_tells_the_story(rt: HostRuntime) {
+    assert!(rt; told_alone(rt.alloc()) == Some((true, 5, true)));
 }
 
 /// Whether two clerks that alternate over the list act as expected.
