@@ -19,7 +19,7 @@ use tokio::time::Sleep;
 // that.
 const FILE_PAUSE: u64 = 20;
 
-// Until when in the race such attempts are made again, in milliseconds.
+// How long after its beginning such an attempt is made again, in milliseconds. Then one of those under way is given up for it.
 const FILE_PATIENCE: u64 = 1_000;
 
 /// A connection to a server, and the address at which it was reached.
@@ -43,6 +43,8 @@ pub enum DialFault {
 // An attempt.
 struct Attempt {
     server: SocketAddr,
+    // When in the race it began.
+    began: u64,
     // While it is under way.
     connecting: Option<ConnectFuture>,
     // Whether it found no open file, and is made again.
@@ -56,6 +58,7 @@ impl Drop for Attempt {
     fn drop(self) {
         let Self {
             server: _,
+            began: _,
             connecting: _,
             lacks_file: _,
             ticket: _,
@@ -135,6 +138,7 @@ impl<R: Net + Wait + Clock + Copy> Dialing<R> {
         let server = *server;
         let attempt = Attempt {
             server,
+            began: now,
             connecting: Some(TcpStream::connect(&self.rt, server, self.handle.reactor())),
             lacks_file: false,
             ticket,
@@ -287,19 +291,43 @@ impl<R: Wait + Clock> Dialing<R> {
         }
     }
 
-    // Has the attempt at this place, which found no open file, be made again a little later. Returns whether it is early enough for that.
+    // Has the attempt at this place, which found no open file, be made again a little later. Returns whether it is: after its patience only where
+    // another one is given up for it.
     fn postpones(&mut self, place: usize) -> bool {
         let now = self.now();
         let Some(attempt) = self.attempts.get_mut(place) else {
             return false;
         };
-        if FILE_PATIENCE <= now {
+        put(&mut attempt.connecting, None);
+        if attempt.began.saturating_add(FILE_PATIENCE) <= now && !self.gives_one_up(now) {
             return false;
         }
-        put(&mut attempt.connecting, None);
+        let Some(attempt) = self.attempts.get_mut(place) else {
+            return false;
+        };
         attempt.lacks_file = true;
         self.again = Some(now.saturating_add(FILE_PAUSE));
         true
+    }
+
+    // Gives up the attempt that has been under way for longest. Returns whether there is one.
+    fn gives_one_up(&mut self, now: u64) -> bool {
+        for place in 0..self.attempts.len() {
+            if self.is_under_way(place) {
+                let _ = self.server_at(place);
+                self.race.note_ended(now);
+                return true;
+            }
+        }
+        false
+    }
+
+    // Whether the attempt at this place is under way, and has its file.
+    fn is_under_way(&self, place: usize) -> bool {
+        match self.attempts.get(place) {
+            Some(attempt) => attempt.connecting.is_some(),
+            None => false,
+        }
     }
 
     // Sets the timer to this time of the race.
