@@ -1,9 +1,9 @@
 //! The program `cache_main`, with five commands: `feed` runs a script from standard input, `check` reads a filter program from a
 //! file, `replay` runs one over a capture, `explain` over one datagram, `serve` runs the proxy from a configuration file, or checks
-//! that file. What is asked about the program itself (`--help`, `help`, `--version`, `serve --check`) is told by `command_line`.
+//! that file. What is asked about the program itself (`--help`, `help`, `--version`, `serve --check`) is told by `commands`.
 //!
 //! This crate parses the arguments and calls the crates below it: `feed_script`, `filter_replay` for the commands about captures, `commands`
-//! for what `check` and `serve` read and tell, and `cache_serve`. It has no functional contract of its own; `run_serve` only requires a
+//! also for what `check` and `serve` read and tell, and `cache_serve`. It has no functional contract of its own; `run_serve` only requires a
 //! ledger for as many threads as may submit events to the node.
 //! Tested by: its run by `rt ci` (args, stdin, stdout), cases/, tests/.
 #![tactic(auto)]
@@ -12,8 +12,7 @@ mod serve_command;
 mod standard_files;
 mod version;
 
-use command_line::{Question, asked};
-use commands::{NO_OUTPUT, check_configuration, run_check, settings_of};
+use commands::{NO_OUTPUT, Question, asked, check_configuration, run_check, settings_of};
 use feed_script::feed;
 use filter_replay::{run_explain, run_replay};
 use proxy_site::SEATS;

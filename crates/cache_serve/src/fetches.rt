@@ -8,7 +8,7 @@ use crossbeam_channel::Sender;
 use futures::channel::mpsc;
 use http_fetches::{Budget, FetchLimits, FetchRules, run_fetches};
 use http_traffic::Job;
-use plain_node::MAX_PENDING_FETCHES;
+use node_words::MAX_PENDING_FETCHES;
 use proxy_node::{AtDesk, NodeHandle, ThreadSeat};
 use proxy_results::Results;
 use proxy_site::{Ending, ServeFault};

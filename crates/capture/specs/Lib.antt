@@ -11,3 +11,5 @@ pub mod Blocks
 pub mod Packet
 pub mod Start
 pub mod Step
+pub mod Headers
+pub mod Written

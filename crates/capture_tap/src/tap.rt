@@ -1,7 +1,7 @@
 //! Captures of the datagrams that come in, for the administration: the query thread writes the file's blocks, and hands them over
 //! in pieces through a bounded channel.
 use crate::limits::CaptureLimits;
-use capture_file::{COUNTS_OCTETS, Fate, HEAD_OCTETS, counts_block, datagram_block, head};
+use capture::{COUNTS_OCTETS, Fate, HEAD_OCTETS, counts_block, datagram_block, head};
 use filter_slots::{Datagram, Judged, cut};
 use futures::channel::mpsc;
 use std::alloc::{AllocError, Global};

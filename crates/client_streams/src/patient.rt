@@ -6,7 +6,7 @@ ghost use Rattle.tokio.specs.Net.{stream_readable, stream_writable};
 use crate::request_line::RequestLine;
 use futures::Future;
 use futures::task::{Context, Poll};
-use paced_stream::{CLIENT_TURN, Paced};
+use shared_thread::{CLIENT_TURN, Paced};
 use std::alloc::{AllocError, Global};
 use std::cell::Cell;
 use std::io;

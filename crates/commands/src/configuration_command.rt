@@ -4,7 +4,7 @@ use crate::NO_OUTPUT;
 use crate::equipment::filters_of;
 use crate::settings::settings_in;
 use crate::warnings::warn;
-use node_core::Network;
+use node_terms::Network;
 use serve_config::{Settings, SixNetwork};
 use std::fs;
 use std::net::{Ipv4Addr, Ipv6Addr};

@@ -1,19 +1,27 @@
-//! What commands of the program read and tell: `check`, which reads a filter program from a file, `serve --check`, and `serve` beside the
-//! proxy itself.
+//! What an argument list asks of the program about itself: a help text, its version, or whether a configuration is right; and what
+//! commands of the program read and tell: `check`, which reads a filter program from a file, `serve --check`, and `serve` beside the
+//! proxy itself. All commands, their words and their help texts stand here, for `clap` of the toolchain's kit, which finds out which text
+//! is meant.
 //!
-//! This crate calls those below it, and turns their results into lines and exit statuses. It has no functional contract of its own.
-//! Tested by: cases/, tests/serve_operator.
+//! The contract of [`asked`] says which argument lists are left to the program (`specs/Asking.antt`): all in which none of the six
+//! words stands that this crate answers to. What it answers to the others is only tested, and so is the rest, which calls the crates below
+//! and turns their results into lines and exit statuses.
+//! Tested by: cases/, tests/serve_operator, tools/documents (docs/wabretos.1 against the help texts), more-edits.
 #![tactic(auto)]
 
+mod asking;
 mod check_command;
 mod configuration_command;
 mod ending;
 mod equipment;
+mod flags;
 mod patience;
+mod program;
 mod settings;
 mod telling;
 mod warnings;
 
+pub use asking::{Question, asked};
 pub use check_command::run_check;
 pub use configuration_command::check_configuration;
 pub use ending::tell_finish;

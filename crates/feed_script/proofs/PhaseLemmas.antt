@@ -2,7 +2,7 @@
 use Rattle.std.proofs.Common.{◌≡◌, true, is_some, unwrap_or, Option, Some, None, List, [], ◌∷◌, ◌++◌, ap, sym, ◌∙◌, refl}
 use Rattle.neighbours.specs.declared.key.Key.{Key}
 use Rattle.neighbours.specs.declared.neighbour.Neighbour.{Neighbour}
-use Rattle.plain_node.specs.declared.config.Config.{Config}
+use Rattle.node_words.specs.declared.config.Config.{Config}
 use Rattle.node_terms.specs.declared.network.Network.{Network}
 use Rattle.plain_node.specs.declared.config.NodeFault.{NodeFault}
 use Rattle.plain_node.specs.declared.config.NodeFault.TheVariants.{Table, Limits, NoMemory}

@@ -2,7 +2,7 @@
 use Rattle.std.proofs.Common.{◌≡◌, ℕ, Bool, true, false, cond, is_some, List, [], ◌∷◌, ◌++◌, length, refl, ap, ◌∙◌, sym}
 use Rattle.bpf_check.specs.declared.checked.CheckFault.{CheckFault}
 use Rattle.filter_slots.specs.declared.slot.Slot.{Slot}
-use Rattle.plain_node.specs.declared.action.Action.{Action}
+use Rattle.node_words.specs.declared.action.Action.{Action}
 use Rattle.plain_node.specs.Settings.{Setup, setup_fault}
 use Rattle.node_core.specs.Happening.{Happening}
 use Rattle.node_core.specs.Run.{answers}

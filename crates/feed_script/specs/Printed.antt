@@ -7,15 +7,15 @@ use Rattle.bpf_check.specs.Accepted.{fault_number, fault_place}
 use Rattle.bpf_run.specs.declared.ends.End.{End}
 use Rattle.bpf_run.specs.declared.ends.Socket.{Socket}
 use Rattle.bpf_run.specs.declared.ends.Socket.TheVariants.{Icp, Htcp}
-use Rattle.plain_node.specs.declared.action.Action.{Action}
-use Rattle.plain_node.specs.declared.action.Action.TheVariants.{Send, Fetch, Serve}
-use Rattle.plain_node.specs.declared.action.Answer.{Answer}
-use Rattle.plain_node.specs.declared.action.Answer.TheVariants.{Hit, Got, Fail}
+use Rattle.node_words.specs.declared.action.Action.{Action}
+use Rattle.node_words.specs.declared.action.Action.TheVariants.{Send, Fetch, Serve}
+use Rattle.node_words.specs.declared.action.Answer.{Answer}
+use Rattle.node_words.specs.declared.action.Answer.TheVariants.{Hit, Got, Fail}
 use Rattle.peer_select.specs.declared.reply.Source.{Source}
 use Rattle.peer_select.specs.declared.reply.Source.TheVariants.{Peer, Origin}
 use Rattle.pending_fetch.specs.Fetches.{PendingFetch, fetch_of}
-use Rattle.node_core.specs.declared.stats.Counters.{Counters}
-use Rattle.node_core.specs.declared.stats.Stats.{Stats}
+use Rattle.node_words.specs.declared.stats.Counters.{Counters}
+use Rattle.node_words.specs.declared.stats.Stats.{Stats}
 
 -- octets in lower-case hexadecimal, `-` if there are none
 abbrev pub octets_text : List ℕ → List ℕ

@@ -6,7 +6,7 @@ use Rattle.bpf_run.specs.declared.ends.Socket.TheVariants.{Icp, Htcp}
 use Rattle.filter_slots.specs.declared.slot.Slot.{Slot}
 use Rattle.filter_slots.specs.declared.slot.Slot.TheVariants as slots
 use Rattle.pending_fetch.specs.Fetches.{PendingFetch}
-use Rattle.plain_node.specs.declared.action.Action.{Action}
+use Rattle.node_words.specs.declared.action.Action.{Action}
 use Rattle.plain_node.specs.Settings.{Settings, Setup, setup_fault}
 use Rattle.node_core.specs.Happening.{Happening, arrives, swaps}
 use Rattle.node_core.specs.Kept.{kept}

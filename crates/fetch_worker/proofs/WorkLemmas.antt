@@ -2,10 +2,10 @@
 use Rattle.std.proofs.Common.{◌≡◌, ◌<◌, ◌⊎◌, inl, inr, ℕ, ◌+◌, length, take, drop, get_or, filter, option_map, List, [], ◌∷◌, ◌++◌, Option, Some, None, refl, ap, sym, ◌∙◌, subst, append_assoc, append-nil, arith}
 use Rattle.std.proofs.lemmas.List.{take_more, take-append-drop}
 use Rattle.std.proofs.lemmas.List.Elements.{filter-append}
-use Rattle.plain_node.specs.declared.action.Action.{Action}
+use Rattle.node_words.specs.declared.action.Action.{Action}
 use Rattle.plain_node.specs.Memory.{is_no_send}
 use Rattle.node_book.specs.Told.{Told, passing}
-use Rattle.plain_node.specs.declared.event.Outcome.{Outcome}
+use Rattle.node_words.specs.declared.event.Outcome.{Outcome}
 use Rattle.fetch_worker.specs.Working.{Submitted, FailsUnknown, Answered, AnswersJob, AnswersJobs, Breaks, Stops}
 
 -- one more job

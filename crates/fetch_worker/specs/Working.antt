@@ -1,10 +1,10 @@
 -- What a fetch worker submits for its jobs.
 use Rattle.std.specs.Prelude.{◌≡◌, ◌⊎◌, ℕ, filter, List, [], ◌∷◌, ◌++◌, None, IfSome}
 use Rattle.pending_fetch.specs.Fetches.{fetch_of}
-use Rattle.plain_node.specs.declared.action.Action.{Action}
-use Rattle.plain_node.specs.declared.action.Action.TheVariants.{Send, Fetch, Serve}
-use Rattle.plain_node.specs.declared.event.Outcome.{Outcome}
-use Rattle.plain_node.specs.declared.event.Outcome.TheVariants.{Failed}
+use Rattle.node_words.specs.declared.action.Action.{Action}
+use Rattle.node_words.specs.declared.action.Action.TheVariants.{Send, Fetch, Serve}
+use Rattle.node_words.specs.declared.event.Outcome.{Outcome}
+use Rattle.node_words.specs.declared.event.Outcome.TheVariants.{Failed}
 use Rattle.plain_node.specs.Memory.{is_no_send}
 use Rattle.node_core.specs.Happening.{ends}
 use Rattle.node_book.specs.Told.{Owned, Told, Submits, passing}

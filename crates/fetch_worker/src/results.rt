@@ -1,6 +1,6 @@
 //! Submitting the results of fetches to a clerk.
 ghost use Rattle.std.specs.Prelude.{◌≡◌, ◌≤◌, ◌+◌, [], OnOk, OnErr};
-ghost use Rattle.plain_node.specs.declared.event.Outcome.TheVariants as outcome;
+ghost use Rattle.node_words.specs.declared.event.Outcome.TheVariants as outcome;
 ghost use Rattle.fetch_worker.specs.Working.{Submitted};
 
 use crate::NoMemory;

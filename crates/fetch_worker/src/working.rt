@@ -1,6 +1,6 @@
 //! The loop of a worker.
 ghost use Rattle.std.specs.Prelude.{◌≡◌, ◌≤◌, ◌+◌, ◌++◌, ◌∷◌, [], List, OnOk, OnErr, filter};
-ghost use Rattle.plain_node.specs.declared.action.Action.{Action};
+ghost use Rattle.node_words.specs.declared.action.Action.{Action};
 ghost use Rattle.plain_node.specs.Memory.{is_no_send};
 ghost use Rattle.node_book.specs.Told.{Told, passing};
 ghost use Rattle.fetch_worker.specs.Working.{FailsUnknown, AnswersJob, AnswersJobs, Breaks, Stops};

@@ -3,7 +3,7 @@ use crate::attendance::millis_between;
 use fair_use::{ends_unwanted, is_alone_too_long};
 use futures::channel::oneshot;
 use http_traffic::{Progress, Supplier};
-use node_core::Mode;
+use node_terms::Mode;
 use object_store::{CacheKey, SharedObject};
 use std::sync::Arc;
 use std::time::Instant;

@@ -2,7 +2,7 @@
 use http_header::HeaderMap;
 use http_rules::{RefreshRule, age_of, may_keep, may_store, tells_end};
 use http_traffic::Page;
-use node_core::Mode;
+use node_terms::Mode;
 
 /// The rules by which responses are kept.
 #[derive(Drop)]

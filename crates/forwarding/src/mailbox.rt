@@ -3,7 +3,7 @@ use crate::attendance::Attendance;
 use crate::in_flight::{Flight, InFlight, Look, Unwanted};
 use futures::channel::oneshot;
 use http_traffic::{Outcome, Progress, Supplier};
-use node_core::Mode;
+use node_terms::Mode;
 use object_store::{CacheKey, SharedObject};
 use std::alloc::{AllocError, Global};
 use std::collections::BTreeMap;

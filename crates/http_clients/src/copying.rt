@@ -9,7 +9,7 @@ use client_streams::Patience;
 use futures::ready;
 use futures::task::{Context, Poll};
 use http_traffic::Ticket;
-use paced_stream::Paced;
+use shared_thread::Paced;
 use std::alloc::AllocError;
 use std::io::ErrorKind;
 use std::time::{Clock, Duration};

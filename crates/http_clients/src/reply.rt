@@ -14,8 +14,8 @@ use futures::ready;
 use futures::stream::Stream;
 use futures::task::{Context, Poll};
 use http_body::{Body, Frame, SizeHint};
+use http_content::Portions;
 use http_traffic::Piece;
-use object_body::Portions;
 use std::alloc::{AllocError, Global};
 use std::mem;
 

@@ -4,12 +4,11 @@ ghost use Rattle.std.specs.Prelude.{None};
 use crate::requests::{Given, OwnAnswer, PassedAnswer};
 use admin_page::POLICY;
 use futures::channel::{mpsc, oneshot};
-use http_content::{add_field, add_object_fields};
+use http_content::{Portions, add_field, add_object_fields};
 use http_rules::end_to_end;
 use http_traffic::{Early, PassedHead, Piece, Shape};
 use hyper::header::{HeaderName, HeaderValue};
 use hyper::{HeaderMap, Response, StatusCode, header};
-use object_body::Portions;
 use object_store::SharedObject;
 use std::alloc::Global;
 

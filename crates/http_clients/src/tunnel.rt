@@ -10,7 +10,7 @@ use futures::channel::oneshot;
 use futures::task::{Context, Poll};
 use futures::{Future, ready};
 use http_traffic::{Addresses, AdmitFault, Server, Ticket, TunnelEnd};
-use paced_stream::Paced;
+use shared_thread::Paced;
 use std::alloc::{AllocError, Global};
 use std::mem;
 use std::net::{Net, SocketAddr};

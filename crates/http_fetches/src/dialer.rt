@@ -7,7 +7,7 @@ use dialing::{Connected, DialFault, Dialing};
 use futures::Future;
 use futures::task::{Context, Poll};
 use http_traffic::{Addresses, Admit, FetchFault};
-use paced_stream::{FETCH_TURN, Paced};
+use shared_thread::{FETCH_TURN, Paced};
 use std::alloc::Global;
 use std::net::{Net, SocketAddr};
 use std::rc::Rc;

@@ -2,7 +2,6 @@
 ghost use Rattle.futures.specs.Task.{Keeps};
 
 use crate::fetching::{FetchRules, put};
-use fetch_chain::Tend;
 use futures::Stream;
 use futures::channel::mpsc;
 use futures::channel::mpsc::{UnboundedReceiver, UnboundedSender};
@@ -13,6 +12,7 @@ use http_rules::end_to_end;
 use http_traffic as traffic;
 use http_traffic::{Admit, Piece, Progress};
 use hyper::HeaderMap;
+use shared_thread::Tend;
 use std::alloc::{AllocError, Global};
 use std::mem;
 use std::rc::Rc;

@@ -13,7 +13,7 @@ use futures::task::{Context, Poll};
 use http_rules::may_retry;
 use http_traffic::{FetchFault, Page};
 use hyper::client::conn::http1::Parts;
-use paced_stream::Paced;
+use shared_thread::Paced;
 use std::alloc::Global;
 use std::net::SocketAddr;
 use std::sync::Wait;

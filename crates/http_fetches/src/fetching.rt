@@ -14,7 +14,6 @@ use crate::passing::{Pass, Plan, Post, Watch, Watching, plan_of};
 use crate::sending::Sent;
 use crate::speaking::{Asker, Deliverer, Meter, Metered};
 use crate::visit::{Visit, Visited};
-use fetch_chain::{Begin, Submit, Tend};
 use futures::Future;
 use futures::channel::mpsc::{UnboundedReceiver, UnboundedSender};
 use futures::channel::oneshot;
@@ -27,6 +26,7 @@ use http_traffic::{
 use hyper::Request;
 use hyper::client::conn::http1;
 use server_connections::{KeptShare, ServerPlace};
+use shared_thread::{Begin, Submit, Tend};
 use std::alloc::{AllocGlobal, Global};
 use std::hash::RandomState;
 use std::io;
@@ -876,5 +876,5 @@ where
     let alloc = rt.alloc();
     let mut seat = PassOn { seat };
     let starter = Starter { alloc, means };
-    fetch_chain::run(&rt, runtime, jobs, starter, &mut seat, tending, at_once)
+    shared_thread::run_jobs(&rt, runtime, jobs, starter, &mut seat, tending, at_once)
 }

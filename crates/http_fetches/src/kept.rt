@@ -2,11 +2,10 @@
 ghost use Rattle.futures.specs.Task.{Keeps};
 
 use crate::fetching::put;
-use fetch_chain::Tend;
 use futures::Future;
 use futures::task::{Context, Poll};
-use paced_stream::Paced;
 use server_connections::{IdlePlace, KeptShare};
+use shared_thread::{Paced, Tend};
 use std::alloc::{AllocError, Global};
 use std::cell::RefCell;
 use std::net::SocketAddr;

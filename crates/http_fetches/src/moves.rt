@@ -7,7 +7,7 @@ use crate::fetching::put;
 use fair_use::{WINDOW_SECONDS, is_too_slow};
 use futures::Future;
 use futures::task::{Context, Poll};
-use paced_stream::Paced;
+use shared_thread::Paced;
 use std::alloc::{AllocError, Global};
 use std::cell::Cell;
 use std::io;

@@ -19,7 +19,7 @@ use http_content::Relayed;
 use http_traffic::{Change, FetchFault, LeftChange, PassFault, Passage, Piece, Server, Ticket};
 use hyper::Request;
 use hyper::client::conn::http1;
-use paced_stream::Paced;
+use shared_thread::Paced;
 use std::alloc::Global;
 use std::net::SocketAddr;
 use std::time::{Clock, Duration};

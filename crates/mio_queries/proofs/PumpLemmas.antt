@@ -4,8 +4,8 @@ use Rattle.std.proofs.lemmas.Bool.Decides.{nat_tests}
 use Rattle.std.proofs.lemmas.List.{map-append, length-append, length-map, take_more, take-append-drop}
 use Rattle.std.proofs.lemmas.List.Elements.{filter-append}
 use Rattle.std.proofs.lemmas.List.Filters.{length-filter_both}
-use Rattle.plain_node.specs.declared.action.Action.{Action}
-use Rattle.plain_node.specs.declared.action.Action.TheVariants.{Send, Fetch, Serve}
+use Rattle.node_words.specs.declared.action.Action.{Action}
+use Rattle.node_words.specs.declared.action.Action.TheVariants.{Send, Fetch, Serve}
 use Rattle.node_core.specs.Counters.{plus}
 use Rattle.node_core.specs.Happening.{Happening}
 use Rattle.node_core.specs.State.{State, HasTaken}

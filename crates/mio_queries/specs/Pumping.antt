@@ -1,7 +1,7 @@
 -- Pumping: submitting what a wire receives to a clerk, and carrying out the actions of its node.
 use Rattle.std.specs.Prelude.{◌≡◌, ◌≤◌, ◌⊎◌, ℕ, ◌+◌, ◌*◌, Bool, true, false, not, length, map, filter, take, List, [], ◌∷◌, ◌++◌, Option, Some, None}
-use Rattle.plain_node.specs.declared.action.Action.{Action}
-use Rattle.plain_node.specs.declared.action.Action.TheVariants.{Send, Fetch, Serve}
+use Rattle.node_words.specs.declared.action.Action.{Action}
+use Rattle.node_words.specs.declared.action.Action.TheVariants.{Send, Fetch, Serve}
 use Rattle.node_core.specs.Counters.{plus}
 use Rattle.node_core.specs.Happening.{Happening, arrives, ticks}
 use Rattle.node_core.specs.State.{HasTaken}

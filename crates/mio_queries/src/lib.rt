@@ -6,23 +6,20 @@
 //! Tested by: crates/test_loop, more-edits.
 #![tactic(auto)]
 
-mod bell;
 mod memory;
 mod mio_wire;
 mod pumped;
 mod sockets;
-mod timeline;
 mod traffic;
 mod turns;
 mod wire;
 
-pub use bell::Bell;
 pub use memory::MemoryWire;
 pub use mio_wire::MioWire;
 pub use pumped::{PumpFault, Pumped};
+pub use query_handles::{Bell, Timeline};
 pub use sockets::BindFault;
 pub use std::alloc::AllocError as NoMemory;
-pub use timeline::Timeline;
 pub use traffic::{Received, Sending, WireFault};
 pub use turns::{pump, pump_with};
 pub use wire::Wire;

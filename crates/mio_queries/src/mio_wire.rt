@@ -4,12 +4,11 @@ ghost use Rattle.node_core.specs.Counters.{plus};
 ghost use Rattle.mio_queries.specs.Traffic.{Traffic};
 
 use crate::NoMemory;
-use crate::bell::Bell;
 use crate::sockets::{BindFault, Sockets};
-use crate::timeline::Timeline;
 use crate::traffic::{Received, WireFault};
 use crate::wire::Wire;
 use filter_slots::{End, Socket};
+use query_handles::{Bell, Timeline};
 use std::alloc::{AllocGlobal, Global};
 use std::net::Net;
 use std::time::Clock;

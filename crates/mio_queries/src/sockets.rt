@@ -1,11 +1,10 @@
 //! The two query sockets, polled together.
 use crate::NoMemory;
-use crate::bell::Bell;
-use crate::timeline::Timeline;
 use crate::traffic::{Received, WireFault};
 use filter_slots::{Datagram, End, Moment, Socket};
 use mio::net::UdpSocket;
-use mio::{Events, Interest, Poll, Token};
+use mio::{Events, Interest, Poll, Token, Waker};
+use query_handles::{Bell, Timeline};
 use std::alloc::{AllocGlobal, Global};
 use std::io;
 use std::io::ErrorKind;
@@ -275,7 +274,10 @@ fn open_polling<R: Net + AllocGlobal>(rt: &R) -> Result<Polling, BindFault> {
 
 // Room for events, and a bell that is registered for polling.
 fn bell_of(alloc: Global, poll: &Poll) -> Result<(Events, Bell), BindFault> {
-    let bell = Bell::new(alloc, poll.registry(), WAKES)?;
+    let Ok(waker) = Waker::new(poll.registry(), WAKES) else {
+        return Err(BindFault::Io);
+    };
+    let bell = Bell::new(alloc, waker)?;
     match Events::with_capacity(alloc, 4) {
         Ok(events) => Ok((events, bell)),
         Err(_) => {

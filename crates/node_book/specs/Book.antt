@@ -1,6 +1,6 @@
 -- The book, a log of a node's events, and when it is legal.
 use Rattle.std.specs.Prelude.{◌≡◌, ℕ, ◌+◌, ◌^◌, ◌<◌, ◌≤◌, nat_le, Bool, ◌||◌, List, [], ◌∷◌, ◌++◌, map, length, sum_by, ◌==◌, if◌then◌else◌}
-use Rattle.plain_node.specs.declared.action.Action.{Action}
+use Rattle.node_words.specs.declared.action.Action.{Action}
 use Rattle.node_core.specs.Happening.{Happening}
 use Rattle.node_core.specs.Run.{answers}
 use Rattle.node_core.specs.State.{State, HasTaken}

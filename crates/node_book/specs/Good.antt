@@ -1,7 +1,7 @@
 -- When a receipt is good, and the lowest number of one that is not.
 use Rattle.std.specs.Prelude.{◌≡◌, ℕ, ◌-◌, ◌<◌, ◌≤◌, ◌==◌, nat_le, nat_lt, true, List, length, take, Option, Some, None, min, slice_get, count_by, sum_by}
 use Rattle.std.specs.List.{list_all}
-use Rattle.plain_node.specs.declared.action.Action.{Action}
+use Rattle.node_words.specs.declared.action.Action.{Action}
 use Rattle.plain_node.specs.Tally.{tally_of}
 use Rattle.node_book.specs.Book.{Book, count_of, events_of, outs_of}
 use Rattle.node_book.specs.Seats.{Claim, Held}

@@ -5,7 +5,7 @@ use Rattle.filter_slots.specs.Filters.{slot}
 use Rattle.neighbours.specs.declared.neighbour.Neighbour.{Neighbour}
 use Rattle.neighbours.specs.Rows.{mark_at, is_up}
 use Rattle.node_core.specs.State.{State}
-use Rattle.node_book.specs.declared.neighbour_view.NeighbourView.{NeighbourView}
+use Rattle.node_words.specs.declared.views.NeighbourView.{NeighbourView}
 
 -- the view of the neighbour at index n: where it is queried, what its mark says, and whether its slot has a program
 abbrev pub view_of : State → ℕ → Neighbour → NeighbourView

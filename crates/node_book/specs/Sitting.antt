@@ -1,6 +1,6 @@
 -- Clerks as plain data: one that owns its node, and one at a seat of a desk.
 use Rattle.std.specs.Prelude.{ℕ, List, Option, Some, None}
-use Rattle.plain_node.specs.declared.action.Action.{Action}
+use Rattle.node_words.specs.declared.action.Action.{Action}
 use Rattle.filter_slots.specs.Filters.{Filters}
 use Rattle.node_core.specs.State.{State}
 use Rattle.node_book.specs.Seats.{Held}

@@ -2,7 +2,7 @@
 use Rattle.std.specs.Prelude.{◌≡◌, length}
 use Rattle.object_store.specs.Pairs.{total_size}
 use Rattle.node_book.specs.Book.{Book, count_of}
-use Rattle.node_book.specs.declared.store_view.Sizes.{Sizes}
+use Rattle.node_words.specs.declared.views.Sizes.{Sizes}
 
 -- the numbers of a book: events in all volumes and before the present one, and the stored objects of its node with their octets
 -- (nothing is said of how many objects had to make room)

@@ -1,7 +1,7 @@
 -- What a clerk tells: of a node behind it, of its seat, and of the actions passed on.
 use Rattle.std.specs.Prelude.{◌≡◌, ◌⊎◌, ℕ, ◌+◌, List, [], ◌∷◌, ◌++◌, Option, Some, None}
 use Rattle.std.specs.Option.{option_map}
-use Rattle.plain_node.specs.declared.action.Action.{Action}
+use Rattle.node_words.specs.declared.action.Action.{Action}
 use Rattle.plain_node.specs.Tally.{tally_of}
 use Rattle.node_core.specs.Happening.{Happening}
 use Rattle.node_core.specs.State.{State, HasTaken}

@@ -4,27 +4,11 @@ ghost use Rattle.filter_slots.specs.Filters.{slot};
 ghost use Rattle.node_book.specs.NeighbourView.{view_of, AreViews};
 
 use crate::NoMemory;
-use filter_slots::{End, Slot, Socket};
+use filter_slots::Slot;
 use neighbours::{Neighbour, Table};
 use node_core::Node;
+use node_words::NeighbourView;
 use std::alloc::Global;
-
-/// The state of a neighbour at one moment.
-#[derive(Clone, Copy, Debug, PartialEq)]
-pub struct NeighbourView {
-    /// The socket from which it is queried.
-    pub protocol: Socket,
-    /// The address and port at which it is queried.
-    pub end: End,
-    /// Whether it has missed fewer than 20 query rounds since it was last heard from.
-    pub is_up: bool,
-    /// Its smoothed response time in eighths of a millisecond; `None` before the first sample.
-    pub time: Option<u32>,
-    /// Number of query rounds it has missed since it was last heard from, at most 20.
-    pub misses: u8,
-    /// Whether its slot has a filter.
-    pub has_filter: bool,
-}
 
 // Whether the slot of the neighbour at index `n` has a filter.
 fn has_filter(node: &Node, n: usize) -> bool

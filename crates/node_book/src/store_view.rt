@@ -7,22 +7,8 @@ use crate::NoMemory;
 use crate::booked::Booked;
 use filter_slots::Moment;
 use node_core::Node;
+use node_words::Sizes;
 use object_store::Entry;
-
-/// How large the book and the store of its node are at one moment.
-#[derive(Clone, Copy, Debug, PartialEq)]
-pub struct Sizes {
-    /// Number of events taken.
-    pub events: u64,
-    /// Number of events taken before the present volume began.
-    pub base: u64,
-    /// Number of stored objects, those that are no longer fresh among them.
-    pub objects: usize,
-    /// Octets of stored objects and their keys.
-    pub octets: u64,
-    /// Number of objects that had to make room for others, modulo 2^64.
-    pub evictions: u64,
-}
 
 /// How large a book and the store of its node are.
 pub(crate) fn sizes_of(booked: &Booked) -> Sizes

@@ -6,17 +6,17 @@ use Rattle.bpf_run.specs.declared.ends.Socket.{Socket}
 use Rattle.filter_slots.specs.Datagram.{DatagramFields}
 use Rattle.filter_slots.specs.Filters.{Filters}
 use Rattle.filter_slots.specs.Verdict.{verdict_in_force}
-use Rattle.plain_node.specs.declared.action.Action.{Action}
-use Rattle.node_core.specs.declared.event.Event.{Event}
-use Rattle.node_core.specs.declared.stats.Counters.{Counters}
-use Rattle.node_core.specs.declared.stats.Stats.{Stats}
-use Rattle.node_core.specs.Happening.{Happening, arrives, happening}
+use Rattle.node_words.specs.declared.action.Action.{Action}
+use Rattle.node_words.specs.declared.event.Event.{Event}
+use Rattle.node_words.specs.declared.stats.Counters.{Counters}
+use Rattle.node_words.specs.declared.stats.Stats.{Stats}
+use Rattle.node_words.specs.Happening.{Happening, arrives, happening}
 use Rattle.plain_node.specs.PlainNode.{PlainNode}
 use Rattle.plain_node.specs.Plain.{PlainEvent, plain_step}
 use Rattle.node_core.specs.Kept.{kept, kept_event, kept_places, present, filters_after, swapped}
 use Rattle.node_core.specs.Run.{run_node, run_actions, laid_out, answers}
 use Rattle.node_core.specs.State.{State, HasTaken}
-use Rattle.node_core.specs.Swaps.{PutsInAccepted}
+use Rattle.node_words.specs.Installs.{PutsInAccepted}
 use Rattle.node_core.proofs.Swaps.{accepted-joined}
 use Rattle.node_core.specs.Counters.{plus, counted, counted_at, count_of, is_icp, is_htcp, is_rejected, is_cut, is_malformed}
 

@@ -10,12 +10,13 @@ use Rattle.filter_slots.specs.declared.slot.Slot.TheVariants as slots
 use Rattle.filter_slots.specs.Filters.{Filters, NeighbourSlot, empty_slot, has_slot, slot, with_slot, program_at, with_program, AreAccepted}
 use Rattle.bpf_check.specs.declared.insn.Insn.{Insn}
 use Rattle.bpf_check.specs.Accepted.{IsAccepted}
-use Rattle.plain_node.specs.declared.action.Action.{Action}
+use Rattle.node_words.specs.declared.action.Action.{Action}
 use Rattle.plain_node.specs.Settings.{Setup}
-use Rattle.node_core.specs.Happening.{Happening, arrives, asks, ticks, ends, leaves, swaps}
+use Rattle.node_words.specs.Happening.{Happening, arrives, asks, ticks, ends, leaves, swaps}
 use Rattle.node_core.specs.Kept.{swapped, filters_after}
 use Rattle.node_core.specs.State.{State, HasTaken, opening, sender_of, slot_sender, slot_senders}
-use Rattle.node_core.specs.Swaps.{same_slot, swap_of, last_swap, later_of, PutsInAccepted}
+use Rattle.node_core.specs.Swaps.{same_slot, swap_of, last_swap, later_of}
+use Rattle.node_words.specs.Installs.{PutsInAccepted}
 
 unwrap_or-later_of : {A : Type 0} (first later : Option A) (d : A) → unwrap_or (later_of first later) d ≡ unwrap_or later (unwrap_or first d)
 unwrap_or-later_of first None d = refl

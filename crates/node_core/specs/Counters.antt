@@ -6,9 +6,9 @@ use Rattle.filter_slots.specs.Datagram.{DatagramFields}
 use Rattle.filter_slots.specs.Filters.{Filters}
 use Rattle.filter_slots.specs.Verdict.{verdict_in_force}
 use Rattle.plain_node.specs.Plain.{is_no_message}
-use Rattle.node_core.specs.declared.stats.Counters.{Counters}
-use Rattle.node_core.specs.declared.stats.Stats.{Stats}
-use Rattle.node_core.specs.Happening.{Happening, arrives, asks, ticks, ends, leaves, swaps}
+use Rattle.node_words.specs.declared.stats.Counters.{Counters}
+use Rattle.node_words.specs.declared.stats.Stats.{Stats}
+use Rattle.node_words.specs.Happening.{Happening, arrives, asks, ticks, ends, leaves, swaps}
 use Rattle.node_core.specs.Kept.{handed_on, swapped}
 
 -- saturating addition, at most 2^64 - 1

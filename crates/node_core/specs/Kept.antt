@@ -4,7 +4,7 @@ use Rattle.filter_slots.specs.Datagram.{DatagramFields}
 use Rattle.filter_slots.specs.Filters.{Filters, with_slot}
 use Rattle.filter_slots.specs.Verdict.{verdict_in_force}
 use Rattle.filter_slots.specs.Cut.{cut_of}
-use Rattle.node_core.specs.Happening.{Happening, arrives, asks, ticks, ends, leaves, swaps}
+use Rattle.node_words.specs.Happening.{Happening, arrives, asks, ticks, ends, leaves, swaps}
 use Rattle.plain_node.specs.Plain.{PlainEvent, Arrived, Requested, Ticked, Ended, Left}
 
 -- the filters after one event

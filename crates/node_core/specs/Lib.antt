@@ -1,7 +1,7 @@
 pub mod Counters
-pub mod Happening
 pub mod Kept
 pub mod Raised
 pub mod Run
 pub mod State
 pub mod Swaps
+pub use Rattle.node_words.specs.Happening

@@ -4,8 +4,8 @@ use Rattle.bpf_run.specs.declared.ends.Socket.{Socket}
 use Rattle.bpf_run.specs.declared.ends.Socket.TheVariants.{Icp, Htcp}
 use Rattle.filter_slots.specs.Datagram.{DatagramFields}
 use Rattle.filter_slots.specs.Filters.{Filters}
-use Rattle.node_core.specs.declared.stats.Counters.{Counters}
-use Rattle.node_core.specs.declared.stats.Stats.{Stats}
+use Rattle.node_words.specs.declared.stats.Counters.{Counters}
+use Rattle.node_words.specs.declared.stats.Stats.{Stats}
 use Rattle.node_core.specs.Counters.{plus, one_if, is_rejected, is_cut, is_malformed}
 
 -- one socket's counters after one more datagram

@@ -1,8 +1,8 @@
 -- Runs of the plain node over lists of events.
 use Rattle.std.specs.Prelude.{List, [], ◌∷◌, Option, Some, None}
 use Rattle.filter_slots.specs.Filters.{Filters}
-use Rattle.plain_node.specs.declared.action.Action.{Action}
-use Rattle.node_core.specs.Happening.{Happening}
+use Rattle.node_words.specs.declared.action.Action.{Action}
+use Rattle.node_words.specs.Happening.{Happening}
 use Rattle.plain_node.specs.PlainNode.{PlainNode}
 use Rattle.plain_node.specs.Plain.{PlainEvent, plain_step}
 use Rattle.node_core.specs.Kept.{kept, kept_places}

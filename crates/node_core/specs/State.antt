@@ -5,15 +5,15 @@ use Rattle.bpf_run.specs.declared.ends.Socket.{Socket}
 use Rattle.filter_slots.specs.Filters.{Filters, NeighbourSlot, no_filters, has_slot}
 use Rattle.neighbours.specs.declared.neighbour.Neighbour.{Neighbour}
 use Rattle.pending_fetch.specs.Fetches.{fetch_of}
-use Rattle.plain_node.specs.declared.action.Action.{Action}
+use Rattle.node_words.specs.declared.action.Action.{Action}
 use Rattle.plain_node.specs.Settings.{Setup}
 use Rattle.plain_node.specs.PlainNode.{PlainNode, at_clock}
 use Rattle.plain_node.specs.Plain.{PlainEvent, Arrived, Requested, Ticked, Ended, Left}
 use Rattle.plain_node.specs.Opening.{opening_node}
 use Rattle.plain_node.specs.Memory.{ends_none, sends_none, asks_none, writes_key_at}
-use Rattle.node_core.specs.declared.stats.Counters.{Counters}
-use Rattle.node_core.specs.declared.stats.Stats.{Stats}
-use Rattle.node_core.specs.Happening.{Happening, arrives, asks, ticks, ends, leaves, swaps}
+use Rattle.node_words.specs.declared.stats.Counters.{Counters}
+use Rattle.node_words.specs.declared.stats.Stats.{Stats}
+use Rattle.node_words.specs.Happening.{Happening, arrives, asks, ticks, ends, leaves, swaps}
 use Rattle.node_core.specs.Kept.{kept, kept_event, filters_after, swapped}
 use Rattle.node_core.specs.Run.{run_node, answers, plain_after, actions_of}
 use Rattle.node_core.specs.Counters.{counted}

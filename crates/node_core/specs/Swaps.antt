@@ -1,11 +1,11 @@
 -- The filter swaps in a list of events: the last one of a slot, and whether all install programs that the checker accepts.
-use Rattle.std.specs.Prelude.{◌==◌, Bool, false, List, [], ◌∷◌, Option, Some, None, IfSome, if◌then◌else◌}
-use Rattle.bpf_check.specs.Accepted.{IsAccepted}
+use Rattle.std.specs.Prelude.{◌==◌, Bool, false, List, [], ◌∷◌, Option, Some, None, if◌then◌else◌}
 use Rattle.bpf_check.specs.declared.insn.Insn.{Insn}
 use Rattle.filter_slots.specs.declared.slot.Slot.{Slot}
 use Rattle.filter_slots.specs.declared.slot.Slot.TheVariants as slots
 use Rattle.filter_slots.specs.Filters.{same_socket}
-use Rattle.node_core.specs.Happening.{Happening, arrives, asks, ticks, ends, leaves, swaps}
+use Rattle.node_words.specs.Happening.{Happening, arrives, asks, ticks, ends, leaves, swaps}
+pub use Rattle.node_words.specs.Installs.{PutsInAccepted}
 
 -- equality of slots
 abbrev pub same_slot : Slot → Slot → Bool
@@ -32,13 +32,3 @@ later_of first (Some x) = Some x
 abbrev pub last_swap : Slot → List Happening → Option (Option (List Insn))
 last_swap place [] = None
 last_swap place (first ∷ events) = later_of (swap_of place first) (last_swap place events)
-
--- the checker accepts every program that is installed
-abbrev pub PutsInAccepted : List Happening → Type 0
-PutsInAccepted [] = Unit {0}
-PutsInAccepted (arrives datagram now ∷ events) = PutsInAccepted events
-PutsInAccepted (asks client key mode now ∷ events) = PutsInAccepted events
-PutsInAccepted (ticks now ∷ events) = PutsInAccepted events
-PutsInAccepted (ends number attempt outcome now ∷ events) = PutsInAccepted events
-PutsInAccepted (leaves client ∷ events) = PutsInAccepted events
-PutsInAccepted (swaps place program ∷ events) = IfSome program IsAccepted × PutsInAccepted events

@@ -2,13 +2,13 @@
 ghost use Rattle.std.specs.Prelude.{◌≡◌, ◌↔◌, IsTrue};
 ghost use Rattle.std.specs.Arc.{arc_value};
 ghost use Rattle.std.specs.Option.{option_map};
-ghost use Rattle.node_core.specs.Happening.{arrives, asks, ends, happening, leaves, swaps, ticks};
+ghost use Rattle.node_words.specs.Happening.{arrives, asks, ends, happening, leaves, swaps, ticks};
 
-use crate::event::Event;
 use bpf_check::Checked;
 use filter_slots::{Datagram, Moment, Slot, same_datagram};
+use node_words::{Event, Mode, Outcome};
 use object_store::{CacheKey, same_object};
-use plain_node::{Mode, Outcome, Tally};
+use plain_node::Tally;
 use std::sync::Arc;
 
 /// Whether two tallies are equal.

@@ -6,20 +6,18 @@
 #![tactic(auto)]
 
 mod comparing;
-mod event;
 mod laws;
 mod node;
 mod run;
 mod stats;
 
 pub use comparing::{same_event, same_outcome, same_tally};
-pub use event::Event;
 pub use laws::{
     accepted_law, append_law, filters_law, kept_law, rejected_law, slots_law, step_law,
 };
 pub use node::Node;
-pub use plain_node::{
-    Action, Answer, Config, Mode, Network, NoMemory, NodeFault, Out, Outcome, Payload, Tally,
+pub use node_words::{
+    Action, Answer, Config, Counters, Event, Mode, Network, Outcome, Payload, Stats,
 };
+pub use plain_node::{NoMemory, NodeFault, Out, Tally};
 pub use run::{RunFault, run_events};
-pub use stats::{Counters, Stats};

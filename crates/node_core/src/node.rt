@@ -7,12 +7,12 @@ ghost use Rattle.filter_slots.specs.Verdict.{verdict_in_force};
 ghost use Rattle.neighbours.specs.Faults.{IsTable};
 ghost use Rattle.object_store.specs.Store.{IsStore};
 ghost use Rattle.pending_fetch.specs.Legal.{IsLegal};
-ghost use Rattle.node_core.specs.Swaps.{PutsInAccepted};
+ghost use Rattle.node_words.specs.Installs.{PutsInAccepted};
 ghost use Rattle.pending_fetch.specs.Fetches.{PendingFetch, fetch_of};
 ghost use Rattle.plain_node.specs.PlainNode.{at_clock};
 ghost use Rattle.plain_node.specs.Settings.{setup_of, setup_fault};
 ghost use Rattle.plain_node.specs.Plain.{Requested, Ticked, Ended, Left, plain_step};
-ghost use Rattle.node_core.specs.Happening.{happening, arrives};
+ghost use Rattle.node_words.specs.Happening.{happening, arrives};
 ghost use Rattle.node_core.specs.Kept.{kept_datagram};
 ghost use Rattle.node_core.specs.Run.{plain_after, actions_of};
 ghost use Rattle.node_core.specs.Raised.{counted_datagram};
@@ -20,13 +20,13 @@ ghost use Rattle.node_core.specs.State.{sender_of};
 ghost use Rattle.plain_node.specs.Bounds.{most_actions};
 
 use crate::NoMemory;
-use crate::event::Event;
-use crate::stats::{Counters, Stats};
+use crate::stats::{ZERO, raised_at};
 use bpf_check::Checked;
 use filter_slots::{Datagram, End, Judged, Moment, Slot, Slots, Socket, cut};
 use neighbours::{Neighbour, Table};
+use node_words::{Config, Event, Mode, Outcome, Stats};
 use object_store::{CacheKey, KeyHashes, Store};
-use plain_node::{Config, Core, Mode, NodeFault, Out, Outcome};
+use plain_node::{Core, NodeFault, Out};
 use std::alloc::Global;
 use std::marker::Model;
 use std::sync::Arc;
@@ -78,8 +78,8 @@ impl Node {
             core,
             slots: slots_for(&senders),
             stats: Stats {
-                icp: Counters::ZERO,
-                htcp: Counters::ZERO,
+                icp: ZERO,
+                htcp: ZERO,
             },
         })
     }
@@ -262,13 +262,13 @@ impl Node {
     {
         let socket = datagram.socket();
         if verdict == 0 {
-            self.stats = self.stats.raised(socket, true, false, false);
+            self.stats = raised_at(socket, self.stats, true, false, false);
             return Ok(());
         }
         let octets = cut(datagram, verdict);
         let malformed = self.core.datagram(alloc, datagram, octets, now, out)?;
         let shorter = octets.len() < datagram.payload().len();
-        self.stats = self.stats.raised(socket, false, shorter, malformed);
+        self.stats = raised_at(socket, self.stats, false, shorter, malformed);
         Ok(())
     }
 

@@ -1,11 +1,11 @@
 //! Runs over lists of events.
 ghost use Rattle.std.specs.Prelude.{◌≤◌, length, take, map, IfOk, IfErr};
-ghost use Rattle.node_core.specs.Happening.{happening};
+ghost use Rattle.node_words.specs.Happening.{happening};
 ghost use Rattle.node_core.specs.State.{HasTaken};
-ghost use Rattle.node_core.specs.Swaps.{PutsInAccepted};
+ghost use Rattle.node_words.specs.Installs.{PutsInAccepted};
 
-use crate::event::Event;
 use crate::node::Node;
+use node_words::Event;
 use plain_node::Out;
 use std::alloc::Global;
 

@@ -8,8 +8,7 @@ mod storage;
 
 use filter_slots::{End, Socket};
 use json::Writer;
-use node_book::NeighbourView;
-use node_core::{Counters, Stats};
+use node_words::{Counters, NeighbourView, Stats};
 use serde::Serialize;
 use std::alloc::{AllocError, Global};
 use std::net::Ipv4Addr;

@@ -1,7 +1,7 @@
 //! What is stored, as JSON.
 use filter_slots::Moment;
 use json::Writer;
-use node_book::Sizes;
+use node_words::Sizes;
 use object_store::{CacheKey, Entry};
 use std::alloc::{AllocError, Global};
 

@@ -1,7 +1,7 @@
 -- The limits of pending fetches. All other definitions cite these.
 use Rattle.std.specs.Prelude.{ℕ}
 
--- the maximum number of pending fetches; in code MAX_PENDING_FETCHES of src/bounds.rt
+-- the maximum number of pending fetches; in code MAX_PENDING_FETCHES of node_terms
 abbrev pub most_fetches : ℕ
 most_fetches = 256
 

@@ -3,8 +3,8 @@ use Rattle.std.proofs.Common.{◌≡◌, nat_eq, ℕ, Bool, true, false, List, [
 use Rattle.peer_select.specs.Poll.{decided}
 use Rattle.pending_fetch.specs.Fetches.{PendingFetch, changed, with_next}
 use Rattle.pending_fetch.specs.Calls.{FetchFacts, told}
-use Rattle.plain_node.specs.declared.action.Action.{Action}
-use Rattle.plain_node.specs.declared.event.Outcome.{Outcome}
+use Rattle.node_words.specs.declared.action.Action.{Action}
+use Rattle.node_words.specs.declared.event.Outcome.{Outcome}
 use Rattle.plain_node.specs.PlainNode.{PlainNode, with_fetches}
 use Rattle.plain_node.specs.Sources.{attempt_step, source_of}
 use Rattle.plain_node.specs.Outcomes.{counts, counted_outcome, outcome_step, next_step}

@@ -7,8 +7,8 @@ use Rattle.pending_fetch.specs.declared.fault.JoinFault.{JoinFault}
 use Rattle.pending_fetch.specs.declared.fault.JoinFault.TheVariants.{Full}
 use Rattle.pending_fetch.specs.Fetches.{PendingFetch, waits, changed, with_waiter}
 use Rattle.pending_fetch.specs.Calls.{is_crowded, join_answer, join_fault, join_list}
-use Rattle.plain_node.specs.declared.action.Action.TheVariants.{Serve}
-use Rattle.plain_node.specs.declared.action.Answer.TheVariants.{Fail}
+use Rattle.node_words.specs.declared.action.Action.TheVariants.{Serve}
+use Rattle.node_words.specs.declared.action.Answer.TheVariants.{Fail}
 use Rattle.plain_node.specs.PlainNode.{PlainNode, at_clock, with_fetches}
 use Rattle.plain_node.specs.Requests.{fails, join_step, looked_up, wait_step}
 use Rattle.plain_node.specs.Fitting.{is_of, joining}

@@ -8,8 +8,8 @@ use Rattle.peer_select.specs.Poll.{Poll, begun, matches}
 use Rattle.pending_fetch.specs.Numbers.{IsNext, is_taken, next_of}
 use Rattle.pending_fetch.specs.Fetches.{PendingFetch, Fetches, starts, numbers, fetch_of, opened, opened_fetch, next_number}
 use Rattle.pending_fetch.specs.Calls.{is_full}
-use Rattle.plain_node.specs.declared.action.Action.TheVariants.{Serve}
-use Rattle.plain_node.specs.declared.action.Answer.TheVariants.{Fail}
+use Rattle.node_words.specs.declared.action.Action.TheVariants.{Serve}
+use Rattle.node_words.specs.declared.action.Answer.TheVariants.{Fail}
 use Rattle.plain_node.specs.PlainNode.{PlainNode, at_clock, sending}
 use Rattle.plain_node.specs.Sources.{decision_step}
 use Rattle.plain_node.specs.Requests.{open_step, queries}

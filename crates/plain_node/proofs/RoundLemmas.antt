@@ -10,15 +10,15 @@ use Rattle.peer_select.specs.declared.reply.Source.{Source}
 use Rattle.peer_select.specs.Poll.{Poll, has_reply, decided, ended}
 use Rattle.pending_fetch.specs.Fetches.{PendingFetch, fetch_of, waiters_of, waiters_in, all_waiters, without, changed, with_end, is_due, all_due}
 use Rattle.pending_fetch.specs.Places.{IsFirstDue}
-use Rattle.plain_node.specs.declared.action.Action.{Action}
+use Rattle.node_words.specs.declared.action.Action.{Action}
 use Rattle.plain_node.specs.PlainNode.{PlainNode, with_fetches, sending}
 use Rattle.plain_node.specs.Sources.{attempt_step, decision_step, source_of}
 use Rattle.plain_node.specs.Rounds.{missed_from, with_misses, expired_step, expired_steps, timer_step}
 use Rattle.std.specs.List.{list_all}
 use Rattle.neighbours.specs.declared.neighbour.Neighbour.{Neighbour}
 use Rattle.pending_fetch.specs.Legal.{IsLegal}
-use Rattle.plain_node.specs.declared.action.Action.TheVariants.{Serve}
-use Rattle.plain_node.specs.declared.action.Answer.TheVariants.{Fail}
+use Rattle.node_words.specs.declared.action.Action.TheVariants.{Serve}
+use Rattle.node_words.specs.declared.action.Answer.TheVariants.{Fail}
 use Rattle.plain_node.specs.Fitting.{is_of}
 use Rattle.plain_node.proofs.Keeps.{fetch_changed, all_changed}
 use Rattle.plain_node.proofs.MessageLemmas.{fetch_of-number}

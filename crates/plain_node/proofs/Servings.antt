@@ -3,11 +3,11 @@ use Rattle.std.proofs.Common.{◌≡◌, ℕ, ◌+◌, ◌<◌, ◌≤◌, List,
 use Rattle.std.specs.List.{slice_get}
 use Rattle.std.proofs.lemmas.List.{take_more, take_all, map-append}
 use Rattle.std.proofs.lemmas.Option.{slice_get_within, get_or_from_slice_get, slice_get_cases}
-use Rattle.plain_node.specs.declared.action.Action.{Action}
-use Rattle.plain_node.specs.declared.action.Action.TheVariants.{Serve}
+use Rattle.node_words.specs.declared.action.Action.{Action}
+use Rattle.node_words.specs.declared.action.Action.TheVariants.{Serve}
 use Rattle.object_store.specs.declared.object.SharedObject.{SharedObject}
-use Rattle.plain_node.specs.declared.action.Answer.{Answer}
-use Rattle.plain_node.specs.declared.action.Answer.TheVariants.{Got}
+use Rattle.node_words.specs.declared.action.Answer.{Answer}
+use Rattle.node_words.specs.declared.action.Answer.TheVariants.{Got}
 use Rattle.plain_node.specs.PlainNode.{serves}
 
 -- one more client is answered

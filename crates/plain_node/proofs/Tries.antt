@@ -2,8 +2,8 @@
 use Rattle.std.proofs.Common.{◌≡◌, ℕ, List, [], ◌∷◌, ◌++◌, Option, Some, None, option_map, ap, sym, ◌∙◌}
 use Rattle.peer_select.specs.declared.reply.Source.{Source}
 use Rattle.pending_fetch.specs.Fetches.{PendingFetch}
-use Rattle.plain_node.specs.declared.action.Action.{Action}
-use Rattle.plain_node.specs.declared.action.Action.TheVariants.{Fetch}
+use Rattle.node_words.specs.declared.action.Action.{Action}
+use Rattle.node_words.specs.declared.action.Action.TheVariants.{Fetch}
 use Rattle.plain_node.specs.PlainNode.{PlainNode, closed}
 use Rattle.plain_node.specs.Sources.{attempt_step, is_sibling_source}
 use Rattle.plain_node.proofs.Lent.{some_is}

@@ -6,7 +6,7 @@ use Rattle.peer_select.specs.Poll.{matches}
 use Rattle.pending_fetch.specs.Fetches.{PendingFetch}
 use Rattle.neighbours.specs.declared.fault.ConfigFault.{ConfigFault}
 use Rattle.neighbours.specs.declared.fault.ConfigFault.TheVariants as table
-use Rattle.plain_node.specs.declared.action.Action.{Action}
+use Rattle.node_words.specs.declared.action.Action.{Action}
 use Rattle.plain_node.specs.declared.config.NodeFault.{NodeFault}
 use Rattle.plain_node.specs.declared.config.NodeFault.TheVariants.{Table, Limits, NoMemory}
 use Rattle.plain_node.specs.PlainNode.{PlainNode}

@@ -9,7 +9,7 @@ use Rattle.neighbours.specs.Rows.{neighbour_index}
 use Rattle.peer_select.specs.declared.reply.Kind.{Kind}
 use Rattle.peer_select.specs.declared.reply.Kind.TheVariants.{Hit, Miss, Refused}
 use Rattle.pending_fetch.specs.Fetches.{PendingFetch, fetch_of}
-use Rattle.plain_node.specs.declared.action.Action.{Action}
+use Rattle.node_words.specs.declared.action.Action.{Action}
 use Rattle.plain_node.specs.PlainNode.{PlainNode}
 use Rattle.plain_node.specs.Messages.{heard, awaiting, counted_step}
 use Rattle.plain_node.specs.Signatures.{SignatureStanding, is_good_by, standing}

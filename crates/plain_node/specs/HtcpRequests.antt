@@ -9,8 +9,8 @@ use Rattle.htcp_packet.specs.Message.{Message, Spec, Body, empty, specifier, cle
 use Rattle.htcp_packet.specs.Reading.{Received}
 use Rattle.object_store.specs.Pairs.{entry_at}
 use Rattle.object_store.specs.Store.{fresh_at, after_remove}
-use Rattle.plain_node.specs.declared.action.Action.{Action}
-use Rattle.plain_node.specs.declared.action.Action.TheVariants.{Send}
+use Rattle.node_words.specs.declared.action.Action.{Action}
+use Rattle.node_words.specs.declared.action.Action.TheVariants.{Send}
 use Rattle.plain_node.specs.declared.finding.Finding.{Finding}
 use Rattle.plain_node.specs.declared.finding.Finding.TheVariants.{Refused, Alive, Found, NotFound, Cleared, NotCleared}
 use Rattle.plain_node.specs.Settings.{is_allowed}

@@ -7,7 +7,6 @@ pub mod Memory
 pub mod Messages
 pub mod Opening
 pub mod Outcomes
-pub mod Payloads
 pub mod Plain
 pub mod PlainNode
 pub mod Requests
@@ -18,3 +17,4 @@ pub mod Signed
 pub mod Sources
 pub mod Tally
 pub mod UriKeys
+pub use Rattle.node_words.specs.Payloads

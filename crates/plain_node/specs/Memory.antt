@@ -11,12 +11,12 @@ use Rattle.object_store.specs.Object.{ObjectFields}
 use Rattle.object_store.specs.Store.{fresh_at}
 use Rattle.pending_fetch.specs.Fetches.{PendingFetch, waits, shared_number}
 use Rattle.pending_fetch.specs.Calls.{is_full}
-use Rattle.plain_node.specs.declared.action.Action.{Action}
-use Rattle.plain_node.specs.declared.action.Action.TheVariants.{Send, Fetch, Serve}
+use Rattle.node_words.specs.declared.action.Action.{Action}
+use Rattle.node_words.specs.declared.action.Action.TheVariants.{Send, Fetch, Serve}
 use Rattle.node_terms.specs.declared.mode.Mode.{Mode}
 use Rattle.node_terms.specs.declared.mode.Mode.TheVariants.{Shared, Cached, Private}
-use Rattle.plain_node.specs.declared.event.Outcome.{Outcome}
-use Rattle.plain_node.specs.declared.event.Outcome.TheVariants.{Object, Failed}
+use Rattle.node_words.specs.declared.event.Outcome.{Outcome}
+use Rattle.node_words.specs.declared.event.Outcome.TheVariants.{Object, Failed}
 use Rattle.plain_node.specs.PlainNode.{PlainNode}
 use Rattle.plain_node.specs.HtcpRequests.{refusal_code, slash_behind_80}
 use Rattle.plain_node.specs.Outcomes.{counts, is_failure, may_store}

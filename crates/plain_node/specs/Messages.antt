@@ -14,8 +14,8 @@ use Rattle.peer_select.specs.declared.reply.Kind.TheVariants.{Hit, Miss, Refused
 use Rattle.peer_select.specs.declared.reply.Reply.{Reply}
 use Rattle.peer_select.specs.Poll.{Poll, decided, has_reply}
 use Rattle.pending_fetch.specs.Fetches.{PendingFetch, fetch_of, changed, with_reply}
-use Rattle.plain_node.specs.declared.action.Action.{Action}
-use Rattle.plain_node.specs.declared.action.Action.TheVariants.{Send}
+use Rattle.node_words.specs.declared.action.Action.{Action}
+use Rattle.node_words.specs.declared.action.Action.TheVariants.{Send}
 use Rattle.plain_node.specs.Settings.{is_allowed}
 use Rattle.plain_node.specs.PlainNode.{PlainNode, with_fetches}
 use Rattle.plain_node.specs.Sources.{decision_step}

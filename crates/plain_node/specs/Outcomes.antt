@@ -8,10 +8,10 @@ use Rattle.object_store.specs.Store.{StoreState, after_put}
 use Rattle.peer_select.specs.declared.reply.Source.{Source}
 use Rattle.peer_select.specs.Poll.{decided}
 use Rattle.pending_fetch.specs.Fetches.{PendingFetch, is_shared, fetch_of, changed, with_next}
-use Rattle.plain_node.specs.declared.action.Action.{Action}
-use Rattle.plain_node.specs.declared.action.Answer.TheVariants.{Got}
-use Rattle.plain_node.specs.declared.event.Outcome.{Outcome}
-use Rattle.plain_node.specs.declared.event.Outcome.TheVariants.{Object, Failed}
+use Rattle.node_words.specs.declared.action.Action.{Action}
+use Rattle.node_words.specs.declared.action.Answer.TheVariants.{Got}
+use Rattle.node_words.specs.declared.event.Outcome.{Outcome}
+use Rattle.node_words.specs.declared.event.Outcome.TheVariants.{Object, Failed}
 use Rattle.plain_node.specs.PlainNode.{PlainNode, with_fetches, closed, serves}
 use Rattle.plain_node.specs.Sources.{is_sibling_source, source_of, attempt_step}
 

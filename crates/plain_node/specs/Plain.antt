@@ -8,9 +8,9 @@ use Rattle.bpf_run.specs.declared.ends.End.{End}
 use Rattle.icp_packet.specs.Reading as icp
 use Rattle.htcp_packet.specs.Reading as htcp
 use Rattle.pending_fetch.specs.Fetches.{left}
-use Rattle.plain_node.specs.declared.action.Action.{Action}
+use Rattle.node_words.specs.declared.action.Action.{Action}
 use Rattle.node_terms.specs.declared.mode.Mode.{Mode}
-use Rattle.plain_node.specs.declared.event.Outcome.{Outcome}
+use Rattle.node_words.specs.declared.event.Outcome.{Outcome}
 use Rattle.plain_node.specs.PlainNode.{PlainNode, at_clock, with_fetches}
 use Rattle.plain_node.specs.Messages.{read_step}
 use Rattle.plain_node.specs.HtcpRequests.{htcp_request_step}

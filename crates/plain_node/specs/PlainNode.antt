@@ -3,9 +3,9 @@ use Rattle.std.specs.Prelude.{ℕ, max, List, ◌++◌, map}
 use Rattle.neighbours.specs.Rows.{Rows}
 use Rattle.object_store.specs.Store.{StoreState}
 use Rattle.pending_fetch.specs.Fetches.{PendingFetch, Fetches, without}
-use Rattle.plain_node.specs.declared.action.Action.{Action}
-use Rattle.plain_node.specs.declared.action.Action.TheVariants.{Serve}
-use Rattle.plain_node.specs.declared.action.Answer.{Answer}
+use Rattle.node_words.specs.declared.action.Action.{Action}
+use Rattle.node_words.specs.declared.action.Action.TheVariants.{Serve}
+use Rattle.node_words.specs.declared.action.Answer.{Answer}
 use Rattle.plain_node.specs.Settings.{Settings}
 
 -- the settings; the neighbours with their smoothed round-trip times and misses; the store, the most recently used entry

@@ -11,9 +11,9 @@ use Rattle.object_store.specs.Store.{fresh_at, after_get}
 use Rattle.peer_select.specs.Poll.{begun}
 use Rattle.pending_fetch.specs.Fetches.{PendingFetch, waits, shared_number, changed, with_waiter, opened_fetch, opened, next_number}
 use Rattle.pending_fetch.specs.Calls.{is_crowded, is_full}
-use Rattle.plain_node.specs.declared.action.Action.{Action}
-use Rattle.plain_node.specs.declared.action.Action.TheVariants.{Send, Serve}
-use Rattle.plain_node.specs.declared.action.Answer.TheVariants.{Hit, Fail}
+use Rattle.node_words.specs.declared.action.Action.{Action}
+use Rattle.node_words.specs.declared.action.Action.TheVariants.{Send, Serve}
+use Rattle.node_words.specs.declared.action.Answer.TheVariants.{Hit, Fail}
 use Rattle.node_terms.specs.declared.mode.Mode.{Mode}
 use Rattle.node_terms.specs.declared.mode.Mode.TheVariants.{Shared, Cached, Private}
 use Rattle.plain_node.specs.PlainNode.{PlainNode, with_fetches, sending}

@@ -5,7 +5,7 @@ use Rattle.neighbours.specs.Rows.{missed}
 use Rattle.peer_select.specs.declared.reply.Reply.{Reply}
 use Rattle.peer_select.specs.Poll.{has_reply}
 use Rattle.pending_fetch.specs.Fetches.{PendingFetch, fetch_of, changed, with_end, all_due}
-use Rattle.plain_node.specs.declared.action.Action.{Action}
+use Rattle.node_words.specs.declared.action.Action.{Action}
 use Rattle.plain_node.specs.PlainNode.{PlainNode, with_fetches, sending}
 use Rattle.plain_node.specs.Sources.{decision_step}
 

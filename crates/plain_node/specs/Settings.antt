@@ -9,7 +9,7 @@ use Rattle.neighbours.specs.declared.fault.ConfigFault.{ConfigFault}
 use Rattle.neighbours.specs.Faults.{fault_of}
 use Rattle.plain_node.specs.declared.config.NodeFault.{NodeFault}
 use Rattle.plain_node.specs.declared.config.NodeFault.TheVariants.{Table, Limits}
-use Rattle.plain_node.specs.declared.config.Config.{Config}
+use Rattle.node_words.specs.declared.config.Config.{Config}
 use Rattle.node_terms.specs.declared.network.Network.{Network}
 use Rattle.node_terms.specs.Networks.{is_inside}
 

@@ -8,9 +8,9 @@ use Rattle.peer_select.specs.declared.reply.Source.TheVariants.{Peer, Origin}
 use Rattle.peer_select.specs.Poll.{decided}
 use Rattle.peer_select.specs.Choice.{sources}
 use Rattle.pending_fetch.specs.Fetches.{PendingFetch}
-use Rattle.plain_node.specs.declared.action.Action.{Action}
-use Rattle.plain_node.specs.declared.action.Action.TheVariants.{Fetch}
-use Rattle.plain_node.specs.declared.action.Answer.TheVariants.{Fail}
+use Rattle.node_words.specs.declared.action.Action.{Action}
+use Rattle.node_words.specs.declared.action.Action.TheVariants.{Fetch}
+use Rattle.node_words.specs.declared.action.Answer.TheVariants.{Fail}
 use Rattle.plain_node.specs.PlainNode.{PlainNode, closed, serves}
 
 abbrev pub is_sibling : Role → Bool

@@ -12,10 +12,10 @@ use Rattle.bpf_run.specs.declared.ends.Socket.TheVariants.{Icp, Htcp}
 use Rattle.peer_select.specs.declared.reply.Source.{Source}
 use Rattle.peer_select.specs.declared.reply.Source.TheVariants.{Peer, Origin}
 use Rattle.object_store.specs.Object.{spelled_number, spelled_octets}
-use Rattle.plain_node.specs.declared.action.Action.{Action}
-use Rattle.plain_node.specs.declared.action.Action.TheVariants.{Send, Fetch, Serve}
-use Rattle.plain_node.specs.declared.action.Answer.{Answer}
-use Rattle.plain_node.specs.declared.action.Answer.TheVariants.{Hit, Got, Fail}
+use Rattle.node_words.specs.declared.action.Action.{Action}
+use Rattle.node_words.specs.declared.action.Action.TheVariants.{Send, Fetch, Serve}
+use Rattle.node_words.specs.declared.action.Answer.{Answer}
+use Rattle.node_words.specs.declared.action.Answer.TheVariants.{Hit, Got, Fail}
 use Rattle.plain_node.specs.declared.tally.Tally.{Tally}
 
 -- the kinds of actions: 0 sends a datagram, 1 fetches, 2 to 4 answer a client with a stored object, a fetched one, or a status

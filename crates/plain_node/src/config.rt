@@ -1,58 +1,33 @@
-//! The configuration of a node.
+//! Which configurations a node takes, and what it keeps of one.
 ghost use Rattle.std.specs.Prelude.{◌≡◌, ◌&&◌, IfOk};
 ghost use Rattle.plain_node.specs.Settings.{are_limits, are_prefixes, is_allowed};
 
 use crate::NoMemory;
 use filter_slots::End;
-use neighbours::{ConfigFault, Key, Neighbour};
-use node_terms::Network;
+use neighbours::ConfigFault;
+use node_words::{Config, Network};
 use std::alloc::Global;
 use std::marker::Model;
 use thiserror::Error;
 
-/// The configuration, which stays the same while a node runs.
-#[derive(Debug, Drop)]
-pub struct Config {
-    /// The node's own address and port for ICP; the address is the sender in each message.
-    pub icp: End,
-    /// The node's own address and port for HTCP.
-    pub htcp: End,
-    /// The networks whose queries are answered.
-    pub allowed: Vec<Network>,
-    /// Whether misses are answered with MISS_NOFETCH instead of MISS.
-    pub miss_nofetch: bool,
-    /// Whether objects may be fetched from origin servers.
-    pub origin: bool,
-    /// The maximum number of store entries, 1 to 1,000,000.
-    pub entries: u32,
-    /// The maximum size of the store in octets, 1 to 1,073,741,824.
-    pub octets: u32,
-    /// The neighbours, in order.
-    pub neighbours: Vec<Neighbour>,
-    /// The keys that HTCP messages are signed with.
-    pub keys: Vec<Key>,
+/// Whether each prefix is at most 32, and the store's limits are in range.
+pub(crate) fn is_fit(config: &Config) -> bool
+    ensures { result ≡ (are_prefixes config.now.allowed.items && are_limits config.now.entries config.now.octets) }
+{
+    if !are_prefixes(&config.allowed) {
+        return false;
+    }
+    1 <= config.entries
+        && config.entries <= 1_000_000
+        && 1 <= config.octets
+        && config.octets <= 1_073_741_824
 }
 
-impl Config {
-    /// Whether each prefix is at most 32, and the store's limits are in range.
-    pub(crate) fn is_fit(&self) -> bool
-        ensures { result ≡ (are_prefixes self.now.allowed.items && are_limits self.now.entries self.now.octets) }
-    {
-        if !self.are_prefixes() {
-            return false;
-        }
-        1 <= self.entries
-            && self.entries <= 1_000_000
-            && 1 <= self.octets
-            && self.octets <= 1_073_741_824
-    }
-
-    /// Whether each prefix is at most 32.
-    fn are_prefixes(&self) -> bool
-        ensures { result ≡ are_prefixes self.now.allowed.items }
-    {
-        self.allowed.iter().all(|network| network.prefix <= 32)
-    }
+/// Whether each prefix is at most 32.
+fn are_prefixes(networks: &[Network]) -> bool
+    ensures { result ≡ are_prefixes networks.now }
+{
+    networks.iter().all(|network| network.prefix <= 32)
 }
 
 /// The part of the configuration that the node keeps, apart from neighbours and store.

@@ -14,9 +14,10 @@ ghost use Rattle.pending_fetch.specs.Bounds.{most_waiters};
 
 use crate::NoMemory;
 use crate::action::Out;
-use crate::config::{Config, NodeFault, Rules};
+use crate::config::{NodeFault, Rules, is_fit};
 use filter_slots::{Datagram, Moment, Socket};
 use neighbours::{ConfigFault, Table};
+use node_words::Config;
 use object_store::{CacheKey, KeyHashes, Store};
 use pending_fetch::Pending;
 use std::alloc::Global;
@@ -63,7 +64,7 @@ impl Core {
         ensures faultless { OnOk result (setup_fault (setup_of config) ≡ None) }
         ensures fault { IfErr result (λ fault. fault ≡ unwrap_or (setup_fault (setup_of config)) NodeFault.NoMemory) }
     {
-        let fit = config.is_fit();
+        let fit = is_fit(&config);
         let (entries, octets) = (config.entries, config.octets);
         let rules = Rules {
             icp: config.icp,

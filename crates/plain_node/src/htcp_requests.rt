@@ -14,7 +14,7 @@ ghost use Rattle.plain_node.specs.Signed.{shown_key, shown_standing, IsShortlyNa
 ghost use Rattle.plain_node.specs.Memory.{sends_none, is_clear, writes_key, writes_key_of};
 
 use crate::NoMemory;
-use crate::action::{Action, Out, Payload};
+use crate::action::Out;
 use crate::core_node::Core;
 use crate::finding::Finding;
 use crate::signatures::{Judgement, Signer};
@@ -24,6 +24,7 @@ use htcp_packet::codes::{
 };
 use htcp_packet::{HtcpAuth, HtcpBody, HtcpView, decode};
 use neighbours::Octets;
+use node_words::{Action, Payload};
 use std::alloc::Global;
 
 impl Core {

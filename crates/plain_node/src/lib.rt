@@ -9,7 +9,6 @@
 mod action;
 mod config;
 mod core_node;
-mod event;
 mod finding;
 mod htcp_replies;
 mod htcp_requests;
@@ -24,11 +23,10 @@ mod signatures;
 mod sources;
 mod tally;
 
-pub use action::{Action, Answer, MAX_ACTIONS, Out, Payload};
-pub use config::{Config, NodeFault};
+pub use action::{MAX_ACTIONS, Out};
+pub use config::NodeFault;
 pub use core_node::Core;
-pub use event::Outcome;
-pub use node_terms::{Mode, Network};
+pub use node_words::{Action, Answer, Config, Mode, Network, Outcome, Payload};
 pub use pending_fetch::MAX_PENDING_FETCHES;
 pub use std::alloc::AllocError as NoMemory;
 pub use tally::Tally;

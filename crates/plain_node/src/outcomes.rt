@@ -3,7 +3,7 @@ ghost use Rattle.std.specs.Prelude.{◌≡◌, ◌≤◌, ◌==◌, [], length, 
 ghost use Rattle.peer_select.specs.declared.reply.Source.{Source};
 ghost use Rattle.pending_fetch.specs.Fetches.{PendingFetch, fetch_of, is_shared, waiters_of};
 ghost use Rattle.pending_fetch.specs.Legal.{IsLegal};
-ghost use Rattle.plain_node.specs.declared.action.Answer.TheVariants.{Got};
+ghost use Rattle.node_words.specs.declared.action.Answer.TheVariants.{Got};
 ghost use Rattle.plain_node.specs.PlainNode.{at_clock, serves};
 ghost use Rattle.plain_node.specs.Plain.{Ended, plain_step};
 ghost use Rattle.plain_node.specs.Sources.{source_of};
@@ -14,9 +14,9 @@ ghost use Rattle.plain_node.specs.Bounds.{most_actions};
 use crate::NoMemory;
 use crate::action::Out;
 use crate::core_node::Core;
-use crate::event::Outcome;
 use crate::serving::serve_object;
 use filter_slots::Moment;
+use node_words::Outcome;
 use object_store::{CacheKey, Entry, PutFault, SharedObject};
 use peer_select::Source;
 

@@ -11,7 +11,7 @@ ghost use Rattle.plain_node.specs.Signatures.{text_to};
 ghost use Rattle.htcp_packet.specs.View.{shown as shown_htcp};
 
 use crate::NoMemory;
-use crate::action::{Action, Out, Payload, SharedOctets};
+use crate::action::Out;
 use crate::core_node::Core;
 use crate::signatures::unsigned;
 use filter_slots::Moment;
@@ -19,6 +19,7 @@ use htcp_packet::codes::TST;
 use htcp_packet::{HtcpAuth, HtcpBody, HtcpView, Specifier};
 use icp_packet::{EncodeFault, IcpBody, IcpView, Opcode, encode};
 use neighbours::{Neighbour, Socket};
+use node_words::{Action, Payload, SharedOctets};
 use object_store::CacheKey;
 use std::alloc::Global;
 

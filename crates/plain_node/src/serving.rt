@@ -1,12 +1,13 @@
 //! Answers to all waiters of a fetch.
 ghost use Rattle.std.specs.Prelude.{◌≡◌, ◌≤◌, ◌+◌, ◌++◌, [], length, true, IsOk, OnOk, OnErr};
-ghost use Rattle.plain_node.specs.declared.action.Answer.TheVariants.{Got, Fail};
+ghost use Rattle.node_words.specs.declared.action.Answer.TheVariants.{Got, Fail};
 ghost use Rattle.plain_node.specs.PlainNode.{serves};
 ghost use Rattle.plain_node.specs.Memory.{is_nobody};
 ghost use Rattle.plain_node.specs.Bounds.{most_actions};
 
 use crate::NoMemory;
-use crate::action::{Action, Answer, Out};
+use crate::action::Out;
+use node_words::{Action, Answer};
 use object_store::SharedObject;
 
 /// Answers each of these clients with the status, in order.

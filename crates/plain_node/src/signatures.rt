@@ -10,11 +10,11 @@ ghost use Rattle.plain_node.specs.Signatures.{standing, standing_of_auth, standi
 ghost use Rattle.plain_node.specs.Signed.{shown_key, shown_standing, IsShortlyNamed};
 
 use crate::NoMemory;
-use crate::action::Payload;
 use crate::core_node::Core;
 use filter_slots::{End, Moment, both_ends};
 use htcp_packet::{EncodeFault, HtcpAuth, HtcpView, Sign, encode, sign, verify};
 use neighbours::Octets;
+use node_words::Payload;
 use std::alloc::Global;
 
 /// A key that messages are signed with.

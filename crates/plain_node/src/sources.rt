@@ -5,16 +5,17 @@ ghost use Rattle.peer_select.specs.Poll.{decided, matches};
 ghost use Rattle.pending_fetch.specs.Fetches.{PendingFetch, fetch_of, waiters_of};
 ghost use Rattle.pending_fetch.specs.Calls.{told, shown};
 ghost use Rattle.pending_fetch.specs.FetchIndex.{fetch_index};
-ghost use Rattle.plain_node.specs.declared.action.Action.TheVariants.{Fetch};
-ghost use Rattle.plain_node.specs.declared.action.Answer.TheVariants.{Fail};
+ghost use Rattle.node_words.specs.declared.action.Action.TheVariants.{Fetch};
+ghost use Rattle.node_words.specs.declared.action.Answer.TheVariants.{Fail};
 ghost use Rattle.plain_node.specs.PlainNode.{closed, serves};
 ghost use Rattle.plain_node.specs.Sources.{decision_step, attempt_step, source_of, is_sibling, is_sibling_at, is_sibling_source};
 ghost use Rattle.plain_node.specs.Bounds.{most_actions};
 
-use crate::action::{Action, Out};
+use crate::action::Out;
 use crate::core_node::Core;
 use crate::serving::serve_fail;
 use neighbours::Role;
+use node_words::Action;
 use peer_select::Source;
 use pending_fetch::Fetch as Pended;
 

@@ -3,7 +3,7 @@ ghost use Rattle.std.specs.Prelude.{◌≡◌, ◌++◌, ◌∷◌, [], ℕ, Lis
 ghost use Rattle.std.specs.List.{flat_map};
 ghost use Rattle.md5.specs.Md5.{Holds, md5};
 ghost use Rattle.object_store.specs.Object.{spelled_number, spelled_octets};
-ghost use Rattle.plain_node.specs.declared.action.Action.TheVariants as action;
+ghost use Rattle.node_words.specs.declared.action.Action.TheVariants as action;
 ghost use Rattle.plain_node.specs.Tally.{how_many, action_kind, spelled, spelled_end, spelled_flag, spelled_owner, spelled_socket, spelled_source, tally_of};
 
 use crate::{Action, Answer, Out};

@@ -11,11 +11,11 @@ use http_rules::{
     may_validate, mirrored,
 };
 use http_traffic::{Asked, Asking, FollowUp, Forward, Front, How, Outcome, PassOn, Shape, Told};
-use node_core::{Event, Mode, Network};
+use node_words::{Event, Mode, Network};
 use object_store::{CacheKey, Object};
 use proxy_state::{
-    Given, Purger, Shared, TakeEvents, has_marks, loop_fields, micros_since, passed_on, status_of,
-    withdraw,
+    FrontRules, Given, Shared, TakeEvents, has_marks, loop_fields, micros_since, passed_on,
+    status_of, withdraw,
 };
 use std::alloc::{AllocError, Global};
 use std::io;
@@ -27,30 +27,6 @@ use traffic_figures::{AnswerNote, Course};
 
 /// The most octets of a name, and so of a key that needn't be looked at for one that is too long.
 const MOST_NAME_OCTETS: usize = 253;
-
-/// Whose requests are taken, and what they stand for.
-pub struct FrontRules {
-    /// Networks whose clients are admitted.
-    pub allowed: Vec<Network>,
-    /// Networks of IPv6 whose clients are admitted.
-    pub allowed_six: Vec<SixNetwork>,
-    /// What targets in origin form stand for.
-    pub mirrors: Vec<Mirror>,
-    /// Takes objects out of the store that a request has changed.
-    pub purger: Purger,
-}
-
-// Written by hand, so that what lets it go is one call for the prover (docs/GATE.md).
-impl Drop for FrontRules {
-    fn drop(self) {
-        let Self {
-            allowed: _,
-            allowed_six: _,
-            mirrors: _,
-            purger: _,
-        } = self;
-    }
-}
 
 /// Serves a front, whichever it is.
 pub trait ServeFront: Drop {

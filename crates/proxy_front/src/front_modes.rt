@@ -4,7 +4,7 @@ use filter_slots::Moment;
 use forwarding::Profile;
 use http_rules::{Stored, choose, classify, is_for_a_part};
 use http_traffic::Asked;
-use node_core::Mode;
+use node_words::Mode;
 use object_store::{CacheKey, Entry};
 use proxy_state::{Shared, TakeEvents, has_marks};
 use std::sync::Wait;

@@ -10,7 +10,7 @@ use http_traffic::{
     Asked, Change, Coming, PassFault, Passage, PassedHead, Passing, Piece, Road, Server, Ticket,
     Told, TunnelEnd, address_in_digits,
 };
-use node_core::Mode;
+use node_words::Mode;
 use object_store::CacheKey;
 use proxy_state::{
     Onwards, Places, Shared, TakeEvents, add_values, status_of, tell_not_taken, withdraw,

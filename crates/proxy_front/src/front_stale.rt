@@ -3,7 +3,7 @@ use crate::front::NodeFront;
 use futures::channel::oneshot;
 use http_rules::{StaleUse, Stored, choose, stale_use};
 use http_traffic::{Asked, Asking, Forward, Outcome, Supplier};
-use node_core::{Event, Mode};
+use node_words::{Event, Mode};
 use object_store::CacheKey;
 use proxy_state::{Given, Shared, Stale, TakeEvents, has_marks};
 use std::alloc::Global;

@@ -13,6 +13,6 @@ mod good_texts;
 mod handing;
 mod shapes;
 
-pub use front::{FrontRules, NodeFront, ServeFront};
+pub use front::{NodeFront, ServeFront};
 pub use good_texts::GoodTexts;
 pub use handing::{Call, Handed, Returned, TakeCalls};

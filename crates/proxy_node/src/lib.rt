@@ -6,8 +6,10 @@
 
 mod malformed_watch;
 mod node_handle;
+mod overseen;
 mod state;
 
 pub use malformed_watch::MalformedWatch;
 pub use node_handle::{NodeHandle, Outbox, Outgoing, ThreadSeat};
+pub use overseen::Overseen;
 pub use state::{AtDesk, ProxyState};

@@ -6,11 +6,12 @@ use crate::state::AtDesk;
 use capture_tap::Recorder;
 use crossbeam_channel::Sender;
 use filter_slots::{Datagram, End, Judged, Moment, Socket};
-use mio_queries::Bell;
 use node_book::{Clerk, Programs, Seat, SubmitFault};
-use node_core::{Action, Answer, Event, NoMemory, Out, Outcome};
+use node_core::Out;
+use node_words::{Action, Answer, Event, NoMemory, Outcome};
 use object_store::CacheKey;
 use proxy_state::{
+use query_handles::Bell;
     Attempt, Cause, Given, Shared, TakeEvents, Unstarted, note_query, note_reply, perform,
 };
 use std::alloc::Global;

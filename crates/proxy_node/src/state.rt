@@ -1,12 +1,12 @@
 //! The state that the threads of a proxy share, with the node.
+use crate::overseen::Overseen;
 use capture_tap::Tap;
 use filter_slots::{Moment, Slots};
-use mio_queries::Timeline;
-use node_book::{Desk, NeighbourView, Sizes};
-use node_core::{NoMemory, Stats};
+use node_book::Desk;
+use node_words::{NeighbourView, NoMemory, Sizes, Stats};
 use object_store::{CacheKey, Entry};
-use proxy_panel::Overseen;
 use proxy_state::{Fetchers, Kept, Mail, Outward, Passes, Shared, Stopping, Telling};
+use query_handles::Timeline;
 use std::alloc::Global;
 use std::sync::Wait;
 use std::sync::ledger::Ledger;

@@ -4,9 +4,7 @@
 //! built program over loopback.
 #![tactic(auto)]
 
-mod overseen;
 mod overview;
 mod panel;
 
-pub use overseen::Overseen;
 pub use panel::{NodePanel, ServePanel};

@@ -1,8 +1,7 @@
 //! All that the texts of figures show, gathered from the node and the threads.
-use crate::overseen::Overseen;
 use name_lookup::NameCounts;
-use node_book::NeighbourView;
-use node_core::Counters;
+use node_words::{Counters, NeighbourView};
+use proxy_node::Overseen;
 use proxy_state::{AccessLog, Fetchers, Passes, Shared, date_seconds};
 use std::alloc::{AllocError, AllocGlobal, Global};
 use std::fs;

@@ -1,5 +1,4 @@
 //! Administration of the node: filters, counters and captures.
-use crate::overseen::Overseen;
 use crate::overview::page_of;
 use bpf_asm::to_text;
 use bpf_check::Checked;
@@ -10,10 +9,10 @@ use filter_text::{ProgramFault, read_program};
 use futures::channel::mpsc;
 use http_rules::{is_administrator, is_authorized};
 use http_traffic::{Asked, CaptureFault, Figures, Panel, PutFault, StoreFault, StoreOrder};
-use node_book::NeighbourView;
-use node_core::Event;
 use node_figures::{neighbour_figures_text, neighbours_text, stats_text, store_text, stored_text};
+use node_words::{Event, NeighbourView};
 use object_store::{CacheKey, Entry};
+use proxy_node::Overseen;
 use proxy_state::{
     Obstacle, Purger, RETRIES, RETRY_MILLIS, Shared, TakeEvents, key_in, limit_of, stays, withdraw,
 };

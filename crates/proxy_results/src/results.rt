@@ -1,7 +1,6 @@
 //! Results of fetches on their way to the node.
 use crossbeam_channel::Sender;
 use fair_use::{SharedEnd, Upload, may_have_changed};
-use fetch_chain::Submit;
 use filter_slots::Moment;
 use forwarding::{
     Exchange, Flight, Landed, Life, Profile, Unwanted, confirmed, has_other_rules, hides_rules,
@@ -11,12 +10,13 @@ use http_header::HeaderMap;
 use http_rules::{StaleUse, changed_keys, complete_length, is_error, supersedes};
 use http_traffic::{Change, Ended, FetchEnd, FetchFault, Fetched, LeftChange, Page, Supplier};
 use httpdate::HttpDate;
-use node_core::{Event, Mode, Outcome};
+use node_words::{Event, Mode, Outcome};
 use object_store::{CacheKey, SharedObject};
 use proxy_state::{
     Cause, RETRIES, RETRY_MILLIS, Shared, Stale, TakeEvents, begin_again, date_seconds,
     micros_since, withdraw,
 };
+use shared_thread::Submit;
 use std::alloc::Global;
 use std::sync::{Arc, RwLock, Wait};
 use std::time::{Clock, Duration};

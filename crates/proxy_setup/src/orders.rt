@@ -2,14 +2,13 @@
 use crate::own_key::settle_keys;
 use crate::passing::allows_own;
 use crate::state::{Given, Logs, six_networks};
+use access_log::writer::LogTask;
 use filter_files::Filter;
 use futures::channel::oneshot;
 use http_rules::{Mirror, SixNetwork, written_name};
-use log_writer::LogTask;
-use node_core::{Config, Network};
-use proxy_front::FrontRules;
+use node_words::{Config, Network};
 use proxy_site::Equipment;
-use proxy_state::Purger;
+use proxy_state::{FrontRules, Purger};
 use serve_config::{FilterFile, MirrorPath, Settings};
 use std::alloc::{AllocError, Global};
 use std::mem;

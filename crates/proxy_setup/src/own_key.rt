@@ -1,6 +1,6 @@
 //! The key that signs the cache's requests to itself, by which what was changed is taken out of the store.
 use neighbours::{Key, Octets};
-use node_core::Config;
+use node_words::Config;
 use serve_config::{has_key, has_own_key, keep_keys};
 use std::alloc::{AllocError, Global};
 use std::random::RandomSource;

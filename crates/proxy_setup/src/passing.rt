@@ -3,7 +3,7 @@ use crate::orders::purger_of;
 use forwarding::Peer;
 use http_rules::{OriginRules, is_unsafe};
 use neighbours::Role;
-use node_core::Config;
+use node_words::Config;
 use object_store::KeyHashes;
 use proxy_site::FETCHERS;
 use proxy_state::{LargeKeys, Passes, Places};

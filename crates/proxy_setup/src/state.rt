@@ -10,14 +10,15 @@ use futures::channel::oneshot;
 use http_rules::{
     OriginRules, RefreshRule, SixNetwork, UrlPlace, loop_mark, usual_denials, usual_six_denials,
 };
-use mio_queries::Timeline;
 use node_book::{BOOK_OCTETS, BookFault, Booked, Desk, RECEIPT_OCTETS, Seat};
-use node_core::{Config, Node};
+use node_core::Node;
+use node_words::Config;
 use object_shelf::Shelf;
 use object_store::{KeyHashes, MOST_KEY_OCTETS};
 use proxy_node::ProxyState;
 use proxy_site::{SEATS, ServeFault, Site, ends_of, no_memory};
 use proxy_state::{
+use query_handles::Timeline;
     AccessLog, Fetchers, Kept, Mail, NeighbourEnds, Notices, Outward, PartKeys, Passes, Stopping,
     Telling, UnaskedKeys,
 };

@@ -9,6 +9,7 @@
 mod clock;
 mod early;
 mod fields;
+mod front_rules;
 mod kept;
 mod lanes;
 mod limits;
@@ -31,6 +32,7 @@ mod unjoined;
 pub use clock::{date_seconds, micros_since};
 pub use early::gives_early;
 pub use fields::{add_field, add_values, has_marks, loop_fields, passed_on, status_of};
+pub use front_rules::FrontRules;
 pub use kept::{Kept, Stale};
 pub use lanes::{Fetchers, Lanes};
 pub use limits::{RETRIES, RETRY_MILLIS};

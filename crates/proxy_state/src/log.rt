@@ -1,9 +1,9 @@
 //! The access log: a line for each request, handed to the thread that writes.
 use crate::clock::wall_millis;
+use access_log::writer::LogDesk;
 use access_log::{Course, Entry, Form, Supplier, line_of};
 use http_traffic as traffic;
 use http_traffic::{Asked, Forward, How, Told};
-use log_writer::LogDesk;
 use std::alloc::Global;
 use std::sync::Wait;
 use std::time::Clock;

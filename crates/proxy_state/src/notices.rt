@@ -1,6 +1,6 @@
 //! Notices on standard error: fetches that failed, and datagrams that are no messages. A thread of its own writes them.
+use access_log::writer::{LogDesk, Pace};
 use http_traffic::{FetchFault, Supplier};
-use log_writer::{LogDesk, Pace};
 use std::alloc::{AllocError, Global};
 use std::net::IpAddr;
 use std::sync::{Mutex, Wait};

@@ -11,7 +11,7 @@ use capture_tap::Tap;
 use filter_slots::{End, Moment};
 use http_rules::SixEnd;
 use name_lookup::NotTaken;
-use node_core::{Event, NoMemory};
+use node_words::{Event, NoMemory};
 use object_store::{CacheKey, Entry};
 use std::alloc::{AllocError, Global};
 use std::net::IpAddr;

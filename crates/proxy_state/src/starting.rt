@@ -7,7 +7,7 @@ use forwarding::{Destination, Field, Flight};
 use futures::channel::oneshot;
 use http_traffic as serving;
 use http_traffic::{Order, Progress, Supplier};
-use node_core::{Action, Answer, Mode, NoMemory};
+use node_words::{Action, Answer, Mode, NoMemory};
 use object_store::{CacheKey, Object, SharedObject};
 use peer_select::Source;
 use std::alloc::{AllocError, Global};

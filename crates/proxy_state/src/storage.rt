@@ -5,7 +5,7 @@ use htcp_packet::{EncodeFault, HtcpAuth, HtcpBody, HtcpView, Specifier, sign};
 use http_rules::{TargetFault, key_of};
 use http_traffic::StoreFault;
 use neighbours::Key;
-use node_core::Event;
+use node_words::Event;
 use object_store::CacheKey;
 use percent_encoding::percent_decode_str;
 use std::alloc::Global;

@@ -1,7 +1,7 @@
 -- The script line that each item stands for.
 use Rattle.std.specs.Prelude.{◌≤◌, length}
 use Rattle.bpf_run.specs.Packet.{most_payload}
-use Rattle.node_core.specs.Happening.{happening}
+use Rattle.node_words.specs.Happening.{happening}
 use Rattle.script_lines.specs.declared.item.Item.{Item}
 use Rattle.script_lines.specs.declared.item.Item.TheVariants as item
 use Rattle.script_lines.specs.ScriptLine.{ScriptLine, owns, allows, denies_fetches, uses_origins, limits, has_key, has_neighbour, receives, takes, sets, goes, happens, refuses, inquires, blank, wrong}

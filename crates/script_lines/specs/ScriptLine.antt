@@ -16,9 +16,9 @@ use Rattle.neighbours.specs.declared.neighbour.Role.{Role}
 use Rattle.object_store.specs.Object.{ObjectFields}
 use Rattle.node_terms.specs.declared.network.Network.{Network}
 use Rattle.node_terms.specs.declared.mode.Mode.{Mode}
-use Rattle.plain_node.specs.declared.event.Outcome.{Outcome}
-use Rattle.plain_node.specs.declared.event.Outcome.TheVariants.{Object, Failed}
-use Rattle.node_core.specs.Happening.{Happening, asks, ticks, ends, leaves, swaps}
+use Rattle.node_words.specs.declared.event.Outcome.{Outcome}
+use Rattle.node_words.specs.declared.event.Outcome.TheVariants.{Object, Failed}
+use Rattle.node_words.specs.Happening.{Happening, asks, ticks, ends, leaves, swaps}
 use Rattle.script_lines.specs.Words.{number, moment, client_number, address, end_at, network, octets, program, switch, socket, slot_of_socket, slot_of_neighbour, role, mode, name, key, object}
 
 -- sets the node's address; adds a network whose queries are answered; sets whether MISS_NOFETCH is answered instead of MISS,

@@ -5,7 +5,7 @@ ghost use Rattle.script_lines.specs.Words.{address, address_of, address_and, end
 use super::number::{number, octet};
 use super::parts::parts_of;
 use filter_slots::End;
-use node_core::Network;
+use node_words::Network;
 use std::alloc::{AllocError, Global};
 
 // Parses an address from exactly four parts.

@@ -4,7 +4,7 @@ ghost use Rattle.script_lines.specs.Words.{either, switch, socket, role, mode};
 
 use filter_slots::Socket;
 use neighbours::Role;
-use node_core::Mode;
+use node_words::Mode;
 
 // Returns `a` for the word `first`, `b` for the word `second`, and `None` for any other text.
 fn either<T: Copy>(text: &[u8], first: &[u8], a: T, second: &[u8], b: T) -> Option<T>

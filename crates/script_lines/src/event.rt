@@ -1,6 +1,6 @@
 //! Lines that describe an event.
 ghost use Rattle.std.specs.Prelude.{◌≡◌, IfOk, Some};
-ghost use Rattle.plain_node.specs.declared.event.Outcome.TheVariants.{Failed};
+ghost use Rattle.node_words.specs.declared.event.Outcome.TheVariants.{Failed};
 ghost use Rattle.script_lines.specs.Words.{number, octets, end_at, socket, mode, key, object, moment, client_number};
 ghost use Rattle.script_lines.specs.Item.{script_line_of, IsShort};
 ghost use Rattle.script_lines.specs.ScriptLine.{timer_line, gone_line, program_line, swap_line, neighbour_swap_line, fetched_line, datagram_line, request_line, object_line};
@@ -15,7 +15,7 @@ use super::slot::neighbour_slot;
 use bpf_check::Insn;
 use bpf_run::packet::MOST_PAYLOAD;
 use filter_slots::Slot;
-use node_core::{Event, Outcome};
+use node_words::{Event, Outcome};
 use object_store::{Object, SharedObject};
 use std::alloc::{AllocError, Global};
 use std::sync::Arc;

@@ -3,7 +3,7 @@
 use bpf_check::CheckFault;
 use filter_slots::{End, Moment, Slot, Socket};
 use neighbours::{Key, Neighbour};
-use node_core::{Event, Network};
+use node_words::{Event, Network};
 
 /// A parsed line of a script.
 #[derive(Drop)]

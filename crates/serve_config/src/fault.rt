@@ -1,6 +1,6 @@
 //! Why a configuration is rejected.
+use crate::json_fault::Expected;
 use crate::place::Place;
-use json_fault::Expected;
 use std::alloc::{AllocError, Global};
 use std::fmt;
 

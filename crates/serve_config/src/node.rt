@@ -10,7 +10,7 @@ use crate::group::{keys, neighbours};
 use crate::place::Place;
 use crate::value::{address, networks, number, port, truth};
 use neighbours::End;
-use node_core::Config;
+use node_words::Config;
 use serde_json::Value;
 use std::alloc::Global;
 

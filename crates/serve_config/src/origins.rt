@@ -6,7 +6,7 @@ use crate::fault::Fault;
 use crate::place::Place;
 use crate::shape::items;
 use crate::value::{network, number_of, prefix_of, truth};
-use node_core::Network;
+use node_words::Network;
 use serde_json::Value;
 use std::alloc::{AllocError, Global};
 use std::net::Ipv6Addr;

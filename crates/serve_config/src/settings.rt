@@ -20,6 +20,7 @@ ghost use Rattle.serve_config.specs.Words.{form_said, freshness_said, level_said
 use crate::fault::Fault;
 use crate::filters::FilterFile;
 use crate::freshness::{Freshness, RefreshRule};
+use crate::json_fault::{Expected, expected_at, offset_of};
 use crate::keys::{BackKeys, Keys, keys_in};
 use crate::mirrors::MirrorPath;
 use crate::origins::SixNetwork;
@@ -29,8 +30,7 @@ use crate::shape::check;
 use crate::shared_fields::SharedField;
 use crate::six_clients::SixClients;
 use crate::web::{SiteKeys, WebKeys};
-use json_fault::{Expected, expected_at, offset_of};
-use node_core::{Config, Network};
+use node_words::{Config, Network};
 use serde_json::Value;
 use std::alloc::Global;
 use std::fmt;

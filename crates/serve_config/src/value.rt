@@ -11,7 +11,7 @@ ghost use Rattle.serve_config.specs.Words.{word_or};
 use crate::fault::Fault;
 use crate::place::Place;
 use crate::shape::items;
-use node_core::Network;
+use node_words::Network;
 use serde_json::Value;
 use std::alloc::{AllocError, Global};
 use std::net::Ipv4Addr;

@@ -1,7 +1,7 @@
 //! Tests of the codecs, filters and captures, and of what else stands below the node: programs, listings and assembler text
 //! (bpf_check, bpf_run, bpf_asm), filter slots (filter_slots), ICP and HTCP messages (icp_packet, htcp_packet), numbers in octets and
-//! codes (wire_octets, hmac_md5), captures (capture, capture_file), the neighbour table and its rounds (neighbours, peer_select), a full
-//! store and shelves (object_store, object_shelf), texts that are no JSON (json_fault).
+//! codes (wire_octets, hmac_md5), captures (capture), the neighbour table and its rounds (neighbours, peer_select), a full store and
+//! shelves (object_store, object_shelf).
 //!
 //! A crate of tests only; most of them run a table of cases.
 #![tactic(auto)]
@@ -18,8 +18,6 @@ mod frames;
 mod htcp;
 #[cfg(test)]
 mod icp;
-#[cfg(test)]
-mod json;
 #[cfg(test)]
 mod made;
 #[cfg(test)]

@@ -1,6 +1,6 @@
-//! The blocks of files that are written (`capture_file`).
+//! The blocks of files that are written.
 use bpf_run::End;
-use capture_file::{COUNTS_OCTETS, Fate, HEAD_OCTETS, counts_block, datagram_block, head};
+use capture::{COUNTS_OCTETS, Fate, HEAD_OCTETS, counts_block, datagram_block, head};
 use std::test::Fail;
 
 // The header of RFC 791's form whose checksum was worked by hand: 0x4500 + 0x001f + 0x4011 + 0x7f00 + 0x0001 + 0x7f00 + 0x0002 is

@@ -1,10 +1,10 @@
-//! How many jobs of a thread are under way at a time (fetch_chain).
+//! How many jobs of a thread are under way at a time (shared_thread).
 ghost use Rattle.std.specs.Prelude.{◌<◌};
 
-use fetch_chain::{Begin, Submit, Tend, run};
 use futures::Future;
 use futures::channel::mpsc::{UnboundedReceiver, UnboundedSender, unbounded};
 use futures::task::{Context, Poll};
+use shared_thread::{Begin, Submit, Tend, run_jobs};
 use std::alloc::{AllocGlobal, Global};
 use std::io;
 use std::net::Net;
@@ -91,7 +91,7 @@ fn send_all(jobs: &UnboundedSender<Work>, all: &[u32]) -> bool {
 }
 
 // Runs these jobs, so many at a time.
-fn run_jobs<R>(
+fn run_all<R>(
     rt: &R,
     work: UnboundedReceiver<Work>,
     ended: &mut Ended,
@@ -102,7 +102,7 @@ where
     requires { 0 < most }
 {
     let mut runtime = LocalRuntime::new(rt)?;
-    let ran = run(rt, &mut runtime, work, AsItComes, ended, Nothing, most);
+    let ran = run_jobs(rt, &mut runtime, work, AsItComes, ended, Nothing, most);
     drop(runtime);
     ran
 }
@@ -119,7 +119,7 @@ where
     let mut ended = Ended {
         numbers: Vec::new(alloc),
     };
-    let ran = run_jobs(rt, work, &mut ended, most);
+    let ran = run_all(rt, work, &mut ended, most);
     let is_order = ended.numbers.as_slice() == wanted;
     drop(ended);
     ran?;

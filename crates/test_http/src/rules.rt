@@ -11,7 +11,7 @@ use http_rules::{
     is_plain_request, is_short_token, is_unsafe, key_of, loop_mark, may_keep, may_retry,
     supersedes, takes_stale, usual_six_denials, written_name,
 };
-use node_core::Mode;
+use node_terms::Mode;
 use std::alloc::Global;
 use std::process::Abort;
 

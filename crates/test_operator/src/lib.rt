@@ -1,5 +1,5 @@
 //! Tests of what an operator reads: the counters and both texts of them (`traffic_figures`), a node's state as JSON (`node_figures`),
-//! the lines of the access log (`access_log`), and the thread that writes them (`log_writer`). Exact texts, worked by hand.
+//! the lines of the access log (`access_log`), and the thread that writes them (`access_log::writer`). Exact texts, worked by hand.
 //! No contract is proved here beyond the safety of the tests.
 //!
 //! Tested by: nothing; its `#[test]` functions are the tests.

@@ -1,6 +1,6 @@
-//! The thread that writes a log (`log_writer`): appending, rotating, failing, and the pace of notices. What a test owns it makes, lends
+//! The thread that writes a log (`access_log::writer`): appending, rotating, failing, and the pace of notices. What a test owns it makes, lends
 //! to functions that say whether all holds, and lets go by a call: so no way out has to drop it.
-use log_writer::{LogCounts, LogDesk, LogPlace, LogTask, Pace, open_log, run_log};
+use access_log::writer::{LogCounts, LogDesk, LogPlace, LogTask, Pace, open_log, run_log};
 use std::alloc::{AllocError, AllocGlobal};
 use std::fs::Files;
 use std::io::{Eprint, Print};

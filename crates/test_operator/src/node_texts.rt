@@ -1,9 +1,8 @@
 //! The counters of a node and its neighbours as JSON (`node_figures`).
 use crate::rows::{Question, all_hold};
 use filter_slots::{End, Socket};
-use node_book::NeighbourView;
-use node_core::{Counters, Stats};
 use node_figures::{neighbour_figures_text, neighbours_text, stats_text};
+use node_words::{Counters, NeighbourView, Stats};
 use std::alloc::Global;
 use std::test::Fail;
 use traffic_figures::NeighbourCounts;

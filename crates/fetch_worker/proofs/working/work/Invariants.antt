@@ -1,5 +1,5 @@
 use Rattle.std.proofs.Common.{List}
-use Rattle.plain_node.specs.declared.action.Action.{Action}
+use Rattle.node_words.specs.declared.action.Action.{Action}
 use Rattle.fetch_worker.specs.Working.{AnswersJobs}
 use Rattle.fetch_worker.proofs.working.work.Given as goal
 

@@ -1,7 +1,7 @@
 use Rattle.std.proofs.Common.{◌≡◌, ◌≤◌, vec_capacity, length, map, take}
-use Rattle.node_core.specs.Happening.{happening}
+use Rattle.node_words.specs.Happening.{happening}
 use Rattle.node_core.specs.State.{HasTaken}
-use Rattle.node_core.specs.Swaps.{PutsInAccepted}
+use Rattle.node_words.specs.Installs.{PutsInAccepted}
 use Rattle.node_core.proofs.run.run_events.Given as goal
 
 abbrev pub invariant-loop-i : goal.invariant-loop-i

@@ -1,4 +1,4 @@
-use Rattle.plain_node.specs.declared.action.Answer.TheVariants.{Fail}
+use Rattle.node_words.specs.declared.action.Answer.TheVariants.{Fail}
 use Rattle.std.proofs.Common.{refl}
 use Rattle.plain_node.proofs.Servings.{served-more}
 use Rattle.plain_node.proofs.serving.serve_fail.Goals as goal

@@ -1,5 +1,5 @@
 use Rattle.std.proofs.Common.{◌≡◌, take}
-use Rattle.plain_node.specs.declared.action.Answer.TheVariants.{Got}
+use Rattle.node_words.specs.declared.action.Answer.TheVariants.{Got}
 use Rattle.plain_node.specs.PlainNode.{serves}
 use Rattle.plain_node.proofs.serving.serve_object.Given as goal
 

@@ -1,6 +1,6 @@
 use Rattle.std.proofs.Common.{◌++◌, ◌∷◌, [], sym, ap, ◌∙◌}
 use Rattle.neighbours.specs.declared.neighbour.Neighbour.{Neighbour}
-use Rattle.plain_node.specs.declared.action.Action.{Action}
+use Rattle.node_words.specs.declared.action.Action.{Action}
 use Rattle.plain_node.specs.Requests.{query_by, queries}
 use Rattle.plain_node.proofs.Servings.{mapped-more, mapped-all}
 use Rattle.plain_node.proofs.core_node.Core.ask_all.Goals as goal

@@ -1,6 +1,6 @@
 use Rattle.std.proofs.Common.{◌≡◌, ◌≤◌, ◌++◌, List, length, Some, ap, sym, ◌∙◌, subst, arith}
 use Rattle.pending_fetch.specs.Fetches.{fetch_of, next_number}
-use Rattle.plain_node.specs.declared.action.Action.{Action}
+use Rattle.node_words.specs.declared.action.Action.{Action}
 use Rattle.plain_node.specs.PlainNode.{PlainNode, at_clock}
 use Rattle.plain_node.specs.Sources.{decision_step}
 use Rattle.plain_node.specs.Fitting.{asked, asking}

@@ -1,2 +1,0 @@
-pub mod Datagram
-pub mod Blocks

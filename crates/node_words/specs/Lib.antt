@@ -1,0 +1,3 @@
+pub mod Happening
+pub mod Installs
+pub mod Payloads
