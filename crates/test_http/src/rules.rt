@@ -7,9 +7,9 @@ use crate::rows::{NO_MEMORY, OfHead, Question, all_hold, all_true, heads_hold};
 use http_header::HeaderMap;
 use http_rules::{
     PartRequests, Stored, StoredAnswer, accepts, answer_to, authority_of, changed_keys, choose,
-    complete_length, has_come_back, has_stale_use, is_about, is_error, is_in_not_modified,
-    is_plain_request, is_short_token, is_unsafe, key_of, loop_mark, may_keep, may_retry,
-    supersedes, takes_stale, usual_six_denials, written_name,
+    complete_length, has_come_back, has_stale_use, is_about, is_error, is_for_server,
+    is_in_not_modified, is_plain_request, is_short_token, is_unsafe, key_of, loop_mark, may_keep,
+    may_retry, supersedes, takes_stale, usual_six_denials, written_name,
 };
 use node_terms::Mode;
 use std::alloc::Global;
@@ -464,6 +464,40 @@ impl Question<(&'static str, bool, &'static str)> for WrittenName {
 #[test]
 fn names_in_fields(rt: HostRuntime) {
     all_hold(&rt, rt.alloc(), &NAMES, &WrittenName);
+}
+
+// A method, a target, and whether the server as a whole is asked (RFC 9112, section 3.2.4), which the program asks of `http` URLs alone.
+const SERVERS: [(&str, &str, bool); 12] = [
+    ("OPTIONS", "http://h", true),
+    ("OPTIONS", "http://h:8080", true),
+    ("OPTIONS", "HTTP://h", true),
+    ("OPTIONS", "http://[::1]:80", true),
+    ("OPTIONS", "http://h/", false),
+    ("OPTIONS", "http://h?a", false),
+    ("OPTIONS", "http://h/a", false),
+    ("OPTIONS", "*", false),
+    ("OPTIONS", "/abcdefgh", false),
+    ("OPTIONS", "", false),
+    ("GET", "http://h", false),
+    ("options", "http://h", false),
+];
+
+struct IsForServer;
+
+impl Question<(&'static str, &'static str, bool)> for IsForServer {
+    fn holds<R: Abort>(
+        &self,
+        _rt: &R,
+        _alloc: Global,
+        row: &(&'static str, &'static str, bool),
+    ) -> bool {
+        is_for_server(row.0, row.1) == row.2
+    }
+}
+
+#[test]
+fn questions_about_servers(rt: HostRuntime) {
+    all_hold(&rt, rt.alloc(), &SERVERS, &IsForServer);
 }
 
 // Three networks are denied where nothing is said, and no more.
