@@ -16,7 +16,7 @@ from edit_texts import TOP
 
 RECORD, SEEN = TOP / "tools" / "refused.txt", TOP / "build" / "refused.txt"
 # The crates whose edits have to be refused on the text as it is: the node, the log of its events, its queries, and HTTP's rules.
-CLOSELY = ("node_core", "plain_node", "node_book", "mio_queries", "http_rules")
+CLOSELY = ("node_words", "node_core", "plain_node", "node_book", "mio_queries", "http_rules")
 NOT_REFUSED = "NOT REFUSED"
 HEAD = """# Which must-fail edits were refused on which text, written by tools/edits --record: the edit, the sum of its crate's own src/, specs/ and
 # proofs/ without comments, that of the function it names and its changes, the day, and the function with what was not proved of it.

@@ -15,7 +15,7 @@ mod version;
 use commands::{NO_OUTPUT, Question, asked, check_configuration, run_check, settings_of};
 use feed_script::feed;
 use filter_replay::{run_explain, run_replay};
-use proxy_site::SEATS;
+use proxy_setup::SEATS;
 use serve_command::run_serve;
 use standard_files::take_closed;
 use std::env::Env;

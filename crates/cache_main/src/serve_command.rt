@@ -4,7 +4,7 @@ ghost use Rattle.std.specs.Prelude.{◌≡◌};
 use crate::version::VERSION;
 use cache_serve::{ProxyLimits, few_files, start};
 use commands::{StartFacts, equipment_of, tell_end, tell_finish, tell_listening, tell_start};
-use proxy_site::SEATS;
+use proxy_setup::SEATS;
 use serve_config::Settings;
 use std::alloc::AllocGlobal;
 use std::fs::Files;

@@ -5,7 +5,7 @@ use crate::limits::{
 };
 use fair_use::{Division, FewFiles, division_of, is_told};
 use filter_slots::End;
-use proxy_site::MOST_CLIENT_THREADS;
+use proxy_setup::MOST_CLIENT_THREADS;
 use serve_config::Settings;
 use std::alloc::AllocGlobal;
 use std::fs::Files;

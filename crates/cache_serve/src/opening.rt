@@ -7,15 +7,14 @@ mod queries;
 
 use crate::config::ThreadConfig;
 use crossbeam_channel::{Receiver, Sender, unbounded};
-use filter_files::Filter;
 use filter_slots::End;
+use filter_text::Filter;
 use futures::channel::oneshot;
 use http_rules::SixEnd;
 use name_lookup::NameDesk;
 use node_words::Event;
 use proxy_node::{AtDesk, NodeHandle, Overseen, ThreadSeat};
-use proxy_setup::{Orders, ServerOrders};
-use proxy_site::{Ending, ServeFault, Site, no_memory};
+use proxy_setup::{Ending, Orders, ServeFault, ServerOrders, Site, no_memory};
 use proxy_state::{Shared, TakeEvents, add_own, note_own_six};
 use std::alloc::{AllocError, AllocGlobal, Global};
 use std::fs::Files;

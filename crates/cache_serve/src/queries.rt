@@ -7,7 +7,7 @@ use mio_queries::{BindFault, MioWire, PumpFault, Wire, pump_with};
 use node_book::Clerk;
 use node_core::Out;
 use proxy_node::{AtDesk, MalformedWatch, NodeHandle, Outgoing, Overseen, ThreadSeat};
-use proxy_site::{Ending, Port, ServeFault};
+use proxy_setup::{Ending, Port, ServeFault};
 use proxy_state::{RETRIES, RETRY_MILLIS};
 use query_handles::{Bell, Timeline};
 use std::alloc::{AllocError, AllocGlobal, Global};

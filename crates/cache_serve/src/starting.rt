@@ -8,9 +8,11 @@ use crate::tasks::Work;
 use access_log::writer::{LogTask, run_log};
 use crossbeam_channel::{Receiver, Sender, bounded};
 use name_lookup::{NameDesk, NameLimits, NameWatch, open_names, watch_names};
-use proxy_node::{AtDesk, Overseen, ProxyState};
-use proxy_setup::{LogTasks, Orders, equipped, server_orders, site_of};
-use proxy_site::{Equipment, SEATS, ServeFault, Site, Writing, Writings};
+use proxy_node::{AtDesk, Overseen};
+use proxy_setup::{
+    Equipment, LogTasks, Orders, Proxy, SEATS, ServeFault, Site, Writing, Writings, equipped,
+    server_orders, site_of,
+};
 use proxy_state::{Passes, Shared};
 use serve_config::Settings;
 use std::alloc::{AllocError, AllocGlobal, Global};
@@ -32,7 +34,7 @@ pub fn start<L, R>(
     settings: Settings,
     equipment: Equipment<R::File>,
     limits: ProxyLimits,
-) -> Result<Site<ProxyState<L>, L>, ServeFault>
+) -> Result<Site<Proxy<L>, L>, ServeFault>
 where
     L: Ledger + Send + Sync + 'static,
     R: Threads
@@ -68,7 +70,7 @@ fn prepared<R, L>(
     mut settings: Settings,
     equipment: Equipment<R::File>,
     limits: ProxyLimits,
-) -> Result<(Opening<R, ProxyState<L>, L>, Orders<R::File>), ServeFault>
+) -> Result<(Opening<R, Proxy<L>, L>, Orders<R::File>), ServeFault>
 where
     R: Threads + Clock + RandomSource + AllocGlobal + Files + Drop,
     L: Ledger,

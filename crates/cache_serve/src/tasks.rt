@@ -1,7 +1,7 @@
 //! What the threads of a proxy have in common.
 use crossbeam_channel::Sender;
 use proxy_node::{AtDesk, NodeHandle};
-use proxy_site::{Ending, Port, ServeFault, socket_fault};
+use proxy_setup::{Ending, Port, ServeFault, socket_fault};
 use std::alloc::{AllocError, Global};
 use std::io;
 use std::sync::ledger::Ledger;

@@ -38,4 +38,4 @@ pub use order::Order;
 pub use reading::{Capture, Form, MOST_INTERFACES, take_start};
 pub use record::{MOST_OCTETS, RecordHead, take_record};
 pub use udp::{UdpView, udp_at, udp_in};
-pub use written::{COUNTS_OCTETS, HEAD_OCTETS, counts_block, datagram_block, head};
+pub use written::{COUNTS_OCTETS, HEAD_OCTETS, counts_block, datagram_block, file_head};

@@ -17,7 +17,7 @@ pub const HEAD_OCTETS: usize = 132;
 pub const COUNTS_OCTETS: usize = 52;
 
 /// What a file begins with: the section header, and the descriptions of the three interfaces.
-pub fn head() -> [u8; 132]
+pub fn file_head() -> [u8; 132]
     ensures { result ≡ head }
 {
     [

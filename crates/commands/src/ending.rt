@@ -1,6 +1,6 @@
 //! What `serve` tells at its end, where nothing waits for long for what standard error goes to.
 use crate::patience::tell;
-use proxy_site::Finish;
+use proxy_setup::Finish;
 use std::alloc::{AllocError, AllocGlobal, Global};
 use std::io::Eprint;
 use std::sync::Wait;

@@ -1,8 +1,8 @@
 //! The filters and the logs that a proxy is given at its start.
 use access_log::Form;
 use access_log::writer::{LogPlace, LogTask, open_log};
-use filter_files::{FilesFault, Filter, read_filters};
-use proxy_site::Equipment;
+use filter_text::{FilesFault, Filter, read_filters};
+use proxy_setup::Equipment;
 use proxy_state::{AccessLog, Notices};
 use serve_config::{LogFormat, LogLevel, Settings};
 use std::alloc::AllocGlobal;

@@ -2,7 +2,7 @@
 use crate::patience::tell;
 use fair_use::{Division, FewFiles};
 use filter_slots::End;
-use proxy_site::{Addresses, Port, ServeFault};
+use proxy_setup::{Addresses, Port, ServeFault};
 use serve_config::Settings;
 use std::alloc::{AllocError, AllocGlobal, Global};
 use std::io::{Eprint, ErrorKind};

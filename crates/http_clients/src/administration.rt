@@ -1,10 +1,10 @@
 //! The administration server: installs and removes filters, and shows counters.
 use crate::account::SharedFacts;
+use crate::admin_page::PAGE;
 use crate::requests::{Answers, Given, OwnAnswer, Serves, TextKind};
 use crate::server::{ClientSocket, ServeLimits, serve};
 use crate::texts::{no_log, not_administrator, stopping, text_of};
 use crate::tunnel::KeepTunnel;
-use admin_page::PAGE;
 use client_streams::Stops;
 use crossbeam_channel::Sender;
 use filter_slots::{Slot, Socket};

@@ -3,17 +3,22 @@
 //!
 //! The contracts see only that every future is polled in a state in which it may be; nothing is proved about the HTTP messages.
 //!
-//! Tested by: tests/serve, serve_operator, serve_passages, serve_freshness, serve_slow and serve_hostile, which run the
-//! built program over loopback.
+//! The administration's page stands here, too: one HTML document, which asks the administration for its figures, and the policy that it
+//! is answered with. `tools/page` writes the document out and takes it in again.
+//!
+//! Tested by: tests/serve, serve_operator, serve_passages, serve_freshness, serve_slow and serve_hostile, which run the built program over
+//! loopback; `tools/page --check`, the policy's hashes; tests/page, in a browser.
 #![tactic(auto)]
 
 mod account;
+mod admin_page;
 mod administration;
 mod cache_status;
 mod connection;
 mod copying;
 mod door;
 mod given;
+mod page_policy;
 mod reply;
 mod requests;
 mod responses;

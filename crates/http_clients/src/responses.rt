@@ -1,8 +1,8 @@
 //! The responses to clients and administrators.
 ghost use Rattle.std.specs.Prelude.{None};
 
+use crate::page_policy::POLICY;
 use crate::requests::{Given, OwnAnswer, PassedAnswer};
-use admin_page::POLICY;
 use futures::channel::{mpsc, oneshot};
 use http_content::{Portions, add_field, add_object_fields};
 use http_rules::end_to_end;

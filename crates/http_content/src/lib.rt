@@ -1,8 +1,9 @@
 //! The content of messages, on hyper: what the server and the client of HTTP have in common (reading a whole content, passing one on as it
 //! comes, and header fields), and the content of an answer that is known, in pieces out of a shared object or a part of it.
 //!
-//! The contracts of such an answer say that its frames are its octets (`specs/Octets.antt`, `specs/Pieces.antt`). Of the rest they see only
-//! that every future is polled in a state in which it may be. Tested by: tests/serve, tests/serve_freshness, tests/serve_passages, more-edits.
+//! The contracts of such an answer say that its frames are its octets (`specs/Octets.antt`, `specs/Pieces.antt`). Of the rest they see
+//! only that every future is polled in a state in which it may be.
+//! Tested by: tests/serve, tests/serve_freshness, tests/serve_passages, more-edits.
 #![tactic(auto)]
 
 mod content;

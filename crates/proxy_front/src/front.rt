@@ -3,7 +3,6 @@ use crate::good_texts::GoodTexts;
 use crate::handing::{Call, Returned, TakeCalls, hand_over};
 use crate::shapes::shape_of;
 use crossbeam_channel::Sender;
-use forwarding::{Field, KnownKeys, Profile, Service, Waiting, server_in_digits};
 use futures::channel::oneshot;
 use http_header::HOST;
 use http_rules::{
@@ -14,8 +13,8 @@ use http_traffic::{Asked, Asking, FollowUp, Forward, Front, How, Outcome, PassOn
 use node_words::{Event, Mode, Network};
 use object_store::{CacheKey, Object};
 use proxy_state::{
-    FrontRules, Given, Shared, TakeEvents, has_marks, loop_fields, micros_since, passed_on,
-    status_of, withdraw,
+    Field, FrontRules, Given, KnownKeys, Profile, Service, Shared, TakeEvents, Waiting, has_marks,
+    loop_fields, micros_since, passed_on, server_in_digits, status_of, withdraw,
 };
 use std::alloc::{AllocError, Global};
 use std::io;

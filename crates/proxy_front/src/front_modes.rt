@@ -1,12 +1,11 @@
 //! How requests are answered: by the published rules or by RFC 9111.
 use crate::front::NodeFront;
 use filter_slots::Moment;
-use forwarding::Profile;
 use http_rules::{Stored, choose, classify, is_for_a_part};
 use http_traffic::Asked;
 use node_words::Mode;
 use object_store::{CacheKey, Entry};
-use proxy_state::{Shared, TakeEvents, has_marks};
+use proxy_state::{Profile, Shared, TakeEvents, has_marks};
 use std::sync::Wait;
 use std::time::Clock;
 

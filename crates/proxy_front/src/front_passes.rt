@@ -1,6 +1,5 @@
 //! Client requests that are passed on without the node, and tunnels.
 use crate::front::{NodeFront, check_host};
-use forwarding::{Destination, Field, Profile};
 use futures::channel::{mpsc, oneshot};
 use http_header::HeaderMap;
 use http_rules::{
@@ -13,7 +12,8 @@ use http_traffic::{
 use node_words::Mode;
 use object_store::CacheKey;
 use proxy_state::{
-    Onwards, Places, Shared, TakeEvents, add_values, status_of, tell_not_taken, withdraw,
+    Destination, Field, Onwards, Places, Profile, Shared, TakeEvents, add_values, status_of,
+    tell_not_taken, withdraw,
 };
 use std::alloc::{AllocError, Global};
 use std::net::{IpAddr, Ipv4Addr, SocketAddr, SocketAddrV4};

@@ -1,11 +1,10 @@
 //! What of a stored object a request is answered with.
-use forwarding::Field;
 use http_rules::{
     StoredAnswer, answer_to, content_range, is_in_not_modified, is_plain_request, unsatisfied_range,
 };
 use http_traffic::{Asked, Shape};
 use object_store::Object;
-use proxy_state::add_field;
+use proxy_state::{Field, add_field};
 use std::alloc::{AllocError, Global};
 
 /// What of an object its request is answered with by RFC 9110: all of one that is not stored (RFC 9111, section 4.3.2), and all where

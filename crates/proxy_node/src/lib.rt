@@ -12,4 +12,4 @@ mod state;
 pub use malformed_watch::MalformedWatch;
 pub use node_handle::{NodeHandle, Outbox, Outgoing, ThreadSeat};
 pub use overseen::Overseen;
-pub use state::{AtDesk, ProxyState};
+pub use state::{AtDesk, Desks, Part, ProxyState};

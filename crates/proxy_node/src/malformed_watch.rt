@@ -1,6 +1,6 @@
 //! Telling of datagrams that are no messages.
-use node_words::Stats;
 use crate::overseen::Overseen;
+use node_words::Stats;
 use proxy_state::Shared;
 use std::alloc::Global;
 use std::sync::Wait;

@@ -3,7 +3,6 @@ ghost use Rattle.std.specs.Prelude.{◌≡◌};
 ghost use Rattle.node_book.specs.Audited.{IsAudited};
 
 use crate::state::AtDesk;
-use capture_tap::Recorder;
 use crossbeam_channel::Sender;
 use filter_slots::{Datagram, End, Judged, Moment, Socket};
 use node_book::{Clerk, Programs, Seat, SubmitFault};
@@ -11,9 +10,9 @@ use node_core::Out;
 use node_words::{Action, Answer, Event, NoMemory, Outcome};
 use object_store::CacheKey;
 use proxy_state::{
-use query_handles::Bell;
-    Attempt, Cause, Given, Shared, TakeEvents, Unstarted, note_query, note_reply, perform,
+    Attempt, Cause, Given, Recorder, Shared, TakeEvents, Unstarted, note_query, note_reply, perform,
 };
+use query_handles::Bell;
 use std::alloc::Global;
 use std::mem;
 use std::sync::ledger::Ledger;

@@ -2,10 +2,8 @@
 use crate::overview::page_of;
 use bpf_asm::to_text;
 use bpf_check::Checked;
-use capture_tap::{CaptureLimits, QUERY_LINE, TapFault};
-use filter_files::{FilesFault, Filter, read_filters};
 use filter_slots::{Moment, Slot, Slots};
-use filter_text::{ProgramFault, read_program};
+use filter_text::{FilesFault, Filter, FilterFile, ProgramFault, read_filters, read_program};
 use futures::channel::mpsc;
 use http_rules::{is_administrator, is_authorized};
 use http_traffic::{Asked, CaptureFault, Figures, Panel, PutFault, StoreFault, StoreOrder};
@@ -14,9 +12,9 @@ use node_words::{Event, NeighbourView};
 use object_store::{CacheKey, Entry};
 use proxy_node::Overseen;
 use proxy_state::{
-    Obstacle, Purger, RETRIES, RETRY_MILLIS, Shared, TakeEvents, key_in, limit_of, stays, withdraw,
+    CaptureLimits, Obstacle, Purger, QUERY_LINE, RETRIES, RETRY_MILLIS, Shared, TakeEvents,
+    TapFault, key_in, limit_of, stays, withdraw,
 };
-use serve_config::FilterFile;
 use std::alloc::{AllocError, AllocGlobal, Global};
 use std::fs::Files;
 use std::sync::atomic::Ordering;

@@ -1,15 +1,15 @@
 //! What the threads of a proxy are started with.
+use crate::equipment::Equipment;
 use crate::own_key::settle_keys;
 use crate::passing::allows_own;
 use crate::state::{Given, Logs, six_networks};
 use access_log::writer::LogTask;
-use filter_files::Filter;
+use filter_text::{Filter, FilterFile};
 use futures::channel::oneshot;
 use http_rules::{Mirror, SixNetwork, written_name};
 use node_words::{Config, Network};
-use proxy_site::Equipment;
 use proxy_state::{FrontRules, Purger};
-use serve_config::{FilterFile, MirrorPath, Settings};
+use serve_config::{MirrorPath, Settings};
 use std::alloc::{AllocError, Global};
 use std::mem;
 use std::random::RandomSource;

@@ -1,12 +1,11 @@
 //! What passes the proxy without the node, as the settings say it.
+use crate::limits::FETCHERS;
 use crate::orders::purger_of;
-use forwarding::Peer;
 use http_rules::{OriginRules, is_unsafe};
 use neighbours::Role;
 use node_words::Config;
 use object_store::KeyHashes;
-use proxy_site::FETCHERS;
-use proxy_state::{LargeKeys, Passes, Places};
+use proxy_state::{LargeKeys, Passes, Peer, Places};
 use serve_config::{Large, Settings};
 use server_connections::ServerConnections;
 use std::alloc::{AllocError, Global};

@@ -2,10 +2,11 @@
 ghost use Rattle.std.specs.Prelude.{◌≡◌, IfOk};
 ghost use Rattle.node_book.specs.Book.{count_of};
 
+use crate::fault::{ServeFault, no_memory};
+use crate::limits::SEATS;
 use crate::passing::passes_of;
-use capture_tap::Tap;
+use crate::site::{Site, ends_of};
 use crossbeam_channel::Sender;
-use forwarding::{Field, Peer, Profile};
 use futures::channel::oneshot;
 use http_rules::{
     OriginRules, RefreshRule, SixNetwork, UrlPlace, loop_mark, usual_denials, usual_six_denials,
@@ -16,12 +17,11 @@ use node_words::Config;
 use object_shelf::Shelf;
 use object_store::{KeyHashes, MOST_KEY_OCTETS};
 use proxy_node::ProxyState;
-use proxy_site::{SEATS, ServeFault, Site, ends_of, no_memory};
 use proxy_state::{
-use query_handles::Timeline;
-    AccessLog, Fetchers, Kept, Mail, NeighbourEnds, Notices, Outward, PartKeys, Passes, Stopping,
-    Telling, UnaskedKeys,
+    AccessLog, Fetchers, Field, Kept, Mail, NeighbourEnds, Notices, Outward, PartKeys, Passes,
+    Peer, Profile, Stopping, Tap, Telling, UnaskedKeys,
 };
+use query_handles::Timeline;
 use serve_config::{Freshness, Settings, SharedField, UrlPart};
 use std::alloc::{AllocError, Global};
 use std::mem;
@@ -31,6 +31,19 @@ use std::sync::ledger::{Blank, Ledger};
 use std::sync::{Arc, Mutex};
 use std::time::{Clock, Duration, Instant};
 use traffic_figures::Figures;
+
+/// The shared state of a proxy.
+pub type Proxy<L> = ProxyState<
+    Desk<L>,
+    Mail,
+    Fetchers,
+    Outward,
+    Kept,
+    Passes,
+    Tap,
+    Telling,
+    Stopping,
+>;
 
 /// What the shared state of a proxy is given beside its settings.
 #[derive(Drop)]
@@ -93,7 +106,7 @@ pub fn site_of<R: RandomSource + Clock, L: Ledger>(
     blank: Blank,
     settings: Settings,
     given: Given,
-) -> Result<Site<ProxyState<L>, L>, ServeFault>
+) -> Result<Site<Proxy<L>, L>, ServeFault>
     requires name { blank.name ≡ L.name }
     requires parts { blank.parts ≡ L.parts }
     requires seats { blank.parts ≡ SEATS }
@@ -119,7 +132,7 @@ fn proxy_of<R: RandomSource + Clock, L: Ledger>(
     mut settings: Settings,
     given: Given,
     end: Sender<(), Global>,
-) -> Result<(ProxyState<L>, Vec<Seat<L>>), ServeFault>
+) -> Result<(Proxy<L>, Vec<Seat<L>>), ServeFault>
     requires name { blank.name ≡ L.name }
     requires parts { blank.parts ≡ L.parts }
     requires seats { blank.parts ≡ SEATS }
@@ -207,7 +220,7 @@ fn state_around<L: Ledger>(
     opened: Result<(Desk<L>, Vec<Seat<L>>), ServeFault>,
     around: Around,
     stopping: Stopping,
-) -> Result<(ProxyState<L>, Vec<Seat<L>>), ServeFault> {
+) -> Result<(Proxy<L>, Vec<Seat<L>>), ServeFault> {
     match opened {
         Ok((desk, seats)) => Ok((state_of(desk, around, stopping), seats)),
         Err(fault) => {
@@ -219,7 +232,7 @@ fn state_around<L: Ledger>(
 }
 
 /// The shared state around this desk.
-fn state_of<L: Ledger>(desk: Desk<L>, around: Around, stopping: Stopping) -> ProxyState<L> {
+fn state_of<L: Ledger>(desk: Desk<L>, around: Around, stopping: Stopping) -> Proxy<L> {
     let Around {
         timeline,
         mail,

@@ -1,7 +1,7 @@
 //! Answers that the client which began their fetch has while they are collected for all.
+use crate::mailbox::Led;
 use crate::passes::Passes;
 use crate::shared::Shared;
-use forwarding::Led;
 use futures::channel::oneshot;
 use http_traffic::{Early, Outcome};
 use std::alloc::Global;

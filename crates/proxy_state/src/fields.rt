@@ -1,5 +1,5 @@
 //! Fields of requests as the fetches for them have them.
-use forwarding::Field;
+use crate::mailbox::Field;
 use http_rules::{PassFault, end_to_end};
 use http_traffic::Asked;
 use std::alloc::{AllocError, Global};

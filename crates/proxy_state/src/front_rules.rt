@@ -1,7 +1,7 @@
 //! Whose requests are taken, and what they stand for.
 use crate::storage::Purger;
 use http_rules::{Mirror, SixNetwork};
-use node_core::Network;
+use node_words::Network;
 
 /// Whose requests are taken, and what they stand for.
 pub struct FrontRules {

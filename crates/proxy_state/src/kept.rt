@@ -1,8 +1,8 @@
 //! What is kept of answers beside the store of the node.
+use crate::keeping::Profile;
 use crate::parts::PartKeys;
 use crate::unasked::UnaskedKeys;
 use filter_slots::Moment;
-use forwarding::Profile;
 use http_rules::{StaleUse, has_stale_use, has_validator, may_serve_stale};
 use object_shelf::Shelf;
 use object_store::{CacheKey, Entry, SharedObject};

@@ -1,8 +1,9 @@
 //! Waiting clients and fetches under way.
+use crate::in_flight::{Flight, Unwanted};
+use crate::mailbox::{Field, Mailbox};
 use crate::unjoined::UnjoinedKeys;
 use fair_use::SharedEnd;
 use filter_slots::Moment;
-use forwarding::{Field, Flight, Mailbox, Unwanted};
 use futures::channel::oneshot;
 use http_traffic::Progress;
 use node_words::MAX_PENDING_FETCHES;

@@ -1,8 +1,10 @@
 //! What is asked of other servers, and of which.
+use crate::addressing::{Destination, Peer, origin_of, peer_of};
 use crate::clock::date_seconds;
 use crate::fields::add_field;
+use crate::mailbox::Field;
+use crate::objects::{add_ours, via};
 use filter_slots::End;
-use forwarding::{Destination, Field, Peer, add_ours, origin_of, peer_of, via};
 use http_rules::{OriginRules, SixEnd, conditions_for};
 use http_traffic::Early;
 use httpdate::HttpDate;

@@ -1,13 +1,12 @@
 //! What passes the proxy without the node: requests that are passed on as they are, answers that are too long to be stored, and
 //! tunnels. The rules of this, and how many are under way.
+use crate::addressing::{Destination, Peer, origin_of, peer_of};
 use crate::storage::Purger;
 use filter_slots::End;
-use forwarding::{Destination, Peer, origin_of, peer_of};
 use http_rules::{OriginRules, SixEnd};
-use http_traffic::Ticket;
+use http_traffic::{PassedMethod, Ticket};
 use lru::LruCache;
 use object_store::{CacheKey, KeyHashes};
-use serve_config::PassedMethod;
 use server_connections::ServerConnections;
 use std::alloc::{AllocError, Global};
 use std::net::SocketAddr;

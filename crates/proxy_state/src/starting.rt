@@ -1,9 +1,11 @@
 //! Actions of the node that are carried out by the shared state: answers to clients, and fetches that start.
+use crate::addressing::Destination;
 use crate::early::gives_early;
+use crate::in_flight::Flight;
 use crate::kept::Kept;
 use crate::mail::Mail;
+use crate::mailbox::Field;
 use crate::shared::{Shared, tell_not_taken};
-use forwarding::{Destination, Field, Flight};
 use futures::channel::oneshot;
 use http_traffic as serving;
 use http_traffic::{Order, Progress, Supplier};

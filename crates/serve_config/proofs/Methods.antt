@@ -9,8 +9,9 @@ use Rattle.serde_json.specs.Data.{Data, Items, null, boolean, number, string, ar
 use Rattle.serde_json.specs.Find.{get, as_array}
 use Rattle.serde_json.specs.View.{items_of, items_view, view}
 use Rattle.serde_json.specs.declared.value.Value.{Value}
-use Rattle.serve_config.specs.declared.passing.PassedMethod.{PassedMethod}
-use Rattle.serve_config.specs.Passing.{AreMethods, method_name, name_of}
+use Rattle.http_traffic.specs.Methods.{method_name}
+use Rattle.http_traffic.specs.declared.passed_method.PassedMethod.{PassedMethod}
+use Rattle.serve_config.specs.Passing.{AreMethods, name_of}
 
 -- a test of names, and of the methods that have them
 any_name : (test : List ℕ → Bool) (methods : List PassedMethod) → list_any test (map method_name methods) ≡ list_any (λ method. test (method_name method)) methods

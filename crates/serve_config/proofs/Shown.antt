@@ -12,11 +12,11 @@ use Rattle.std.specs.String.{string_bytes}
 use Rattle.std.proofs.lemmas.Fmt.{decimal_is_IsNumeral}
 use Rattle.std.proofs.lemmas.List.{map-append}
 use Rattle.filter_slots.specs.declared.slot.Slot.TheVariants as slots
+use Rattle.filter_text.specs.declared.file.FilterFile.{FilterFile}
 use Rattle.serde_json.specs.Data.{Data, null, boolean, number, string, array, object}
 use Rattle.serde_json.specs.Find.{as_str}
 use Rattle.serde_json.specs.View.{members_view}
 use Rattle.serde_json.specs.declared.value.Value.{Value}
-use Rattle.serve_config.specs.declared.filters.FilterFile.{FilterFile}
 use Rattle.serve_config.specs.Files.{all_keys, is_number, neighbour_rows, row, shown, socket_rows, value_at}
 
 -- a value with a text is that text

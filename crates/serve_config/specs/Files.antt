@@ -6,9 +6,9 @@ use Rattle.std.specs.String.{string_bytes}
 use Rattle.bpf_run.specs.declared.ends.Socket.TheVariants.{Icp, Htcp}
 use Rattle.filter_slots.specs.declared.slot.Slot.{Slot}
 use Rattle.filter_slots.specs.declared.slot.Slot.TheVariants as slots
+use Rattle.filter_text.specs.declared.file.FilterFile.{FilterFile}
 use Rattle.serde_json.specs.Data.{Data, string, Members, no_members, member}
 use Rattle.serde_json.specs.Find.{get, as_object}
-use Rattle.serve_config.specs.declared.filters.FilterFile.{FilterFile}
 
 -- whether a node with so many neighbours has this slot
 unfoldable pub has_slot : ℕ → Slot → Bool

@@ -4,20 +4,11 @@ use Rattle.std.specs.List.{IsDistinct}
 use Rattle.serde_json.specs.Data.{Data, string, array}
 use Rattle.serde_json.specs.Find.{get}
 use Rattle.serde_json.specs.View.{items_of}
+use Rattle.http_traffic.specs.Methods.{method_name}
+use Rattle.http_traffic.specs.declared.passed_method.PassedMethod.{PassedMethod}
 use Rattle.serve_config.specs.Words.{word_or}
-use Rattle.serve_config.specs.declared.passing.PassedMethod.{PassedMethod}
-use Rattle.serve_config.specs.declared.passing.PassedMethod.TheVariants.{Head, Post, Put, Delete, Options, Patch}
 use Rattle.serve_config.specs.declared.passing.Large.{Large}
 use Rattle.serve_config.specs.declared.passing.Large.TheVariants.{Refuse, Stream}
-
--- a method as it stands in a request
-abbrev pub method_name : PassedMethod → List ℕ
-method_name Head = codes "HEAD"
-method_name Post = codes "POST"
-method_name Put = codes "PUT"
-method_name Delete = codes "DELETE"
-method_name Options = codes "OPTIONS"
-method_name Patch = codes "PATCH"
 
 -- the word that names it in a configuration
 abbrev pub name_of : PassedMethod → Data

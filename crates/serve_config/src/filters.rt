@@ -10,20 +10,12 @@ ghost use Rattle.serve_config.specs.Files.{AreFiles, IsFile, all_keys, has_slot,
 use crate::fault::Fault;
 use crate::place::Place;
 use filter_slots::{Slot, Socket};
+use filter_text::FilterFile;
 use serde_json::{Map, Value};
 use std::alloc::{AllocError, Global};
 
 // The place of the neighbours' filters in a configuration.
 const NEIGHBOURS: &str = "filters.neighbours";
-
-/// The file of the filter of a slot.
-#[derive(Debug, Drop)]
-pub struct FilterFile {
-    /// The slot.
-    pub slot: Slot,
-    /// The file's path, not empty.
-    pub file: String,
-}
 
 /// The files of `filters`: those of the sockets first, then those of the neighbours, of which there are so many. None if the
 /// configuration has no such key.

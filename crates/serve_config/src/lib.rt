@@ -32,13 +32,12 @@ mod value;
 mod web;
 
 pub use fault::Fault;
-pub use filters::FilterFile;
 pub use freshness::{Freshness, RefreshRule, UrlPart};
 pub use json_fault::{Expected, expected_at, offset_of};
 pub use mirrors::MirrorPath;
 pub use origins::SixNetwork;
 pub use own_key::{has_key, has_own_key, is_known, keep_keys, stays};
-pub use passing::{Large, PassedMethod};
+pub use passing::Large;
 pub use settings::{LogFormat, LogLevel, Settings};
 pub use shared_fields::SharedField;
 pub use six_clients::SixClients;

@@ -5,10 +5,11 @@ ghost use Rattle.serve_config.specs.Files.{AreFiles};
 ghost use Rattle.serve_config.specs.Group.{IsReachable, IsSecret};
 
 use crate::fault::Fault;
-use crate::filters::{FilterFile, filters};
+use crate::filters::filters;
 use crate::group::{keys, neighbours};
 use crate::place::Place;
 use crate::value::{address, networks, number, port, truth};
+use filter_text::FilterFile;
 use neighbours::End;
 use node_words::Config;
 use serde_json::Value;

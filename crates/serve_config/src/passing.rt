@@ -2,59 +2,19 @@
 ghost use Rattle.std.specs.Prelude.{◌≡◌, ◌≤◌, [], ◌∷◌, ◌++◌, All, IfOk, IfSome, Some, bytes_eq, false, map};
 ghost use Rattle.std.specs.List.{IsDistinct, list_any};
 ghost use Rattle.serde_json.specs.View.{view};
-ghost use Rattle.serve_config.specs.Passing.{AreConnectPorts, AreMethods, large_said, method_name, name_of};
+ghost use Rattle.http_traffic.specs.Methods.{method_name};
+ghost use Rattle.serve_config.specs.Passing.{AreConnectPorts, AreMethods, large_said, name_of};
 
 use crate::fault::Fault;
 use crate::place::Place;
 use crate::shape::items;
 use crate::value::{number, number_of, word};
+use http_traffic::PassedMethod;
 use serde_json::Value;
 use std::alloc::{AllocError, Global};
 
 // The most ports of `connect_ports`.
 const MOST_PORTS: usize = 64;
-
-/// A method (RFC 9110, section 9.3; RFC 5789) beside GET whose requests are passed on as they are.
-#[derive(Clone, Copy, Debug, PartialEq, Eq)]
-pub enum PassedMethod {
-    Head,
-    Post,
-    Put,
-    Delete,
-    Options,
-    Patch,
-}
-
-impl PassedMethod {
-    /// The method as it stands in a request.
-    pub fn name(self) -> &'static str
-        ensures { result.now ≡ method_name self }
-    {
-        match self {
-            PassedMethod::Head => "HEAD",
-            PassedMethod::Post => "POST",
-            PassedMethod::Put => "PUT",
-            PassedMethod::Delete => "DELETE",
-            PassedMethod::Options => "OPTIONS",
-            PassedMethod::Patch => "PATCH",
-        }
-    }
-
-    // The method of this name, if it is one of them.
-    fn of(name: &str) -> Option<PassedMethod>
-        ensures { IfSome result (λ method. name.now ≡ method_name method) }
-    {
-        match name {
-            "HEAD" => Some(PassedMethod::Head),
-            "POST" => Some(PassedMethod::Post),
-            "PUT" => Some(PassedMethod::Put),
-            "DELETE" => Some(PassedMethod::Delete),
-            "OPTIONS" => Some(PassedMethod::Options),
-            "PATCH" => Some(PassedMethod::Patch),
-            _ => None,
-        }
-    }
-}
 
 /// What becomes of an answer that is too long for the store.
 #[derive(Clone, Copy, Debug, PartialEq, Eq)]

@@ -1,6 +1,6 @@
 //! The blocks of files that are written.
 use bpf_run::End;
-use capture::{COUNTS_OCTETS, Fate, HEAD_OCTETS, counts_block, datagram_block, head};
+use capture::{COUNTS_OCTETS, Fate, HEAD_OCTETS, counts_block, datagram_block, file_head};
 use std::test::Fail;
 
 // The header of RFC 791's form whose checksum was worked by hand: 0x4500 + 0x001f + 0x4011 + 0x7f00 + 0x0001 + 0x7f00 + 0x0002 is
@@ -34,7 +34,7 @@ fn a_datagram_is_a_block(rt: HostRuntime) -> Result<(), Fail> {
 
 #[test]
 fn a_file_begins_and_ends(rt: HostRuntime) -> Result<(), Fail> {
-    assert_eq!(rt; head().len(), HEAD_OCTETS);
+    assert_eq!(rt; file_head().len(), HEAD_OCTETS);
     let counts = counts_block(Fate::Rejected, 1, 7, 2);
     let wanted: [u8; 52] = [
         0, 0, 0, 5, 0, 0, 0, 52, 0, 0, 0, 2, 0, 0, 0, 0, 0, 0, 0, 1, 0, 4, 0, 8, 0, 0, 0, 0, 0, 0,

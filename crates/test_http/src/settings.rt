@@ -2,9 +2,8 @@
 //! leaves out. Which configurations are accepted, and what is told of all others, is in cases/configurations.
 
 use crate::rows::{NO_MEMORY, all_true};
-use serve_config::{
-    Freshness, Large, LogLevel, PassedMethod, RefreshRule, Settings, SharedField, UrlPart,
-};
+use http_traffic::PassedMethod;
+use serve_config::{Freshness, Large, LogLevel, RefreshRule, Settings, SharedField, UrlPart};
 use std::alloc::Global;
 use std::process::Abort;
 

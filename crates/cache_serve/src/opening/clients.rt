@@ -9,7 +9,7 @@ use crossbeam_channel::{Receiver, Sender};
 use futures::channel::oneshot;
 use http_clients::{ClientSocket, client_sockets, listen_at_six};
 use proxy_node::{AtDesk, Outbox, ThreadSeat};
-use proxy_site::{Port, ServeFault};
+use proxy_setup::{Port, ServeFault};
 use proxy_state::{FrontRules, Shared};
 use std::alloc::{AllocError, AllocGlobal, Global};
 use std::io::ErrorKind;

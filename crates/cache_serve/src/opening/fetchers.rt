@@ -8,7 +8,7 @@ use http_fetches::Budget;
 use http_traffic::Job;
 use name_lookup::NameDesk;
 use proxy_node::AtDesk;
-use proxy_site::{FETCHERS, ServeFault};
+use proxy_setup::{FETCHERS, ServeFault};
 use proxy_state::{Lanes, Shared};
 use server_connections::KeptShare;
 use std::alloc::{AllocError, AllocGlobal, Global};

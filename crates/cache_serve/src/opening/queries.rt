@@ -4,7 +4,7 @@ use crate::queries::{BoundQueries, QueryLine, QueryTask};
 use crate::starting::begin;
 use crossbeam_channel::{Receiver, Sender, unbounded};
 use proxy_node::{AtDesk, Outbox, Outgoing, Overseen};
-use proxy_site::ServeFault;
+use proxy_setup::ServeFault;
 use proxy_state::Shared;
 use std::alloc::{AllocGlobal, Global};
 use std::mem;

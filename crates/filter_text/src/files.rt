@@ -1,12 +1,9 @@
-//! Filter programs in the files that a configuration names.
-//!
-//! Nothing is proved of files. Tested by: tests/serve_operator, cases/serve.
-#![tactic(auto)]
-
+//! Filter programs in the files that a configuration names. Nothing is proved of files.
+use crate::fault::ProgramFault;
+use crate::file::FilterFile;
+use crate::reading::read_program;
 use bpf_check::Checked;
 use filter_slots::{Slot, Socket};
-use filter_text::{ProgramFault, read_program};
-use serve_config::FilterFile;
 use std::alloc::AllocGlobal;
 use std::fs::{File, Files};
 use std::io::Read;

@@ -1,7 +1,7 @@
 //! Captures of the datagrams that come in, for the administration: the query thread writes the file's blocks, and hands them over
 //! in pieces through a bounded channel.
-use crate::limits::CaptureLimits;
-use capture::{COUNTS_OCTETS, Fate, HEAD_OCTETS, counts_block, datagram_block, head};
+use crate::capture_limits::CaptureLimits;
+use capture::{COUNTS_OCTETS, Fate, HEAD_OCTETS, counts_block, datagram_block, file_head};
 use filter_slots::{Datagram, Judged, cut};
 use futures::channel::mpsc;
 use std::alloc::{AllocError, Global};
@@ -209,7 +209,7 @@ impl Recording {
             to,
             until,
             stage: Stage::Open,
-            piece: head().to_vec(alloc)?,
+            piece: file_head().to_vec(alloc)?,
             left: limits.octets().saturating_sub(begun),
             accepted: none,
             cut: none,

@@ -1,6 +1,6 @@
 //! What a proxy is given at its start.
 use access_log::writer::LogTask;
-use filter_files::Filter;
+use filter_text::Filter;
 use proxy_state::{AccessLog, Notices};
 
 /// What a proxy is given at its start beside its settings. `F` is a file.

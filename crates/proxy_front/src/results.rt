@@ -2,10 +2,6 @@
 use crossbeam_channel::Sender;
 use fair_use::{SharedEnd, Upload, may_have_changed};
 use filter_slots::Moment;
-use forwarding::{
-    Exchange, Flight, Landed, Life, Profile, Unwanted, confirmed, has_other_rules, hides_rules,
-    object_of, refusal, stale_object, unkept_object,
-};
 use http_header::HeaderMap;
 use http_rules::{StaleUse, changed_keys, complete_length, is_error, supersedes};
 use http_traffic::{Change, Ended, FetchEnd, FetchFault, Fetched, LeftChange, Page, Supplier};
@@ -13,8 +9,9 @@ use httpdate::HttpDate;
 use node_words::{Event, Mode, Outcome};
 use object_store::{CacheKey, SharedObject};
 use proxy_state::{
-    Cause, RETRIES, RETRY_MILLIS, Shared, Stale, TakeEvents, begin_again, date_seconds,
-    micros_since, withdraw,
+    Cause, Exchange, Flight, Landed, Life, Profile, RETRIES, RETRY_MILLIS, Shared, Stale,
+    TakeEvents, Unwanted, begin_again, confirmed, date_seconds, has_other_rules, hides_rules,
+    micros_since, object_of, refusal, stale_object, unkept_object, withdraw,
 };
 use shared_thread::Submit;
 use std::alloc::Global;
