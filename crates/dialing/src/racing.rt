@@ -5,10 +5,11 @@ ghost use Rattle.futures.specs.Task.{Covers, Keeps};
 use fair_use::{Move, Race};
 use futures::Future;
 use futures::task::{Context, Poll};
-use http_traffic::{Addresses, Ticket};
+use http_traffic::{AdmittedAddresses, Ticket};
+use origin_rules::Admitted;
 use std::alloc::Global;
 use std::io;
-use std::net::{Net, SocketAddr};
+use std::net::Net;
 use std::sync::Wait;
 use std::time::{Clock, Duration, Instant};
 use tokio::net::{ConnectFuture, TcpStream};
@@ -26,7 +27,7 @@ const FILE_PATIENCE: u64 = 1_000;
 #[derive(Drop)]
 pub struct Connected {
     pub socket: TcpStream,
-    pub server: SocketAddr,
+    pub server: Admitted,
 }
 
 /// Why a server was not connected to.
@@ -42,7 +43,7 @@ pub enum DialFault {
 
 // An attempt.
 struct Attempt {
-    server: SocketAddr,
+    server: Admitted,
     // When in the race it began.
     began: u64,
     // While it is under way.
@@ -70,7 +71,7 @@ impl Drop for Attempt {
 pub struct Dialing<R> {
     rt: R,
     handle: Handle,
-    servers: Addresses,
+    servers: AdmittedAddresses,
     race: Race,
     began: Option<Instant>,
     attempts: Vec<Attempt>,
@@ -110,7 +111,7 @@ impl<R: Net + Wait + Clock + Copy> Dialing<R> {
         rt: R,
         alloc: Global,
         handle: Handle,
-        servers: Addresses,
+        servers: AdmittedAddresses,
         limit: Duration,
     ) -> Dialing<R> {
         let race = Race::new(servers.as_slice().len(), millis(limit));
@@ -139,7 +140,7 @@ impl<R: Net + Wait + Clock + Copy> Dialing<R> {
         let attempt = Attempt {
             server,
             began: now,
-            connecting: Some(TcpStream::connect(&self.rt, server, self.handle.reactor())),
+            connecting: Some(TcpStream::connect(&self.rt, server.address(), self.handle.reactor())),
             lacks_file: false,
             ticket,
         };
@@ -166,7 +167,7 @@ impl<R: Net + Wait + Clock + Copy> Dialing<R> {
                 attempt.lacks_file = false;
                 let connecting = TcpStream::connect(
                     &self.rt,
-                    attempt.server,
+                    attempt.server.address(),
                     self.handle.reactor(),
                 );
                 put(&mut attempt.connecting, Some(connecting));
@@ -235,7 +236,7 @@ impl<R: Wait + Clock> Dialing<R> {
     }
 
     // The address of the attempt at this place, which has ended.
-    fn server_at(&mut self, place: usize) -> Option<SocketAddr> {
+    fn server_at(&mut self, place: usize) -> Option<Admitted> {
         let attempt = self.attempts.get_mut(place)?;
         put(&mut attempt.connecting, None);
         put(&mut attempt.ticket, None);
@@ -250,7 +251,7 @@ impl<R: Wait + Clock> Dialing<R> {
         let socket = connected.ok()?;
         self.give_up(now);
         put(&mut self.sleep, None);
-        self.servers.note_connected(server);
+        self.servers.note_connected(server.address());
         Some(Connected { socket, server })
     }
 

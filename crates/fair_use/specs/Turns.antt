@@ -3,7 +3,6 @@ use Rattle.std.specs.Prelude.{ℕ, ◌+◌, ◌==◌, ◌&&◌, not, Bool, true,
 use Rattle.std.specs.List.{list_any}
 use Rattle.std.specs.Net.Addr.{ipv4_bits, ipv6_bits}
 use Rattle.std.specs.declared.net.ip_addr.IpAddr.{IpAddr}
-use Rattle.std.specs.declared.net.socket_addr.SocketAddr.{SocketAddr}
 use Rattle.std.specs.declared.net.ip_addr.IpAddr.TheVariants.{V4, V6}
 
 -- whether both are the same address
@@ -44,8 +43,3 @@ brought addresses place (Some address) = address ∷ take place addresses ++ dro
 
 abbrev pub forward : ℕ → List IpAddr → List IpAddr
 forward place addresses = brought addresses place (slice_get addresses place)
-
--- those that are admitted, in their order, of pairs of an address and whether it is
-abbrev pub chosen : List (SocketAddr × Bool) → List SocketAddr
-chosen [] = []
-chosen (one ∷ judged) = if one.1 then one.0 ∷ chosen judged else chosen judged

@@ -27,7 +27,7 @@ pub use race::{Move, Race};
 pub use remembered::{Known, Spans, Use, Waited, patience};
 pub use room::{EnterFault, Holder, Room, Taken};
 pub use speed::{WINDOW_SECONDS, is_too_slow};
-pub use turns::{chosen, forward, in_turn};
+pub use turns::{forward, in_turn};
 pub use unanswered::{Upload, may_have_changed};
 pub use unjoined::{MOST_UNJOINED, SharedEnd, is_recent, is_remembered};
 pub use waiting_line::{Crew, Standing, may_one_more, next_turn, take_turn};

@@ -1,10 +1,10 @@
 //! The order in which the addresses of a name are connected to.
 ghost use Rattle.std.specs.Prelude.{◌≡◌, ◌≤◌, ◌++◌, [], IfOk, drop, length, take};
 ghost use Rattle.std.specs.List.{list_any};
-ghost use Rattle.fair_use.specs.Turns.{by_turns, chosen, first_ones, forward, in_turn, is_of, is_same};
+ghost use Rattle.fair_use.specs.Turns.{by_turns, first_ones, forward, in_turn, is_of, is_same};
 
 use std::alloc::{AllocError, Global};
-use std::net::{IpAddr, SocketAddr};
+use std::net::IpAddr;
 
 /// The most addresses of a name that are connected to.
 const MOST: usize = 8;
@@ -140,19 +140,6 @@ pub fn forward(alloc: Global, addresses: &[IpAddr], place: usize) -> Result<Vec<
         list.extend_from_slice(&addresses[place + 1..])?;
     } else {
         list.extend_from_slice(addresses)?;
-    }
-    Ok(list)
-}
-
-/// Those of these addresses that are admitted, in their order: each stands beside whether it is. Errors: out of memory.
-pub fn chosen(alloc: Global, judged: Vec<(SocketAddr, bool)>) -> Result<Vec<SocketAddr>, AllocError>
-    ensures { IfOk result (λ list. list.items ≡ chosen judged.items) }
-{
-    let mut list = Vec::new(alloc);
-    for (address, is_admitted) in judged {
-        if is_admitted {
-            list.push(address)?;
-        }
     }
     Ok(list)
 }

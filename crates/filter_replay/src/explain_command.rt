@@ -1,12 +1,12 @@
 //! The command `explain`.
 
+use crate::fault::ScriptFault;
 use crate::files::{FAULT, program_in};
 use bpf_asm::to_text;
 use bpf_check::Checked;
 use bpf_run::machine::Machine;
 use bpf_run::{Packet, Run, run_states};
 use capture::{Link, UdpView, take_start, udp_at};
-use capture_script::ScriptFault;
 use std::fs::File;
 use std::io::{self, BufReader};
 use std::process::ExitCode;

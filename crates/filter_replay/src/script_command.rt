@@ -1,10 +1,13 @@
 //! `replay --script`, which writes the script of a capture, and `replay --expect`, which compares a node's answers with a capture.
 
+use crate::expected::{Expected, expect};
 use crate::files::{FAULT, reader_of};
 use crate::report_text::socket_name;
+use crate::script::write_script;
 use crate::script_options::ScriptOptions;
+use crate::tally::Answers;
+use crate::waiting::Shown;
 use bpf_run::Socket;
-use capture_script::{Answers, Expected, Shown, expect, write_script};
 use std::io;
 use std::net::Ipv4Addr;
 use std::process::ExitCode;

@@ -1,6 +1,7 @@
 //! The options of `replay --script` and `replay --expect`.
 
-use capture_script::{Plan, Sockets};
+use crate::part::Sockets;
+use crate::plan::Plan;
 use node_core::Network;
 use std::alloc::Global;
 use std::net::Ipv4Addr;

@@ -24,6 +24,7 @@ mod requests;
 mod responses;
 mod server;
 mod serving;
+mod sharing;
 mod texts;
 mod tunnel;
 mod upload;

@@ -2,6 +2,7 @@
 use crate::account::SharedFacts;
 use futures::Future;
 use futures::channel::mpsc;
+use http_rules::AdmittedOrigin;
 use http_traffic::{Coming, Early, PassedHead, Piece, Road, Shape, Told, TunnelEnd};
 use object_store::SharedObject;
 use std::alloc::AllocError;
@@ -93,9 +94,9 @@ pub(crate) trait Answers: Drop {
         false
     }
 
-    /// Whether this server may be connected to for a tunnel, as an origin server.
-    fn admits(&self, _server: SocketAddr) -> bool {
-        false
+    /// This server, if a tunnel may lead to it as to an origin server.
+    fn admitted(&self, _server: SocketAddr) -> Option<AdmittedOrigin> {
+        None
     }
 
     /// Called once for each response, including refusals.

@@ -1,19 +1,22 @@
 //! The server for clients of the proxy.
-ghost use Rattle.std.specs.Prelude.{◌<◌};
+ghost use Rattle.std.specs.Prelude.{◌≡◌, ◌<◌, IfSome};
 ghost use Rattle.futures.specs.Poll.{OnPending};
 ghost use Rattle.futures.specs.Task.{Covers, Keeps};
+ghost use Rattle.http_clients.specs.Sharing.{is_for_another};
 
 use crate::account::SharedFacts;
-use crate::cache_status::{label_of, stale_age, via_of};
+use crate::cache_status::{label_of, via_of};
 use crate::given::{failure, fields_of_passed, given_of, passed_given, status_after};
 use crate::requests::{Answers, Given, PassedAnswer, Serves};
 use crate::server::{ClientSocket, ServeLimits, serve};
+use crate::sharing::is_for_another;
 use crate::tunnel::KeepTunnel;
 use client_streams::Stops;
 use crossbeam_channel::Sender;
 use futures::channel::oneshot;
 use futures::task::{Context, Poll};
 use futures::{Future, ready};
+use http_rules::AdmittedOrigin;
 use http_traffic::{
     Asking, Coming, FetchFault, FollowUp, Forward, Front, Outcome, PassFault, PassOn, PassedHead,
     Passing, Road, Shape, Told, TunnelEnd,
@@ -237,10 +240,10 @@ impl<F: Front + FollowUp + PassOn> Answers for FrontAnswers<F> {
         }
     }
 
-    fn admits(&self, server: SocketAddr) -> bool {
+    fn admitted(&self, server: SocketAddr) -> Option<AdmittedOrigin> {
         match self.context.front.try_borrow_mut() {
-            Ok(mut front) => front.admits(server),
-            Err(_) => false,
+            Ok(mut front) => front.admitted(server),
+            Err(_) => None,
         }
     }
 
@@ -434,20 +437,6 @@ impl<F: Front + FollowUp + PassOn> Waits<F> {
         Poll::Ready(Some(answer))
     }
 
-    // Whether the answer is only for another client: the request joined that one's fetch, whose object may not be stored.
-    fn is_for_another(&self, answer: &Outcome) -> bool {
-        if self.forward == Forward::Collapsed
-            && let Outcome::Got {
-                object,
-                supplier,
-                ..
-            } = answer
-        {
-            return object.get().life() == 0 && stale_age(*supplier).is_none();
-        }
-        false
-    }
-
     // The content of the response with this answer to the request of these facts. Errors: the status of a failure.
     fn content<K: Drop>(
         &self,
@@ -580,10 +569,12 @@ impl<F: Front + FollowUp + PassOn, K: Drop> Waiting<F, K> {
         waits.poll_outcome(cx)
     }
 
-    // Whether the answer is only for another client, as `Waits::is_for_another` has it.
-    fn is_for_another(&self, answer: &Option<Outcome>) -> bool {
+    // Whether the answer is only for another client.
+    fn is_for_another(&self, answer: &Option<Outcome>) -> bool
+        ensures alone { IfSome self.now.waits (λ w. IfSome answer.now (λ a. result ≡ is_for_another w.forward a)) }
+    {
         match (&self.waits, answer) {
-            (Some(waits), Some(answer)) => waits.is_for_another(answer),
+            (Some(waits), Some(answer)) => is_for_another(waits.forward, answer),
             _ => false,
         }
     }

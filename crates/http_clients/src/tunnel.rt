@@ -1,4 +1,5 @@
 //! Tunnels, which clients open by CONNECT (RFC 9110, section 9.3.6): the way to the server.
+ghost use Rattle.std.specs.Prelude.{◌≡◌, IfSome};
 ghost use Rattle.futures.specs.Poll.{OnPending};
 ghost use Rattle.futures.specs.Task.{Covers, Keeps};
 
@@ -9,7 +10,8 @@ use dialing::{Connected, DialFault, Dialing};
 use futures::channel::oneshot;
 use futures::task::{Context, Poll};
 use futures::{Future, ready};
-use http_traffic::{Addresses, AdmitFault, Server, Ticket, TunnelEnd};
+use http_rules::Admitted;
+use http_traffic::{Addresses, AdmitFault, AdmittedAddresses, Server, Ticket, TunnelEnd};
 use shared_thread::Paced;
 use std::alloc::{AllocError, Global};
 use std::mem;
@@ -174,7 +176,7 @@ impl<R: Clock + Copy> Dialer<R> {
 // Apart, since only what connects a socket names `Net` here: the prover lays out a bound anew in each function that has it.
 impl<R: Net + Wait + Clock + Copy> Dialer<R> {
     // Connects to one of these addresses, with a timeout. Returns `None` if out of memory.
-    fn connect(&self, servers: Addresses, limit: Duration) -> Option<Dialing<R>> {
+    fn connect(&self, servers: AdmittedAddresses, limit: Duration) -> Option<Dialing<R>> {
         match self.handle.clone() {
             Ok(handle) => Some(Dialing::new(self.rt, self.alloc, handle, servers, limit)),
             Err(_) => {
@@ -407,18 +409,28 @@ impl<R: Clock + Copy, H: Answers> Opening<R, H> {
         }
     }
 
-    // Each of these addresses, and whether a tunnel may lead to it. Errors: out of memory.
-    fn judged(&self, servers: &Addresses) -> Result<Vec<(SocketAddr, bool)>, AllocError> {
+    // This address as one that a tunnel may lead to, if it may.
+    fn judged_one(&self, server: SocketAddr) -> Option<Admitted>
+        ensures judged { IfSome result (λ it. it.is_judged ≡ self.now.is_origin) }
+    {
+        if self.is_origin {
+            Some(Admitted::origin(self.answers.admitted(server)?))
+        } else {
+            Some(Admitted::neighbour(server))
+        }
+    }
+
+    // Each of these addresses, if a tunnel may lead to it. Errors: out of memory.
+    fn judged(&self, servers: &Addresses) -> Result<Vec<Option<Admitted>>, AllocError> {
         let mut judged = Vec::new(self.dialer.alloc);
         for server in servers.as_slice() {
-            let admits = !self.is_origin || self.answers.admits(*server);
-            judged.push((*server, admits))?;
+            judged.push(self.judged_one(*server))?;
         }
         Ok(judged)
     }
 
     // Those of these addresses that a tunnel may lead to. Errors: the status to answer.
-    fn admitted(&self, servers: Addresses) -> Result<Addresses, u16> {
+    fn admitted(&self, servers: Addresses) -> Result<AdmittedAddresses, u16> {
         let Ok(judged) = self.judged(&servers) else {
             drop(servers);
             return Err(503);

@@ -1,4 +1,5 @@
 //! Connections to servers, as they are made.
+ghost use Rattle.std.specs.Prelude.{◌≡◌, Bool, IfSome};
 ghost use Rattle.futures.specs.Poll.{OnPending};
 ghost use Rattle.futures.specs.Task.{Covers, Keeps};
 
@@ -6,7 +7,8 @@ use crate::fetching::FetchRules;
 use dialing::{Connected, DialFault, Dialing};
 use futures::Future;
 use futures::task::{Context, Poll};
-use http_traffic::{Addresses, Admit, FetchFault};
+use http_rules::Admitted;
+use http_traffic::{Admit, AdmittedAddresses, FetchFault};
 use shared_thread::{FETCH_TURN, Paced};
 use std::alloc::Global;
 use std::net::{Net, SocketAddr};
@@ -20,18 +22,23 @@ pub trait Dial: Drop {
     /// A connection that is being made.
     type Connecting: Connect;
 
-    /// Whether this server may be connected to.
-    fn admits(&self, server: SocketAddr) -> bool;
+    // Whether the servers are origins, which are judged.
+    ghost judges: { Self → Bool };
+
+    /// This server as one that may be connected to, if it may be.
+    fn admitted(&self, server: SocketAddr) -> Option<Admitted>
+        ensures same { IfSome result (λ it. it.server ≡ server) }
+        ensures judged { IfSome result (λ it. it.is_judged ≡ Self.judges self.now) };
 
     /// Connects to one of these addresses, with a timeout. Returns `None` if out of memory.
-    fn connect(&self, servers: &Addresses) -> Option<Self::Connecting>;
+    fn connect(&self, servers: &AdmittedAddresses) -> Option<Self::Connecting>;
 }
 
 /// A connection that was made, and the address that it leads to.
 #[derive(Drop)]
 pub struct Reached {
     pub socket: Paced,
-    pub server: SocketAddr,
+    pub server: Admitted,
 }
 
 /// A connection that is being made.
@@ -94,11 +101,17 @@ impl<R: Drop, A: Drop> Drop for Dialer<R, A> {
 impl<R: Net + Wait + Clock + Copy, A: Admit> Dial for Dialer<R, A> {
     type Connecting = Dialing<R>;
 
-    fn admits(&self, server: SocketAddr) -> bool {
-        !self.is_origin || self.rules.admit.admits(server)
+    ghost judges = { λ dialer. dialer.is_origin };
+
+    fn admitted(&self, server: SocketAddr) -> Option<Admitted> {
+        if self.is_origin {
+            Some(Admitted::origin(self.rules.admit.admitted(server)?))
+        } else {
+            Some(Admitted::neighbour(server))
+        }
     }
 
-    fn connect(&self, servers: &Addresses) -> Option<Dialing<R>> {
+    fn connect(&self, servers: &AdmittedAddresses) -> Option<Dialing<R>> {
         let servers = servers.share(self.alloc).ok()?;
         match self.handle.clone() {
             Ok(handle) => Some(Dialing::new(self.rt, self.alloc, handle, servers, self.connecting)),

@@ -10,7 +10,7 @@ use crate::moves::{Moves, Noted, Patience, Speed, Stillness};
 use crate::reply::{Answer, Reply};
 use futures::Future;
 use futures::task::{Context, Poll};
-use http_rules::may_retry;
+use http_rules::{Admitted, may_retry};
 use http_traffic::{FetchFault, Page};
 use hyper::client::conn::http1::Parts;
 use shared_thread::Paced;
@@ -88,12 +88,12 @@ pub trait Talk: Drop {
     type Talking: Future<Output = Result<Self::Page, FetchFault>>;
 
     /// Starts the exchange over a new connection to this server. Returns `None` if the request cannot be made.
-    fn talk(&mut self, server: SocketAddr, socket: Paced) -> Option<Self::Talking>
+    fn talk(&mut self, server: Admitted, socket: Paced) -> Option<Self::Talking>
         ensures { IfSome result Self.Talking.can_poll };
 
     /// Starts the exchange over a connection to this server that was kept. Returns `None` if there is none, or if the request cannot be
     /// made.
-    fn resume(&mut self, server: SocketAddr) -> Option<Self::Talking>
+    fn resume(&mut self, server: Admitted) -> Option<Self::Talking>
         ensures { IfSome result Self.Talking.can_poll };
 
     /// Whether the exchange, which has failed, may be started once more over a new connection.
@@ -103,7 +103,7 @@ pub trait Talk: Drop {
     fn may_go_on(&self, fault: FetchFault) -> bool;
 
     /// Keeps the connection to this server that brought the page, if it may carry another request.
-    fn keep(&mut self, server: SocketAddr, page: &mut Self::Page);
+    fn keep(&mut self, server: Admitted, page: &mut Self::Page);
 }
 
 /// A future in a box, so that what has it is small where it is moved and cleared.
@@ -140,7 +140,7 @@ impl<F: Future> Future for Aside<F> {
 }
 
 // Starts an exchange over a connection to the first of these addresses to which one was kept. `None` if there is none.
-fn resumed_at<T: Talk>(servers: &[SocketAddr], talk: &mut T) -> Option<(SocketAddr, T::Talking)>
+fn resumed_at<T: Talk>(servers: &[Admitted], talk: &mut T) -> Option<(Admitted, T::Talking)>
     ensures { IfSome result (λ it. T.Talking.can_poll it.1) }
 {
     for server in servers {
@@ -154,7 +154,7 @@ fn resumed_at<T: Talk>(servers: &[SocketAddr], talk: &mut T) -> Option<(SocketAd
 /// Connects, then runs the exchange.
 pub struct Call<C, T: Talk> {
     // The address that is connected, once one is.
-    server: Option<SocketAddr>,
+    server: Option<Admitted>,
     connecting: Option<C>,
     talk: T,
     talking: Option<T::Talking>,
@@ -189,7 +189,7 @@ impl<C: Connect, T: Talk> Call<C, T> {
 
     /// A call that has begun, over a connection to the first of these addresses to which one was kept. Errors: the exchange, if there is
     /// none.
-    pub fn over_kept(servers: &[SocketAddr], talk: T) -> Result<Call<C, T>, T>
+    pub fn over_kept(servers: &[Admitted], talk: T) -> Result<Call<C, T>, T>
         ensures { IfOk result (λ c. IfSome c.talking T.Talking.can_poll) }
     {
         let mut talk = talk;
@@ -200,7 +200,7 @@ impl<C: Connect, T: Talk> Call<C, T> {
     }
 
     // A call to this server that has begun, over a connection that was kept.
-    fn resumed(server: SocketAddr, talk: T, talking: T::Talking) -> Call<C, T>
+    fn resumed(server: Admitted, talk: T, talking: T::Talking) -> Call<C, T>
         requires { T.Talking.can_poll talking }
         ensures { IfSome result.talking T.Talking.can_poll }
     {
@@ -244,7 +244,7 @@ impl<C: Connect, T: Talk> Call<C, T> {
     }
 
     /// The address that is connected. `None` if none is.
-    pub fn server(&self) -> Option<SocketAddr> {
+    pub fn server(&self) -> Option<Admitted> {
         self.server
     }
 
@@ -404,7 +404,7 @@ impl<R: Wait + Clock + Copy, X: Ask> Get<R, X> {
     }
 
     // A connection to this server that was kept.
-    fn kept_one(&self, server: SocketAddr) -> Option<Paced> {
+    fn kept_one(&self, server: Admitted) -> Option<Paced> {
         match &self.kept {
             Some(kept) => kept.take(server, self.asked.host.as_str()),
             None => None,
@@ -414,13 +414,13 @@ impl<R: Wait + Clock + Copy, X: Ask> Get<R, X> {
     // Starts the exchange over this connection to this server. Returns `None` if the request cannot be made.
     fn begin(
         &self,
-        server: SocketAddr,
+        server: Admitted,
         noted: Noted,
         moves: &Moves,
     ) -> Option<Borne<R, X::Answer, X::Connection>>
         ensures { IfSome result (λ b. IfSome b.conn X.Connection.can_poll) }
     {
-        let (answer, conn) = self.http.ask(server, noted, &self.asked, moves)?;
+        let (answer, conn) = self.http.ask(server.address(), noted, &self.asked, moves)?;
         let reply = Reply::new(self.alloc, answer, self.may_last());
         let (patience, speed) = (self.stillness.patience(moves), self.stillness.speed(moves));
         Some(Borne::new(reply, conn, patience, speed))
@@ -432,7 +432,7 @@ impl<R: Wait + Clock + Copy, P: Drop, X: Ask<Purse = P>> Talk for Get<R, X> {
 
     type Talking = Aside<Borne<R, X::Answer, X::Connection>>;
 
-    fn talk(&mut self, server: SocketAddr, socket: Paced) -> Option<Self::Talking> {
+    fn talk(&mut self, server: Admitted, socket: Paced) -> Option<Self::Talking> {
         put(&mut self.used, None);
         let Some((moves, other)) = Moves::pair(self.alloc) else {
             drop(socket);
@@ -443,7 +443,7 @@ impl<R: Wait + Clock + Copy, P: Drop, X: Ask<Purse = P>> Talk for Get<R, X> {
         Aside::of(self.alloc, begun)
     }
 
-    fn resume(&mut self, server: SocketAddr) -> Option<Self::Talking> {
+    fn resume(&mut self, server: Admitted) -> Option<Self::Talking> {
         let socket = self.kept_one(server)?;
         let Some((moves, other)) = Moves::pair(self.alloc) else {
             drop(socket);
@@ -468,7 +468,7 @@ impl<R: Wait + Clock + Copy, P: Drop, X: Ask<Purse = P>> Talk for Get<R, X> {
         }
     }
 
-    fn keep(&mut self, server: SocketAddr, page: &mut Paid<P>) {
+    fn keep(&mut self, server: Admitted, page: &mut Paid<P>) {
         if let Some(kept) = &self.kept
             && let Some(socket) = page.socket.take()
         {

@@ -4,11 +4,11 @@ ghost use Rattle.futures.specs.Task.{Keeps};
 use crate::fetching::put;
 use futures::Future;
 use futures::task::{Context, Poll};
+use http_rules::Admitted;
 use server_connections::{IdlePlace, KeptShare};
 use shared_thread::{Paced, Tend};
 use std::alloc::{AllocError, Global};
 use std::cell::RefCell;
-use std::net::SocketAddr;
 use std::rc::Rc;
 use std::sync::Wait;
 use std::time::{Clock, Duration, Instant};
@@ -72,9 +72,9 @@ struct Bench {
 impl Bench {
     // Takes the connection to this server under this name that was kept last and may still carry a request. Those that may not are
     // closed on the way.
-    fn take(&mut self, server: SocketAddr, host: &str, now: Instant) -> Option<Paced> {
+    fn take(&mut self, server: Admitted, host: &str, now: Instant) -> Option<Paced> {
         for place in (0..self.idle.len()).rev() {
-            if place < self.idle.len() && self.idle[place].place.is_for(server, host) {
+            if place < self.idle.len() && self.idle[place].place.is_for(server.address(), host) {
                 let found = self.idle.remove(place).into_good(now);
                 if found.is_some() {
                     return found;
@@ -145,7 +145,7 @@ impl<R: Copy> Kept<R> {
 impl<R: Wait + Clock + Copy> Kept<R> {
     /// Takes a connection to this server under this name on which nothing has come since its last answer. `None` if there is none, or if
     /// the clock cannot be read.
-    pub fn take(&self, server: SocketAddr, host: &str) -> Option<Paced> {
+    pub fn take(&self, server: Admitted, host: &str) -> Option<Paced> {
         if self.is_empty() {
             return None;
         }
@@ -155,14 +155,16 @@ impl<R: Wait + Clock + Copy> Kept<R> {
     }
 
     /// Keeps a connection to this server under this name whose last answer has been read whole. It is closed for lack of memory.
-    pub fn keep(&self, server: SocketAddr, host: String, socket: Paced) {
+    pub fn keep(&self, server: Admitted, host: String, socket: Paced) {
         let Some(until) = self.until() else {
             drop(socket);
             return;
         };
         match self.bench.try_borrow_mut() {
             Ok(mut bench) => {
-                let entered = bench.share.enter(&self.rt, self.alloc, server, host);
+                let entered = bench
+                    .share
+                    .enter(&self.rt, self.alloc, server.address(), host);
                 let Some(place) = entered else {
                     drop(socket);
                     return;

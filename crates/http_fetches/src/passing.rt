@@ -16,12 +16,12 @@ use futures::channel::mpsc;
 use futures::task::{Context, Poll};
 use futures::{Future, ready};
 use http_content::Relayed;
+use http_rules::Admitted;
 use http_traffic::{Change, FetchFault, LeftChange, PassFault, Passage, Piece, Server, Ticket};
 use hyper::Request;
 use hyper::client::conn::http1;
 use shared_thread::Paced;
 use std::alloc::Global;
-use std::net::SocketAddr;
 use std::time::{Clock, Duration};
 use tokio::time::Handle;
 
@@ -191,7 +191,7 @@ impl<Q: Drop, Y: Deliver<Q>> Talk for Post<Y, Q> {
 
     type Talking = Aside<Beside<Answering<Y::Answer>, Y::Connection>>;
 
-    fn talk(&mut self, _server: SocketAddr, socket: Paced) -> Option<Self::Talking> {
+    fn talk(&mut self, _server: Admitted, socket: Paced) -> Option<Self::Talking> {
         let Some(request) = self.next_request() else {
             drop(socket);
             return None;
@@ -215,7 +215,7 @@ impl<Q: Drop, Y: Deliver<Q>> Talk for Post<Y, Q> {
     }
 
     // What is passed on has a connection of its own.
-    fn resume(&mut self, _server: SocketAddr) -> Option<Self::Talking> {
+    fn resume(&mut self, _server: Admitted) -> Option<Self::Talking> {
         None
     }
 
@@ -228,7 +228,7 @@ impl<Q: Drop, Y: Deliver<Q>> Talk for Post<Y, Q> {
         fault == FetchFault::Cut && self.http.may_repeat(self.moves.has_answer())
     }
 
-    fn keep(&mut self, _server: SocketAddr, _page: &mut ()) {}
+    fn keep(&mut self, _server: Admitted, _page: &mut ()) {}
 }
 
 // Other handles to both. Returns `None` if there are too many.

@@ -8,9 +8,9 @@ use crate::exchange::{Call, Talk};
 use crate::fetching::put;
 use futures::task::{Context, Poll};
 use futures::{Future, ready};
-use http_traffic::{Addresses, AdmitFault, FetchFault, Server};
+use http_rules::Admitted;
+use http_traffic::{Addresses, AdmitFault, AdmittedAddresses, FetchFault, Server};
 use std::alloc::{AllocError, Global};
-use std::net::SocketAddr;
 
 /// How a visit ended.
 #[derive(Drop)]
@@ -31,7 +31,7 @@ pub struct Visit<D: Dial, T: Talk> {
     dialer: Option<D>,
     talk: Option<T>,
     // The addresses that the call may be made to, once they are known.
-    servers: Option<Addresses>,
+    servers: Option<AdmittedAddresses>,
     // The call, once it has begun.
     call: Option<Call<D::Connecting, T>>,
 }
@@ -88,25 +88,20 @@ impl<D: Dial, T: Talk> Visit<D, T> {
         }
     }
 
-    // Each of these addresses, and whether it is not known to be refused. Errors: out of memory.
-    fn judged(&self, servers: &Addresses) -> Result<Vec<(SocketAddr, bool)>, AllocError> {
+    // Each of these addresses, if it is admitted. Errors: out of memory.
+    fn judged(&self, servers: &Addresses) -> Result<Vec<Option<Admitted>>, AllocError> {
+        let Some(dialer) = &self.dialer else {
+            return Err(AllocError);
+        };
         let mut judged = Vec::new(self.alloc);
         for server in servers.as_slice() {
-            judged.push((*server, self.admits(*server)))?;
+            judged.push(dialer.admitted(*server))?;
         }
         Ok(judged)
     }
 
-    // Whether this address is not known to be refused.
-    fn admits(&self, server: SocketAddr) -> bool {
-        match &self.dialer {
-            Some(dialer) => dialer.admits(server),
-            None => true,
-        }
-    }
-
-    // Those of these addresses that are not known to be refused. Errors: there is none, or out of memory.
-    fn admitted(&self, servers: Addresses) -> Result<Addresses, AdmitFault> {
+    // Those of these addresses that are admitted. Errors: there is none, or out of memory.
+    fn admitted(&self, servers: Addresses) -> Result<AdmittedAddresses, AdmitFault> {
         match self.judged(&servers) {
             Ok(judged) => servers.admitted(self.alloc, judged),
             Err(_) => {
@@ -117,7 +112,7 @@ impl<D: Dial, T: Talk> Visit<D, T> {
     }
 
     // Makes the call to one of these addresses, if `call` gives one.
-    fn begin(&mut self, servers: Addresses)
+    fn begin(&mut self, servers: AdmittedAddresses)
         ensures { IfSome self.new.call (λ c. IfSome c.talking T.Talking.can_poll) }
     {
         let call = self.call(&servers);
@@ -127,7 +122,7 @@ impl<D: Dial, T: Talk> Visit<D, T> {
 
     // The call to one of these addresses: over a connection that was kept, or a new one. Returns `None` if it has begun before, or if
     // out of memory.
-    fn call(&mut self, servers: &Addresses) -> Option<Call<D::Connecting, T>>
+    fn call(&mut self, servers: &AdmittedAddresses) -> Option<Call<D::Connecting, T>>
         ensures { IfSome result (λ c. IfSome c.talking T.Talking.can_poll) }
     {
         let talk = self.talk.take()?;
@@ -138,7 +133,7 @@ impl<D: Dial, T: Talk> Visit<D, T> {
     }
 
     // The call to one of these addresses over a new connection. Returns `None` if out of memory.
-    fn new_call(&self, servers: &Addresses, talk: T) -> Option<Call<D::Connecting, T>>
+    fn new_call(&self, servers: &AdmittedAddresses, talk: T) -> Option<Call<D::Connecting, T>>
         ensures { IfSome result (λ c. IfSome c.talking T.Talking.can_poll) }
     {
         match &self.dialer {
@@ -164,7 +159,7 @@ impl<D: Dial, T: Talk> Visit<D, T> {
         }
         let server = call.server();
         match (server, &mut self.servers) {
-            (Some(server), Some(servers)) => servers.take_out(server),
+            (Some(server), Some(servers)) => servers.take_out(server.address()),
             _ => false,
         }
     }

@@ -1,4 +1,5 @@
 pub mod Collected
+pub mod Destinations
 pub mod Elements
 pub mod Equal
 pub mod Found

@@ -1,5 +1,5 @@
 -- What a response to a request that is not safe makes stale (RFC 9111, section 4.4).
-use Rattle.std.specs.Prelude.{ℕ, List, [], ◌∷◌, ◌++◌, codes, bytes_eq, length, nat_eq, nat_le, ◌&&◌, Bool, Option, Some, None, option_and_then, option_map, option_to_list, if◌then◌else◌}
+use Rattle.std.specs.Prelude.{ℕ, List, [], ◌++◌, codes, bytes_eq, length, nat_eq, nat_le, ◌&&◌, Bool, Option, Some, None, option_and_then, option_map, option_to_list, if◌then◌else◌}
 use Rattle.std.specs.Option.{option_eq, option_or}
 use Rattle.std.specs.Result.{result_ok}
 use Rattle.std.specs.Str.{is_utf8}
@@ -47,10 +47,12 @@ abbrev pub named_key : List ℕ → List ℕ → List Field → Option (List ℕ
 named_key key name fields =
     option_and_then (λ reference. option_and_then (key_beside reference) (url_of None key)) (first_value name fields)
 
--- what becomes stale: what was asked for, and what Location and Content-Location name of the same origin
-abbrev pub changed_keys : List ℕ → List ℕ → ℕ → List Field → List (List ℕ)
-changed_keys key method status fields =
-    if is_change method status
-    then key ∷ (option_to_list (named_key key (codes "location") fields)
-    ++ option_to_list (named_key key (codes "content-location") fields))
-    else []
+-- what Location and Content-Location name of the same origin
+abbrev pub named_keys : List ℕ → List Field → List (List ℕ)
+named_keys key fields =
+    option_to_list (named_key key (codes "location") fields)
+    ++ option_to_list (named_key key (codes "content-location") fields)
+
+-- what becomes stale beside what was asked for, which does where there is a change
+abbrev pub other_keys : List ℕ → List ℕ → ℕ → List Field → List (List ℕ)
+other_keys key method status fields = if is_change method status then named_keys key fields else []

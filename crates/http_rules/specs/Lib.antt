@@ -4,6 +4,8 @@ pub mod Authorization
 pub mod Changes
 pub mod Choice
 pub mod Conditions
+pub mod Confirming
+pub mod Destinations
 pub mod Directives
 pub mod Elements
 pub mod EntityTags
@@ -17,8 +19,6 @@ pub mod HostFields
 pub mod Loops
 pub mod Mirrors
 pub mod Options
-pub mod Origins
-pub mod OriginsSix
 pub mod Parts
 pub mod Passing
 pub mod Plain
@@ -29,7 +29,9 @@ pub mod Requests
 pub mod Responses
 pub mod Retrying
 pub mod Reuse
+pub mod Sharing
 pub mod Stale
+pub mod Storing
 pub mod Targets
 pub mod Text
 pub mod Updating

@@ -2,6 +2,10 @@
 use Rattle.std.specs.Prelude.{ℕ, ◌-◌, List, [], ◌∷◌, codes, nat_le, nat_lt, ◌==◌, not, ◌&&◌, ◌||◌, Bool, true, false, Option, Some, None, is_some, option_map, option_and_then, unwrap_or, if◌then◌else◌}
 use Rattle.http_rules.specs.declared.stale.StaleUse.{StaleUse}
 use Rattle.http_rules.specs.declared.stale.StaleUse.TheVariants.{InPlaceOfError, WhileValidated, Accepted}
+use Rattle.node_terms.specs.declared.mode.Mode.{Mode}
+use Rattle.node_terms.specs.declared.mode.Mode.TheVariants.{Shared, Cached, Private}
+use Rattle.http_rules.specs.declared.stale.SourceEnd.{SourceEnd}
+use Rattle.http_rules.specs.declared.stale.SourceEnd.TheVariants.{Answered, Unreached, Unread, TooLong, Unasked}
 use Rattle.http_rules.specs.Fields.{Field}
 use Rattle.http_rules.specs.Directives.{argument, argument_seconds, asks, has_unclosed}
 use Rattle.http_rules.specs.Forbidding.{forbids}
@@ -9,6 +13,21 @@ use Rattle.http_rules.specs.Forbidding.{forbids}
 -- whether a status is an error in whose place a stale object may be served (RFC 5861, section 4)
 abbrev pub is_error : ℕ → Bool
 is_error status = status == 500 || status == 502 || status == 503 || status == 504
+
+-- whether a server with which a fetch has ended so is down: it has answered with an error, or not at all, or nothing that could be read
+-- (RFC 5861, section 4). A response that is too long is one, and what was not asked for says nothing of its server
+abbrev pub is_down : SourceEnd → Bool
+is_down (Answered status) = is_error status
+is_down Unreached = true
+is_down Unread = true
+is_down TooLong = false
+is_down Unasked = false
+
+-- whether something stale may take the place of what came of a fetch: only where an origin was asked, for all clients
+abbrev pub takes_the_place : Bool → Mode → SourceEnd → Bool
+takes_the_place is_origin Shared end = is_origin && is_down end
+takes_the_place is_origin Cached end = false
+takes_the_place is_origin Private end = false
 
 -- whether a response with this status that is not kept says that what was kept before is no longer so: the origin has something else
 -- there now, or nothing any more. Other errors and refusals, and a 304, say nothing of that.

@@ -1,5 +1,5 @@
 -- The cache key of a request target: the text of an `http` URL without its fragment.
-use Rattle.std.specs.Prelude.{◌≡◌, ℕ, ◌<◌, ◌≤◌, List, codes, length, bytes_eq, nat_le, not, Bool, true, ◌&&◌, Option, Some, None, option_and_then, if◌then◌else◌}
+use Rattle.std.specs.Prelude.{◌≡◌, ◌⊎◌, ℕ, ◌<◌, ◌≤◌, List, codes, length, bytes_eq, nat_le, not, Bool, true, ◌&&◌, Option, Some, None, IsSomeAnd, option_and_then, if◌then◌else◌}
 use Rattle.std.specs.List.{list_all}
 use Rattle.std.specs.Result.{result_ok}
 use Rattle.url.specs.Parts.{Parts, has_host, has_credentials, serialize}
@@ -34,3 +34,11 @@ abbrev pub IsFaultOf : Parts → TargetFault → Type 0
 IsFaultOf url NotHttp = url_key url ≡ None
 IsFaultOf url TooLong = (is_plain url ≡ true) × (8192 < length (text_of url))
 IsFaultOf url NoMemory = (is_plain url ≡ true) × (length (text_of url) ≤ 8192)
+
+-- a valid key but for its length
+abbrev pub IsLongKey : Parts → Type 0
+IsLongKey url = (is_plain url ≡ true) × (8192 < length (text_of url))
+
+-- a target is too long: its URL has a text of more than 8,192 octets, or it has so many itself
+abbrev pub IsTooLong : List ℕ → Type 0
+IsTooLong target = (8192 < length target) ⊎ IsSomeAnd (result_ok (parse_url None target)) IsLongKey

@@ -1,7 +1,7 @@
 //! What a response to a request that is not safe makes stale (RFC 9111, section 4.4).
 ghost use Rattle.std.specs.Prelude.{◌≡◌, ◌++◌, IfOk, option_copied, option_to_list};
 ghost use Rattle.http_header.specs.Token.{lowercase};
-ghost use Rattle.http_rules.specs.Changes.{changed_keys, is_change, is_same_origin, key_beside, key_within, named_key, text_in, url_of};
+ghost use Rattle.http_rules.specs.Changes.{is_change, is_same_origin, key_beside, key_within, named_key, named_keys, other_keys, text_in, url_of};
 ghost use Rattle.url.specs.Parser.{Gives, parse_url};
 ghost use Rattle.http_rules.specs.Fields.{fields_of};
 
@@ -13,27 +13,48 @@ use object_store::CacheKey;
 use std::alloc::{AllocError, Global};
 use url::{ParseError, Url};
 
+/// What a response to a request that is not safe makes stale.
+#[derive(Drop)]
+pub struct Changed {
+    /// Whether what is stored under the request's own key is.
+    pub own: bool,
+    /// The other keys of which that is so. Errors: out of memory.
+    pub others: Result<Vec<CacheKey>, AllocError>,
+}
+
 /// The keys whose stored responses a response with this status and head to a request for this key makes stale (RFC 9111, section
 /// 4.4). None unless the method is unsafe and the status 2xx or 3xx; otherwise the key itself, and those of Location and
 /// Content-Location where they are of the same origin: scheme, host and port. Of several such fields the first counts, and one that
-/// is no `http` URL, or is too long for a key, does not count.
+/// is no `http` URL, or is too long for a key, does not count. Whether the key itself is one takes no memory.
 pub fn changed_keys(
     alloc: Global,
     key: &CacheKey,
     method: &str,
     status: u16,
     head: &HeaderMap,
-) -> Result<Vec<CacheKey>, AllocError>
-    ensures { IfOk result (λ keys. keys.items ≡ changed_keys key.now method.now status (fields_of head.now)) }
+) -> Changed
+    ensures own { result.own ≡ is_change method.now status }
+    ensures others { IfOk result.others (λ keys. keys.items ≡ other_keys key.now method.now status (fields_of head.now)) }
 {
-    let mut keys = Vec::new(alloc);
     if !is_change(method, status) {
-        return Ok(keys);
+        return Changed {
+            own: false,
+            others: Ok(Vec::new(alloc)),
+        };
     }
+    Changed {
+        own: true,
+        others: named_keys(alloc, key, head),
+    }
+}
+
+// The keys that Location and Content-Location refer to, where they are of the same origin as this key.
+fn named_keys(alloc: Global, key: &CacheKey, head: &HeaderMap) -> Result<Vec<CacheKey>, AllocError>
+    ensures { IfOk result (λ keys. keys.items ≡ named_keys key.now (fields_of head.now)) }
+{
     let location = named_key(alloc, key, head, "location")?;
     let content = named_key(alloc, key, head, "content-location")?;
-    keys.push(key.share()?)?;
-    with_key(with_key(keys, location)?, content)
+    with_key(with_key(Vec::new(alloc), location)?, content)
 }
 
 // Whether a response with this status to a request with this method changes what is stored.

@@ -61,8 +61,8 @@ fn is_named_host(value: &[u8]) -> bool
     is_reg_name(&value[..end]) && end <= MOST_NAME_OCTETS && is_port_part(&value[end..])
 }
 
-// The place of the first octet that is this one, or the length.
-fn place_of(octet: u8, text: &[u8]) -> usize
+/// The place of the first octet that is this one, or the length.
+pub(crate) fn place_of(octet: u8, text: &[u8]) -> usize
     ensures value { result ≡ place_of octet text.now }
     ensures bound { result ≤ length text.now }
 {

@@ -15,6 +15,8 @@ mod authorization;
 mod changes;
 mod choice;
 mod conditions;
+mod confirming;
+mod destination;
 mod directives;
 mod entity_tag;
 mod expiry;
@@ -28,8 +30,6 @@ mod loops;
 mod mirrors;
 mod named_directive;
 mod options;
-mod origins;
-mod origins_six;
 mod parts;
 mod passing;
 mod plain;
@@ -41,7 +41,9 @@ mod response;
 mod retrying;
 mod reuse;
 mod seconds;
+mod sharing;
 mod stale;
+mod storing;
 mod target;
 mod text;
 mod updating;
@@ -52,17 +54,21 @@ pub use administrator::is_administrator;
 pub use age::age_of;
 pub use authority::{Authority, authority_of};
 pub use authorization::is_authorized;
-pub use changes::changed_keys;
+pub use changes::{Changed, changed_keys};
 pub use choice::{Stored, choose, is_for_a_part};
 pub use conditions::{StoredAnswer, answer_to, is_for_origin, is_in_not_modified};
+pub use confirming::Revalidated;
+pub use destination::{Destination, destination_of};
 pub use forwarding::{Onward, PassFault, end_to_end};
 pub use framing::tells_end;
 pub use freshness::{Kept, may_keep};
 pub use host_field::{has_long_name, is_host};
 pub use loops::{has_come_back, loop_mark};
 pub use mirrors::{Mirror, mirrored};
-pub use origins::{OriginRules, usual_denials};
-pub use origins_six::{SixEnd, SixNetwork, embedded_law, usual_six_denials};
+pub use origin_rules::{
+    Admitted, AdmittedOrigin, OriginRules, SixEnd, SixNetwork, embedded_law, usual_denials,
+    usual_six_denials,
+};
 pub use parts::PartRequests;
 pub use passing::{is_for_server, is_unsafe, onward};
 pub use plain::is_plain_request;
@@ -73,9 +79,12 @@ pub use request::classify;
 pub use response::may_store;
 pub use retrying::{lasts, may_retry};
 pub use reuse::accepts;
+pub use sharing::is_only_for_who_began;
 pub use stale::{
-    StaleUse, has_stale_use, is_error, may_serve_stale, stale_use, supersedes, takes_stale,
+    SourceEnd, StaleUse, has_stale_use, is_error, may_serve_stale, stale_use, supersedes,
+    takes_stale, takes_the_place,
 };
+pub use storing::Storable;
 pub use target::{TargetFault, key_of, key_of_url};
 pub use updating::updated;
 pub use validation::{conditions_for, has_validator, is_about, may_validate};

@@ -3,12 +3,13 @@ ghost use Rattle.std.specs.Prelude.{◌≡◌, codes};
 ghost use Rattle.http_header.specs.Token.{lowercase};
 ghost use Rattle.http_rules.specs.Fields.{fields_of};
 ghost use Rattle.http_rules.specs.Validators.{stored_fields};
-ghost use Rattle.http_rules.specs.Stale.{is_error, supersedes, prohibits_stale, window, operators_window, is_within, permits, may_serve_stale, has_stale_use, takes_stale, accepted_by, stale_use};
+ghost use Rattle.http_rules.specs.Stale.{is_down, is_error, takes_the_place, supersedes, prohibits_stale, window, operators_window, is_within, permits, may_serve_stale, has_stale_use, takes_stale, accepted_by, stale_use};
 
 use crate::directives::{Directives, argument_seconds};
 use crate::forbidding::stored_forbids;
 use crate::named_directive::{argument_of, has_stored_unclosed, stored_argument};
 use http_header::HeaderMap;
+use node_terms::Mode;
 
 /// Why an object would be served although it is stale.
 #[derive(Clone, Copy, Debug, PartialEq, Eq)]
@@ -26,6 +27,44 @@ pub fn is_error(status: u16) -> bool
     ensures { result ≡ is_error status }
 {
     status == 500 || status == 502 || status == 503 || status == 504
+}
+
+/// How a fetch has ended, as far as something stale may be served in place of what came of it.
+#[derive(Clone, Copy)]
+pub enum SourceEnd {
+    /// With a whole response of this status.
+    Answered(u16),
+    /// Its server was not found, or not connected to.
+    Unreached,
+    /// What came of its response was cut, could not be read, or took too long.
+    Unread,
+    /// Its response is longer than what is stored may be.
+    TooLong,
+    /// Its server was not asked, or nobody waits for it any more, or memory was short.
+    Unasked,
+}
+
+/// Whether a stale object may be served in place of what came of a fetch in this mode, if it may be at all: a fetch for all clients from
+/// an origin brought an error, or no response that could be read (RFC 5861, section 4). A response that is too long is no error: it is
+/// passed on.
+pub fn takes_the_place(is_origin: bool, mode: Mode, end: SourceEnd) -> bool
+    ensures { result ≡ takes_the_place is_origin mode end }
+{
+    if !is_origin || mode != Mode::Shared {
+        return false;
+    }
+    is_down(end)
+}
+
+// Whether a server with which a fetch has ended so is down.
+fn is_down(end: SourceEnd) -> bool
+    ensures { result ≡ is_down end }
+{
+    match end {
+        SourceEnd::Answered(status) => is_error(status),
+        SourceEnd::Unreached | SourceEnd::Unread => true,
+        SourceEnd::TooLong | SourceEnd::Unasked => false,
+    }
 }
 
 /// Whether a response with this status that is not kept says that what was kept before is no longer so: 200 to 399 but for 304, 404

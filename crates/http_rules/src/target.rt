@@ -1,8 +1,8 @@
 //! The cache key of a request target.
-ghost use Rattle.std.specs.Prelude.{◌≡◌, ◌≤◌, length, IfOk, IfErr, IsErrOf, Some, None, true};
+ghost use Rattle.std.specs.Prelude.{◌≡◌, ◌⊎◌, ◌<◌, ◌≤◌, length, IfOk, IfErr, IsErrOf, Some, None, true};
 ghost use Rattle.std.specs.List.{list_all};
 ghost use Rattle.url.specs.Parts.{has_credentials};
-ghost use Rattle.http_rules.specs.Targets.{text_of, is_visible, is_plain, url_key, target_key, IsFaultOf};
+ghost use Rattle.http_rules.specs.Targets.{text_of, is_visible, is_plain, url_key, target_key, IsFaultOf, IsTooLong};
 
 use object_store::{CacheKey, KeyFault, MOST_KEY_OCTETS};
 use std::alloc::{AllocError, Global};
@@ -15,7 +15,7 @@ pub enum TargetFault {
     /// Not an `http` URL with a host and without user and password.
     #[error("not an http URL of a host")]
     NotHttp,
-    /// The key would be longer than 8,192 octets, or the target is too long for the URL parser.
+    /// The key would be longer than 8,192 octets, or the target is, and too long for the URL parser.
     #[error("too long")]
     TooLong,
     /// Out of memory.
@@ -38,12 +38,25 @@ impl From<AllocError> for TargetFault {
 pub fn key_of(alloc: Global, target: &str) -> Result<CacheKey, TargetFault>
     ensures key { IfOk result (λ key. target_key target.now ≡ Some key) }
     ensures not_http { IsErrOf result TargetFault.NotHttp → target_key target.now ≡ None }
+    ensures too_long { IsErrOf result TargetFault.TooLong → IsTooLong target.now }
 {
     match Url::parse(alloc, target) {
         Ok(url) => key_of_url(alloc, &url),
         Err(ParseError::OutOfMemory) => Err(TargetFault::NoMemory),
-        Err(ParseError::Overflow) => Err(TargetFault::TooLong),
+        Err(ParseError::Overflow) => Err(overflowed(target)),
         Err(_) => Err(TargetFault::NotHttp),
+    }
+}
+
+// Why a target has no key that the parser has no room for.
+fn overflowed(target: &str) -> TargetFault
+    ensures long { result ≡ TargetFault.TooLong → 8192 < length target.now }
+    ensures fault { (result ≡ TargetFault.TooLong) ⊎ (result ≡ TargetFault.NoMemory) }
+{
+    if target.len() > MOST_KEY_OCTETS {
+        TargetFault::TooLong
+    } else {
+        TargetFault::NoMemory
     }
 }
 

@@ -5,18 +5,30 @@ ghost use Rattle.http_rules.specs.Forwarding.{options};
 ghost use Rattle.http_rules.specs.Validators.{stored_fields};
 ghost use Rattle.http_rules.specs.Updating.{is_of_body, is_of_message, stays_beside, staying, updated};
 
+use crate::confirming::Revalidated;
 use crate::forwarding::{PassFault, end_to_end};
 use crate::validators::has_stored;
 use http_header::HeaderMap;
 use std::alloc::{AllocError, Global};
 
-/// The fields of a stored object after a response with status 304 and this head has confirmed it (RFC 9111, section 3.2), as pairs
-/// of a name in lower case and a value. Each field of the response takes the place of all stored ones of its name, but for the
+/// The fields of a stored object after a response with status 304 has confirmed it (RFC 9111, section 3.2), as pairs of a name in
+/// lower case and a value. Each field of the response takes the place of all stored ones of its name, but for the
 /// hop-by-hop fields, those that Connection names, Content-Length, Content-Encoding and Content-Range. Stored fields Age, Date and
 /// Via go in any case: they tell of the response that brought the object.
 ///
 /// Errors: the Connection fields have more than 64 elements in all, or out of memory.
 pub fn updated(
+    alloc: Global,
+    confirmed: &Revalidated<'_>,
+) -> Result<Vec<(Vec<u8>, Vec<u8>)>, PassFault>
+    ensures fields { IfOk result (λ after. stored_fields after.items ≡ updated confirmed.now.given confirmed.now.object.head) }
+    ensures many { IsErrOf result PassFault.TooManyNames → 64 < length (options confirmed.now.given) }
+{
+    updated_by(alloc, confirmed.head(), confirmed.object().head())
+}
+
+// The fields of an object with these after a response with this head has confirmed it.
+fn updated_by(
     alloc: Global,
     head: &HeaderMap,
     object: &[(Vec<u8>, Vec<u8>)],

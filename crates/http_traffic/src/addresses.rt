@@ -1,9 +1,10 @@
 //! The addresses of a server, and what is known of those of a name.
 ghost use Rattle.std.specs.Prelude.{◌≡◌, ◌≢◌, [], IfOk, IsErrOf};
-ghost use Rattle.fair_use.specs.Turns.{chosen};
+ghost use Rattle.origin_rules.specs.Chosen.{chosen};
 
 use crate::passing::Ticket;
-use fair_use::{chosen, forward};
+use fair_use::forward;
+use origin_rules::{Admitted, chosen};
 use server_connections::ServerConnections;
 use std::alloc::{AllocError, Global};
 use std::net::{IpAddr, SocketAddr};
@@ -148,7 +149,7 @@ pub enum AdmitFault {
     NoMemory,
 }
 
-/// Where a server is connected to: its addresses, in the order in which they are tried.
+/// The addresses of a server, in the order in which they are tried.
 #[derive(Drop)]
 pub struct Addresses {
     list: Vec<SocketAddr>,
@@ -164,27 +165,17 @@ impl Addresses {
         Ok(Addresses { list, found: None })
     }
 
-    /// The same addresses, of the same name. Errors: out of memory.
-    pub fn share(&self, alloc: Global) -> Result<Addresses, AllocError> {
-        let list = self.list.as_slice().to_vec(alloc)?;
-        let found = match &self.found {
-            Some(found) => Some(found.share()?),
-            None => None,
-        };
-        Ok(Addresses { list, found })
-    }
-
     /// The addresses.
     pub fn as_slice(&self) -> &[SocketAddr] {
         self.list.as_slice()
     }
 
-    /// Those that are admitted, in their order: each stands beside whether it is. Errors: none is, or out of memory.
+    /// Those that are admitted, in their order. Errors: none is, or out of memory.
     pub fn admitted(
         self,
         alloc: Global,
-        judged: Vec<(SocketAddr, bool)>,
-    ) -> Result<Addresses, AdmitFault>
+        judged: Vec<Option<Admitted>>,
+    ) -> Result<AdmittedAddresses, AdmitFault>
         ensures those { IfOk result (λ a. a.list.items ≡ chosen judged.items) }
         ensures some { IfOk result (λ a. a.list.items ≢ []) }
         ensures none { IsErrOf result AdmitFault.Refused → chosen judged.items ≡ [] }
@@ -198,12 +189,37 @@ impl Addresses {
         if those.is_empty() {
             return Err(AdmitFault::Refused);
         }
-        Ok(Addresses { list: those, found })
+        Ok(AdmittedAddresses { list: those, found })
+    }
+}
+
+/// Where a server is connected to: those of its addresses that are admitted, in the order in which they are tried.
+#[derive(Drop)]
+pub struct AdmittedAddresses {
+    list: Vec<Admitted>,
+    // What is known of the name whose addresses they are. `None` for an address in digits.
+    found: Option<Found>,
+}
+
+impl AdmittedAddresses {
+    /// The same addresses, of the same name. Errors: out of memory.
+    pub fn share(&self, alloc: Global) -> Result<AdmittedAddresses, AllocError> {
+        let list = self.list.as_slice().to_vec(alloc)?;
+        let found = match &self.found {
+            Some(found) => Some(found.share()?),
+            None => None,
+        };
+        Ok(AdmittedAddresses { list, found })
+    }
+
+    /// The addresses.
+    pub fn as_slice(&self) -> &[Admitted] {
+        self.list.as_slice()
     }
 
     /// Takes an address out, since it is not to be tried again. Returns whether another one is left.
     pub fn take_out(&mut self, address: SocketAddr) -> bool {
-        self.list.retain(|it| *it != address);
+        self.list.retain(|it| it.address() != address);
         !self.list.is_empty()
     }
 

@@ -3,6 +3,7 @@ use crate::passing::{Coming, Early, Passing, Road, TunnelEnd};
 use futures::channel::oneshot;
 use http_header::HeaderMap;
 use object_store::{Object, SharedObject};
+use origin_rules::AdmittedOrigin;
 use std::net::{IpAddr, SocketAddr};
 use std::time::Instant;
 
@@ -211,8 +212,8 @@ pub trait PassOn: Drop {
         Err(501)
     }
 
-    /// Whether this server may be connected to for a tunnel, as an origin server.
-    fn admits(&mut self, _server: SocketAddr) -> bool {
-        false
+    /// This server, if a tunnel may lead to it as to an origin server.
+    fn admitted(&mut self, _server: SocketAddr) -> Option<AdmittedOrigin> {
+        None
     }
 }

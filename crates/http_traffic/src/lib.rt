@@ -12,7 +12,7 @@ mod panel;
 mod passed_method;
 mod passing;
 
-pub use addresses::{Addresses, AdmitFault, Beside, Found};
+pub use addresses::{Addresses, AdmitFault, AdmittedAddresses, Beside, Found};
 pub use asking::{
     Asked, Asking, FollowUp, Forward, Front, How, Outcome, PassOn, Shape, Supplier, Told,
 };

@@ -3,6 +3,7 @@ use crate::addresses::Addresses;
 use crate::passing::{Early, LeftChange, Passage};
 use futures::channel::oneshot;
 use http_header::HeaderMap;
+use origin_rules::AdmittedOrigin;
 use std::alloc::Global;
 use std::net::{IpAddr, Ipv4Addr, Ipv6Addr, SocketAddr};
 use std::sync::Arc;
@@ -199,8 +200,8 @@ pub enum Ended {
 
 /// Knows which servers may be fetched from as origin servers, and who began a fetch.
 pub trait Admit: Drop {
-    /// Whether this server may be.
-    fn admits(&self, server: SocketAddr) -> bool;
+    /// This server, if it may be.
+    fn admitted(&self, server: SocketAddr) -> Option<AdmittedOrigin>;
 
     /// Gives the answer of this fetch, which has its end-to-end fields alone as yet, to the client that began it, while it is collected.
     /// Returns whether there is such a client that takes it.

@@ -6,8 +6,8 @@ use crossbeam_channel::Sender;
 use futures::channel::oneshot;
 use http_header::HOST;
 use http_rules::{
-    Mirror, SixNetwork, TargetFault, has_come_back, has_long_name, is_host, is_plain_request,
-    may_validate, mirrored,
+    AdmittedOrigin, Mirror, SixNetwork, TargetFault, has_come_back, has_long_name, is_host,
+    is_plain_request, may_validate, mirrored,
 };
 use http_traffic::{Asked, Asking, FollowUp, Forward, Front, How, Outcome, PassOn, Shape, Told};
 use node_words::{Event, Mode, Network};
@@ -362,7 +362,7 @@ impl<R: Wait + Clock + Drop, S: Shared, N: TakeEvents> NodeFront<R, S, N> {
         if is_marked && has_come_back(&asked.head, self.proxy.outward().loop_mark.as_slice()) {
             return Err(508);
         }
-        match server_in_digits(key.as_slice()) {
+        match server_in_digits(key) {
             Some(server) if self.proxy.outward().refuses(&self.rt, server) => Err(403),
             _ => Ok(()),
         }
@@ -565,7 +565,7 @@ impl<R: Wait + Clock + Drop, S: Shared, N: TakeEvents> TakeCalls for NodeFront<R
             Call::IsLarge(asked) => Returned::Whether(self.is_beside_node(asked).unwrap_or(false)),
             Call::PassOn(asked, content) => Returned::Passing(self.pass(asked, content)),
             Call::Tunnel(asked) => Returned::Tunnel(self.lead(asked)),
-            Call::Admits(server) => Returned::Whether(self.admits(server)),
+            Call::Admitted(server) => Returned::Admitted(self.admitted(server)),
             Call::Gone(client) => self.gone(client),
             Call::Answered => self.answered(),
             Call::Tell(told) => self.tell(told),
@@ -625,8 +625,8 @@ impl<R: Wait + Clock + Drop, S: Shared, N: TakeEvents> NodeFront<R, S, N> {
         }
     }
 
-    fn admits(&mut self, server: SocketAddr) -> bool {
-        self.proxy.passes().admits(&self.rt, server)
+    fn admitted(&mut self, server: SocketAddr) -> Option<AdmittedOrigin> {
+        self.proxy.passes().admitted(&self.rt, server)
     }
 
     fn gone(&mut self, client: u64) -> Returned {

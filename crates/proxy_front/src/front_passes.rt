@@ -3,7 +3,8 @@ use crate::front::{NodeFront, check_host};
 use futures::channel::{mpsc, oneshot};
 use http_header::HeaderMap;
 use http_rules::{
-    Authority, Onward, authority_of, changed_keys, has_come_back, is_for_server, is_unsafe, onward,
+    Authority, Changed, Onward, authority_of, changed_keys, has_come_back, is_for_server,
+    is_unsafe, onward,
 };
 use http_traffic::{
     Asked, Change, Coming, PassFault, Passage, PassedHead, Passing, Piece, Road, Server, Ticket,
@@ -420,18 +421,21 @@ impl<R: Wait + Clock + Drop, S: Shared, N: TakeEvents> NodeFront<R, S, N> {
         }
     }
 
-    /// Takes out of the store what a request has changed whose answer has this head. Where memory is short, it stays there until it is
-    /// stale.
+    /// Takes out of the store what a request has changed whose answer has this head. Where memory is short for what the head names beside
+    /// the request's own key, that stays there until it is stale.
     pub(crate) fn clear_changed(&mut self, asked: &Asked, status: u16, head: &HeaderMap) {
         let Ok(key) = self.key(asked) else {
             return;
         };
         let method = asked.method.as_str();
-        let changed = changed_keys(self.alloc, &key, method, status, head);
+        let Changed { own, others } = changed_keys(self.alloc, &key, method, status, head);
+        if own {
+            self.clear(&key);
+        }
         drop(key);
-        if let Ok(changed) = changed {
-            self.clear_all(changed.as_slice());
-            drop(changed);
+        if let Ok(others) = others {
+            self.clear_all(others.as_slice());
+            drop(others);
         }
     }
 

@@ -2,6 +2,7 @@
 //! looks at all methods of a trait for all of the type that has them, which is too much for a front with the whole node behind it.
 use crate::front::ServeFront;
 use http_header::HeaderMap;
+use http_rules::AdmittedOrigin;
 use http_traffic::{
     Asked, Asking, Coming, FollowUp, Front, PassOn, Passing, Road, Shape, Told, TunnelEnd,
 };
@@ -36,8 +37,8 @@ pub enum Call<'a> {
     Passed(&'a Asked, u16, &'a HeaderMap),
     /// `PassOn::tunnel`.
     Tunnel(&'a Asked),
-    /// `PassOn::admits`.
-    Admits(SocketAddr),
+    /// `PassOn::admitted`.
+    Admitted(SocketAddr),
 }
 
 /// What such a call returns.
@@ -50,6 +51,7 @@ pub enum Returned {
     Shape(Shape),
     Passing(Result<Passing, u16>),
     Tunnel(Result<TunnelEnd, u16>),
+    Admitted(Option<AdmittedOrigin>),
 }
 
 /// Takes the calls of a front.
@@ -167,8 +169,14 @@ impl<T: TakeCalls> PassOn for Handed<T> {
         }
     }
 
-    fn admits(&mut self, server: SocketAddr) -> bool {
-        self.whether(Call::Admits(server))
+    fn admitted(&mut self, server: SocketAddr) -> Option<AdmittedOrigin> {
+        match self.to.take_call(Call::Admitted(server)) {
+            Returned::Admitted(admitted) => admitted,
+            other => {
+                drop(other);
+                None
+            }
+        }
     }
 }
 

@@ -1,17 +1,21 @@
 //! Results of fetches on their way to the node.
+use crate::ends::{end_of, is_down};
 use crossbeam_channel::Sender;
 use fair_use::{SharedEnd, Upload, may_have_changed};
 use filter_slots::Moment;
 use http_header::HeaderMap;
-use http_rules::{StaleUse, changed_keys, complete_length, is_error, supersedes};
+use http_rules::{
+    Changed, Revalidated, SourceEnd, StaleUse, Storable, age_of, changed_keys, complete_length,
+    supersedes,
+};
 use http_traffic::{Change, Ended, FetchEnd, FetchFault, Fetched, LeftChange, Page, Supplier};
 use httpdate::HttpDate;
 use node_words::{Event, Mode, Outcome};
 use object_store::{CacheKey, SharedObject};
 use proxy_state::{
-    Cause, Exchange, Flight, Landed, Life, Profile, RETRIES, RETRY_MILLIS, Shared, Stale,
+    Cause, Exchange, Flight, Landed, Profile, RETRIES, RETRY_MILLIS, Received, Shared, Stale,
     TakeEvents, Unwanted, begin_again, confirmed, date_seconds, has_other_rules, hides_rules,
-    micros_since, object_of, refusal, stale_object, unkept_object, withdraw,
+    micros_since, refusal, stale_object, stored_object, unkept_object, unstored_object, withdraw,
 };
 use shared_thread::Submit;
 use std::alloc::Global;
@@ -48,30 +52,6 @@ fn supplier_of(landed: &Landed, end: &FetchEnd) -> Option<Supplier> {
     }
 }
 
-/// Whether a stale object may be served in place of what came: a fetch for all clients from the origin brought an error, or no response
-/// that could be read. A body that is too long is no error: it is passed on.
-fn is_down(flight: Flight, end: &FetchEnd) -> bool {
-    if !flight.is_origin() || flight.mode != Mode::Shared {
-        return false;
-    }
-    match end {
-        FetchEnd::Whole(page) => is_error(page.status),
-        FetchEnd::Failed(fault) => matches!(
-            fault,
-            FetchFault::Lookup
-                | FetchFault::Connect
-                | FetchFault::NoFile
-                | FetchFault::Cut
-                | FetchFault::NotHttp
-                | FetchFault::LargeHead
-                | FetchFault::Time
-                | FetchFault::Room
-                | FetchFault::Slow
-        ),
-        FetchEnd::Refused => false,
-    }
-}
-
 /// Whether an origin has a response for all clients that is too long to be kept, in place of what was kept before.
 fn is_too_long(flight: Flight, end: &FetchEnd) -> bool {
     flight.is_origin()
@@ -83,19 +63,10 @@ fn is_too_long(flight: Flight, end: &FetchEnd) -> bool {
 /// conditions, so the next fetch has none.
 fn is_unanswered(landed: &Landed, end: &FetchEnd) -> bool {
     landed.asked.is_some()
-        && match end {
-            FetchEnd::Whole(page) => page.status == PRECONDITION_FAILED,
-            FetchEnd::Failed(fault) => matches!(
-                fault,
-                FetchFault::Cut
-                    | FetchFault::NotHttp
-                    | FetchFault::LargeHead
-                    | FetchFault::Time
-                    | FetchFault::Room
-                    | FetchFault::Slow
-            ),
-            FetchEnd::Refused => false,
-        }
+        && matches!(
+            end_of(end),
+            SourceEnd::Answered(PRECONDITION_FAILED) | SourceEnd::Unread
+        )
 }
 
 /// What the shelf does after a response that stands for nothing.
@@ -338,10 +309,9 @@ impl<R: Wait + Clock + Drop, S: Shared, N: TakeEvents> Results<R, S, N> {
 
     // What was asked about with the fields of this 304, if it fits that.
     fn confirmed_by(&self, landed: &Landed, page: &Page) -> Option<Page> {
-        match &landed.asked {
-            Some(asked) => confirmed(self.alloc, &page.head, asked.get()),
-            None => None,
-        }
+        let asked = landed.asked.as_ref()?;
+        let revalidated = Revalidated::by(page.status, &page.head, asked.get())?;
+        confirmed(self.alloc, &revalidated)
     }
 
     // Puts an object on the shelf that is stored. Returns whether it is there, as `Kept::shelve` says.
@@ -378,10 +348,16 @@ impl<R: Wait + Clock + Drop, S: Shared, N: TakeEvents> Results<R, S, N> {
         }
     }
 
-    // The age of a response, and for how long it may be stored.
-    fn life_of(&self, key: Option<&CacheKey>, flight: Flight, page: &Page) -> Life {
+    // What there is to show that a response with this status and head may be stored.
+    fn storable<'a>(
+        &self,
+        key: Option<&CacheKey>,
+        flight: Flight,
+        status: u16,
+        head: &'a HeaderMap,
+    ) -> Option<Storable<'a>> {
         let exchange = self.exchange(key, flight);
-        self.proxy.kept().profile.life_of(exchange, page)
+        self.proxy.kept().profile.storable(exchange, status, head)
     }
 
     // Notes the length of what a part has come of, if the whole may be stored.
@@ -438,12 +414,24 @@ impl<R: Wait + Clock + Drop, S: Shared, N: TakeEvents> Results<R, S, N> {
         page: Page,
         date: &[u8],
     ) -> Option<SharedObject> {
-        let mut life = self.life_of(key, flight, &page);
-        if is_unkept {
-            life.left = 0;
-        }
+        let Page { status, head, body } = page;
         let name = self.proxy.outward().name.as_bytes();
-        object_of(self.alloc, name, life, page, date).ok()
+        let storable = self.storable(key, flight, status, &head);
+        let age = match &storable {
+            Some(storable) => storable.age(),
+            None => age_of(&head),
+        };
+        let object = match &storable {
+            Some(storable) if !is_unkept => stored_object(self.alloc, name, storable, body, date),
+            _ => {
+                let head = &head;
+                let received = Received { status, head, age };
+                unstored_object(self.alloc, name, received, body, date)
+            }
+        };
+        drop(storable);
+        drop(head);
+        object.ok()
     }
 
     // Whether the object of a response is not to be kept.
@@ -524,7 +512,8 @@ impl<R: Wait + Clock + Drop, S: Shared, N: TakeEvents> Results<R, S, N> {
     // What is served in place of what the origin could not give, if there is something. After a change there is nothing: the shelf has
     // not got anything of this key since then, and what it had before is not given.
     fn stale(&self, key: Option<&CacheKey>, landed: &Landed, end: &FetchEnd) -> Option<Delivery> {
-        if landed.is_outdated || !is_down(landed.flight, end) {
+        let flight = landed.flight;
+        if landed.is_outdated || !is_down(flight.is_origin(), flight.mode, end) {
             return None;
         }
         let (kept, now) = (self.proxy.kept(), self.proxy.now(&self.rt));
@@ -842,17 +831,27 @@ impl<R: Wait + Clock + Drop, S: Shared, N: TakeEvents> Results<R, S, N> {
         drop(change);
     }
 
-    // Takes out what a request has changed whose answer has this head, or what it names if there is none. Where memory is short, it stays
-    // until it is stale.
+    // Takes out what a request has changed whose answer has this head, or what it names if there is none. Where memory is short, what its
+    // answer names stays until it is stale.
     fn clear_change(&mut self, change: &Change, head: &Option<(u16, HeaderMap)>) {
         let Some((status, fields)) = head else {
             self.clear(&change.key);
             return;
         };
         let method = change.method.as_str();
-        if let Ok(changed) = changed_keys(self.alloc, &change.key, method, *status, fields) {
-            self.clear_all(changed.as_slice());
-            drop(changed);
+        let Changed { own, others } = changed_keys(
+            self.alloc,
+            &change.key,
+            method,
+            *status,
+            fields,
+        );
+        if own {
+            self.clear(&change.key);
+        }
+        if let Ok(others) = others {
+            self.clear_all(others.as_slice());
+            drop(others);
         }
     }
 

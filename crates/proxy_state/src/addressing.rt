@@ -1,6 +1,12 @@
 //! Destinations of fetches: origin servers and neighbours.
+ghost use Rattle.std.specs.Prelude.{◌≡◌, IfSome};
+ghost use Rattle.std.specs.String.{string_bytes};
+ghost use Rattle.http_rules.specs.Destinations.{IsDestination};
+
 use filter_slots::End;
+use http_rules::destination_of;
 use http_traffic::address_in_digits;
+use object_store::CacheKey;
 use std::alloc::Global;
 use std::net::SocketAddr;
 
@@ -20,66 +26,51 @@ pub struct Peer {
     pub http_port: u16,
 }
 
-/// The parts of an `http://` URL: the host with the port if it gives one, and the path with the query.
-#[derive(Clone, Copy)]
-struct Parts<'a> {
-    authority: &'a str,
-    path: &'a str,
+/// The address and port of a key's server, if its host is an address in digits.
+pub fn server_in_digits(key: &CacheKey) -> Option<SocketAddr> {
+    let end = destination_of(key)?;
+    let name = str::from_utf8(end.name).ok()?;
+    Some(SocketAddr::new(address_in_digits(name)?, end.port))
 }
 
-fn parts_of(key: &[u8]) -> Option<Parts<'_>> {
-    let rest = str::from_utf8(key).ok()?.strip_prefix("http://")?;
-    match rest.find('/') {
-        Some(place) => Some(Parts {
-            authority: &rest[..place],
-            path: &rest[place..],
-        }),
-        None => Some(Parts {
-            authority: rest,
-            path: "/",
-        }),
-    }
-}
-
-/// The host and port of an authority. The port is 80 if none is given; returns `None` if it is not a number of 16 bits.
-fn host_and_port(authority: &str) -> Option<(&str, u16)> {
-    match authority.rfind(':') {
-        Some(place) if !authority.ends_with(']') => {
-            let port = authority[place..].strip_prefix(":")?;
-            Some((&authority[..place], port.parse::<u16>().ok()?))
-        }
-        _ => Some((authority, 80)),
-    }
-}
-
-/// The address and port of a URL's server, if its host is an address in digits.
-pub fn server_in_digits(key: &[u8]) -> Option<SocketAddr> {
-    let parts = parts_of(key)?;
-    let (name, port) = host_and_port(parts.authority)?;
-    Some(SocketAddr::new(address_in_digits(name)?, port))
-}
-
-/// The origin server of a URL. Returns `None` if the URL is not an `http://` one, if its port is invalid, or if out of memory.
-pub fn origin_of(alloc: Global, key: &[u8]) -> Option<Destination> {
-    let parts = parts_of(key)?;
-    let (name, port) = host_and_port(parts.authority)?;
+/// The origin server of a key. Returns `None` if its port is invalid, or if out of memory.
+pub fn origin_of(alloc: Global, key: &CacheKey) -> Option<Destination>
+    ensures origin { IfSome result (λ d. IsDestination key.now (string_bytes d.name) d.port (string_bytes d.host) (string_bytes d.target)) }
+{
+    let end = destination_of(key)?;
+    let name = text_of(alloc, end.name)?;
+    let host = text_of(alloc, end.host)?;
+    let target = text_of(alloc, end.target)?;
     Some(Destination {
-        name: String::from_str(alloc, name).ok()?,
-        port,
-        host: String::from_str(alloc, parts.authority).ok()?,
-        target: String::from_str(alloc, parts.path).ok()?,
+        name,
+        port: end.port,
+        host,
+        target,
     })
 }
 
-/// A neighbour as the destination of a fetch; the request target is the whole URL. Returns `None` if `key` is not an `http://`
-/// URL, or if out of memory.
-pub fn peer_of(alloc: Global, key: &[u8], peer: Peer) -> Option<Destination> {
-    let parts = parts_of(key)?;
+/// A neighbour as the destination of a fetch; the request target is the whole key. Returns `None` if the port of the key is invalid, or if
+/// out of memory.
+pub fn peer_of(alloc: Global, key: &CacheKey, peer: Peer) -> Option<Destination>
+    ensures port { IfSome result (λ d. d.port ≡ peer.http_port) }
+    ensures target { IfSome result (λ d. string_bytes d.target ≡ key.now) }
+{
+    let end = destination_of(key)?;
+    let host = text_of(alloc, end.host)?;
+    let target = text_of(alloc, key.as_slice())?;
     let [a, b, c, d] = peer.end.addr;
     Some(Destination {
         name: format!(in alloc; "{a}.{b}.{c}.{d}").ok()?,
         port: peer.http_port,
-        host: String::from_str(alloc, parts.authority).ok()?,
-        target: String::from_str(alloc, str::from_utf8(key).ok()?).ok()?,
+        host,
+        target,
     })
+}
+
+// These octets as text. `None` if they are none, or if out of memory.
+fn text_of(alloc: Global, octets: &[u8]) -> Option<String>
+    ensures { IfSome result (λ text. string_bytes text ≡ octets.now) }
+{
+    let text = str::from_utf8(octets).ok()?;
+    String::from_str(alloc, text).ok()
 }

@@ -1,7 +1,10 @@
 //! For how long responses are kept.
+ghost use Rattle.std.specs.Prelude.{IfSome};
+ghost use Rattle.http_rules.specs.Fields.{fields_of};
+ghost use Rattle.http_rules.specs.Storing.{IsOf};
+
 use http_header::HeaderMap;
-use http_rules::{RefreshRule, age_of, may_keep, may_store, tells_end};
-use http_traffic::Page;
+use http_rules::{RefreshRule, Storable, may_keep};
 use node_terms::Mode;
 
 /// The rules by which responses are kept.
@@ -23,25 +26,17 @@ pub struct Exchange<'a> {
     pub received: u64,
 }
 
-/// The age of a response when it came, and for how long it may be stored from then on, in seconds.
-#[derive(Clone, Copy, Debug, PartialEq, Eq)]
-pub struct Life {
-    pub age: u32,
-    /// 0 if it must not be stored.
-    pub left: u32,
-}
-
 impl Profile {
-    /// The age of a response, and for how long it may be stored. One whose body ends with its connection may have been cut, and is
-    /// not stored.
-    pub fn life_of(&self, exchange: Exchange<'_>, page: &Page) -> Life {
-        let unkept = Life {
-            age: age_of(&page.head),
-            left: 0,
-        };
-        if !tells_end(&page.head) {
-            return unkept;
-        }
+    /// What there is to show that a response with this status and head may be stored, and for how long; `None` if it may not be. One whose
+    /// body ends with its connection may have been cut, and is not stored.
+    pub fn storable<'a>(
+        &self,
+        exchange: Exchange<'_>,
+        status: u16,
+        head: &'a HeaderMap,
+    ) -> Option<Storable<'a>>
+        ensures { IfSome result (IsOf exchange.mode status (fields_of head.now)) }
+    {
         let Exchange {
             mode,
             url,
@@ -49,27 +44,10 @@ impl Profile {
             received,
         } = exchange;
         match self {
-            Profile::Published => Life {
-                left: may_store(mode, page.status, &page.head).unwrap_or(0),
-                ..unkept
-            },
+            Profile::Published => Storable::by_published_rules(mode, status, head),
             Profile::Rfc9111(rules) => {
                 let rules = rules.as_slice();
-                match may_keep(
-                    mode,
-                    url,
-                    page.status,
-                    &page.head,
-                    requested,
-                    received,
-                    rules,
-                ) {
-                    Some(kept) => Life {
-                        age: kept.age,
-                        left: kept.life,
-                    },
-                    None => unkept,
-                }
+                Storable::by_rfc9111_rules(mode, url, status, head, requested, received, rules)
             }
         }
     }

@@ -1,6 +1,6 @@
 //! The keys of requests that come again and again.
 ghost use Rattle.std.specs.Prelude.{◌≡◌, IfOk, IfSome, IsErrOf, Some, None};
-ghost use Rattle.http_rules.specs.Targets.{target_key};
+ghost use Rattle.http_rules.specs.Targets.{target_key, IsTooLong};
 
 use http_rules::{TargetFault, key_of};
 use object_store::CacheKey;
@@ -91,6 +91,7 @@ impl KnownKeys {
     pub fn key_of(&mut self, target: &str) -> Result<CacheKey, TargetFault>
         ensures key { IfOk result (λ key. target_key target.now ≡ Some key) }
         ensures not_http { IsErrOf result TargetFault.NotHttp → target_key target.now ≡ None }
+        ensures too_long { IsErrOf result TargetFault.TooLong → IsTooLong target.now }
     {
         let place = place_of(target.as_bytes());
         if let Some(key) = self.known(place, target.as_bytes()) {

@@ -5,7 +5,8 @@
 //! is handed to the query thread, and the file that this thread writes while it runs. The crates above are generic over the whole
 //! (`Shared`), which `proxy_node` has together with the node.
 //!
-//! Proved beyond being safe is only that a key that is remembered is that of its target. What is proved of the node holds by the
+//! Proved beyond being safe is only that a key that is remembered is that of its target, that an object has a life only by what shows
+//! that it may be stored, and of what status and body the whole is that a 304 stands for. What is proved of the node holds by the
 //! contracts of the crates below. Tested by: tests/serve, tests/serve_slow and tests/serve_hostile, which run the built program over
 //! loopback; more-edits.
 #![tactic(auto)]
@@ -50,7 +51,7 @@ pub use early::gives_early;
 pub use fields::{add_field, add_values, has_marks, loop_fields, passed_on, status_of};
 pub use front_rules::FrontRules;
 pub use in_flight::{Flight, Unwanted};
-pub use keeping::{Exchange, Life, Profile};
+pub use keeping::{Exchange, Profile};
 pub use kept::{Kept, Stale};
 pub use known_keys::KnownKeys;
 pub use lanes::{Fetchers, Lanes};
@@ -60,7 +61,9 @@ pub use mail::{Attempt, Mail};
 pub use mailbox::{Field, Landed, Led, Mailbox, Service, Waiting};
 pub use neighbour_counts::{NeighbourEnds, note_query, note_reply};
 pub use notices::Notices;
-pub use objects::{add_ours, object_of, refusal, stale_object, unkept_object, via};
+pub use objects::{
+    Received, add_ours, refusal, stale_object, stored_object, unkept_object, unstored_object, via,
+};
 pub use origins::Origins;
 pub use outward::Outward;
 pub use parts::PartKeys;

@@ -1,6 +1,7 @@
 //! Which servers a fetch thread may fetch from, and who has an answer while it is collected.
 use crate::early::give_early;
 use crate::shared::Shared;
+use http_rules::AdmittedOrigin;
 use http_traffic::{Admit, Early};
 use std::alloc::Global;
 use std::net::SocketAddr;
@@ -15,8 +16,8 @@ pub struct Origins<R, S> {
 }
 
 impl<R: Wait + Clock + Drop, S: Shared> Admit for Origins<R, S> {
-    fn admits(&self, server: SocketAddr) -> bool {
-        self.proxy.outward().admits(&self.rt, server)
+    fn admitted(&self, server: SocketAddr) -> Option<AdmittedOrigin> {
+        self.proxy.outward().admitted(&self.rt, server)
     }
 
     fn give_early(&self, alloc: Global, fetch: u32, early: Early) -> bool {

@@ -5,10 +5,10 @@ use crate::fields::add_field;
 use crate::mailbox::Field;
 use crate::objects::{add_ours, via};
 use filter_slots::End;
-use http_rules::{OriginRules, SixEnd, conditions_for};
+use http_rules::{AdmittedOrigin, OriginRules, SixEnd, conditions_for};
 use http_traffic::Early;
 use httpdate::HttpDate;
-use object_store::SharedObject;
+use object_store::{CacheKey, SharedObject};
 use peer_select::Source;
 use std::alloc::{AllocError, Global};
 use std::net::SocketAddr;
@@ -52,7 +52,12 @@ impl Outward {
     }
 
     /// The destination of a fetch of `key` from `source`.
-    pub fn destination(&self, alloc: Global, source: Source, key: &[u8]) -> Option<Destination> {
+    pub fn destination(
+        &self,
+        alloc: Global,
+        source: Source,
+        key: &CacheKey,
+    ) -> Option<Destination> {
         match source {
             Source::Origin => origin_of(alloc, key),
             Source::Peer(place) => peer_of(alloc, key, *self.peers.get(place)?),
@@ -110,9 +115,9 @@ impl Outward {
         add_ours(alloc, fields, self.name.as_bytes(), date.as_slice()).ok()
     }
 
-    /// Whether a server may be fetched from as an origin.
-    pub fn admits<R: Wait>(&self, rt: &R, server: SocketAddr) -> bool {
-        self.origins.lock(rt).admits_at(server)
+    /// This server, if it may be fetched from as an origin.
+    pub fn admitted<R: Wait>(&self, rt: &R, server: SocketAddr) -> Option<AdmittedOrigin> {
+        self.origins.lock(rt).admitted(server)
     }
 
     /// Whether a server that a request names by its address is not fetched from as an origin.

@@ -3,7 +3,7 @@
 use crate::addressing::{Destination, Peer, origin_of, peer_of};
 use crate::storage::Purger;
 use filter_slots::End;
-use http_rules::{OriginRules, SixEnd};
+use http_rules::{AdmittedOrigin, OriginRules, SixEnd};
 use http_traffic::{PassedMethod, Ticket};
 use lru::LruCache;
 use object_store::{CacheKey, KeyHashes};
@@ -205,9 +205,9 @@ impl Passes {
         false
     }
 
-    /// Whether a tunnel may lead to this server.
-    pub fn admits<R: Wait>(&self, rt: &R, server: SocketAddr) -> bool {
-        self.ends.lock(rt).admits_at(server)
+    /// This server, if a tunnel may lead to it.
+    pub fn admitted<R: Wait>(&self, rt: &R, server: SocketAddr) -> Option<AdmittedOrigin> {
+        self.ends.lock(rt).admitted(server)
     }
 
     /// Whether no tunnel may lead to this server, which a request names by its address.
@@ -251,9 +251,9 @@ impl Passes {
     /// Where a request for this URL goes that is passed on. `None` if there is nobody to pass it on to, or if out of memory.
     pub fn onwards(&self, alloc: Global, key: &CacheKey) -> Option<Onwards> {
         let destination = if self.is_direct {
-            origin_of(alloc, key.as_slice())
+            origin_of(alloc, key)
         } else {
-            peer_of(alloc, key.as_slice(), self.parent?)
+            peer_of(alloc, key, self.parent?)
         };
         Some(Onwards {
             destination: destination?,

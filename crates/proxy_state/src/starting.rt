@@ -255,7 +255,7 @@ fn begin_under<R: Wait + Clock, S: Shared>(
     key: &CacheKey,
 ) -> Result<(), NoMemory> {
     let outward = proxy.outward();
-    let Some(destination) = outward.destination(alloc, wanted.source, key.as_slice()) else {
+    let Some(destination) = outward.destination(alloc, wanted.source, key) else {
         return Err(AllocError);
     };
     match put_in_flight(rt, alloc, proxy, wanted, key) {

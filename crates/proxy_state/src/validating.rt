@@ -1,6 +1,8 @@
 //! Responses that confirm what was fetched before.
+ghost use Rattle.std.specs.Prelude.{◌≡◌, IfSome};
+
 use http_header::{HeaderMap, HeaderName, HeaderValue};
-use http_rules::{end_to_end, is_about, tells_end, updated};
+use http_rules::{Revalidated, end_to_end, tells_end, updated};
 use http_traffic::Page;
 use object_store::Object;
 use std::alloc::Global;
@@ -12,17 +14,17 @@ const MOST_OCTETS: usize = 65_536;
 /// its octets.
 const MOST_FIELDS: usize = 128;
 
-/// The whole response that a 304 with this head stands for, to a request with the validators of this object: the object's status
-/// and body, and its fields brought up to date. `None` if the 304 is not about the object, if there would be more than 128 fields or
-/// they would have more than 65,536 octets (each 304 may add some), or if out of memory.
-pub fn confirmed(alloc: Global, head: &HeaderMap, object: &Object) -> Option<Page> {
-    if !is_about(head, object.head()) {
-        return None;
-    }
-    let fields = updated(alloc, head, object.head()).ok()?;
+/// The whole response that a 304 stands for which confirms an object: the object's status and body, and its fields brought up to date.
+/// `None` if there would be more than 128 fields or they would have more than 65,536 octets (each 304 may add some), or if out of memory.
+pub fn confirmed(alloc: Global, revalidated: &Revalidated<'_>) -> Option<Page>
+    ensures status { IfSome result (λ page. page.status ≡ revalidated.now.object.status) }
+    ensures body { IfSome result (λ page. page.body.items ≡ revalidated.now.object.body) }
+{
+    let fields = updated(alloc, revalidated).ok()?;
     if fields.len() > MOST_FIELDS || octets_of(fields.as_slice()) > MOST_OCTETS {
         return None;
     }
+    let object = revalidated.object();
     let body = object.body().to_vec(alloc).ok()?;
     let mut head = HeaderMap::new(alloc);
     for (name, value) in &fields {

@@ -9,6 +9,8 @@
 #[cfg(test)]
 mod chains;
 #[cfg(test)]
+mod evidence;
+#[cfg(test)]
 mod heads;
 #[cfg(test)]
 mod json_faults;

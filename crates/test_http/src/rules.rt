@@ -6,12 +6,13 @@ use crate::heads::{Field, fields_of, head_of};
 use crate::rows::{NO_MEMORY, OfHead, Question, all_hold, all_true, heads_hold};
 use http_header::HeaderMap;
 use http_rules::{
-    PartRequests, Stored, StoredAnswer, accepts, answer_to, authority_of, changed_keys, choose,
-    complete_length, has_come_back, has_stale_use, is_about, is_error, is_for_server,
-    is_in_not_modified, is_plain_request, is_short_token, is_unsafe, key_of, loop_mark, may_keep,
-    may_retry, supersedes, takes_stale, usual_six_denials, written_name,
+    Changed, PartRequests, Revalidated, Stored, StoredAnswer, accepts, answer_to, authority_of,
+    changed_keys, choose, complete_length, has_come_back, has_stale_use, is_about, is_error,
+    is_for_server, is_in_not_modified, is_plain_request, is_short_token, is_unsafe, key_of,
+    loop_mark, may_keep, may_retry, supersedes, takes_stale, usual_six_denials, written_name,
 };
 use node_terms::Mode;
+use object_store::Object;
 use std::alloc::Global;
 use std::process::Abort;
 
@@ -82,17 +83,23 @@ impl Question<(&'static str, &'static str, bool)> for IsAbout {
         row: &(&'static str, &'static str, bool),
     ) -> bool {
         let head = head_of(rt, alloc, row.0);
-        let object = fields_of(rt, alloc, row.1);
-        let is_about = is_about(&head, object.as_slice());
+        let object = Object::new(200, fields_of(rt, alloc, row.1), Vec::new(alloc), 0, 0);
+        let is_about = is_about(&head, object.head());
+        let is_shown = Revalidated::by(304, &head, &object).is_some();
+        let is_shown_by_a_200 = Revalidated::by(200, &head, &object).is_some();
         drop(object);
         drop(head);
-        is_about == row.2
+        is_about == row.2 && is_shown == row.2 && !is_shown_by_a_200
     }
 }
 
 #[test]
 fn what_is_no_entity_tag(rt: HostRuntime) {
-    let rows = [("ETag: a", "ETag: a\nLast-Modified: x", true)];
+    let rows = [
+        ("ETag: a", "ETag: a\nLast-Modified: x", true),
+        ("ETag: \"a\"", "ETag: \"a\"", true),
+        ("ETag: \"b\"", "ETag: \"a\"", false),
+    ];
     all_hold(&rt, rt.alloc(), &rows, &IsAbout);
 }
 
@@ -194,23 +201,24 @@ fn safe_methods(rt: HostRuntime) {
     all_hold(&rt, rt.alloc(), &METHODS, &IsUnsafe);
 }
 
-// A method that no configuration has, and a status that ends no answer: how many keys become stale (RFC 9111, section 4.4).
-const CHANGES: [(&str, u16, usize); 3] = [("REPORT", 399, 1), ("POST", 199, 0), ("GET", 200, 0)];
+// A method that no configuration has, and a status that ends no answer: whether the key becomes stale (RFC 9111, section 4.4).
+const CHANGES: [(&str, u16, bool); 3] = [
+    ("REPORT", 399, true),
+    ("POST", 199, false),
+    ("GET", 200, false),
+];
 
-struct Changed;
+struct ChangedKeys;
 
-impl Question<(&'static str, u16, usize)> for Changed {
-    fn holds<R: Abort>(&self, rt: &R, alloc: Global, row: &(&'static str, u16, usize)) -> bool {
+impl Question<(&'static str, u16, bool)> for ChangedKeys {
+    fn holds<R: Abort>(&self, rt: &R, alloc: Global, row: &(&'static str, u16, bool)) -> bool {
         let (method, status, wanted) = *row;
         let key = key_of(alloc, "http://a/b/c/d;p?q").expect(rt, "no key");
         let head = head_of(rt, alloc, "Server: a");
-        let keys = changed_keys(alloc, &key, method, status, &head).expect(rt, NO_MEMORY);
-        let holds = match keys.as_slice() {
-            [] => wanted == 0,
-            [only] => wanted == 1 && only.as_slice() == key.as_slice(),
-            _ => false,
-        };
-        drop(keys);
+        let Changed { own, others } = changed_keys(alloc, &key, method, status, &head);
+        let others = others.expect(rt, NO_MEMORY);
+        let holds = own == wanted && others.is_empty();
+        drop(others);
         drop(head);
         drop(key);
         holds
@@ -219,7 +227,7 @@ impl Question<(&'static str, u16, usize)> for Changed {
 
 #[test]
 fn changes(rt: HostRuntime) {
-    all_hold(&rt, rt.alloc(), &CHANGES, &Changed);
+    all_hold(&rt, rt.alloc(), &CHANGES, &ChangedKeys);
 }
 
 // Targets of CONNECT with their hosts and ports (RFC 9110, section 9.3.6; RFC 9112, section 3.2.3; RFC 3986, section 1.1.2).
