@@ -1,13 +1,14 @@
 //! HTTP/1.1 servers for clients of a proxy and for its administration, on hyper, whose types stay inside this crate. Every decision
 //! is behind a trait: `http_traffic::Front`, `http_traffic::FollowUp`, `http_traffic::PassOn` and `http_traffic::Panel`.
 //!
-//! The contracts see only that every future is polled in a state in which it may be; nothing is proved about the HTTP messages.
+//! The contracts see that every future is polled in a state in which it may be, which answers are for another client, and that an origin
+//! is judged before a tunnel is opened to it; nothing is proved about the HTTP messages.
 //!
 //! The administration's page stands here, too: one HTML document, which asks the administration for its figures, and the policy that it
 //! is answered with. `tools/page` writes the document out and takes it in again.
 //!
-//! Tested by: tests/serve, serve_operator, serve_passages, serve_freshness, serve_slow and serve_hostile, which run the built program over
-//! loopback; `tools/page --check`, the policy's hashes; tests/page, in a browser.
+//! Tested by: must-fail edits; tests/serve, serve_operator, serve_passages, serve_freshness, serve_slow and serve_hostile, which run the built program
+//! over loopback; `tools/page --check`, the policy's hashes; tests/page, in a browser.
 #![tactic(auto)]
 
 mod account;

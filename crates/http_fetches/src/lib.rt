@@ -1,9 +1,10 @@
 //! Fetches from origin servers and neighbours, and requests that are passed on to them as they are: HTTP/1.1 on hyper, whose types stay
 //! inside this crate, many at a time on one thread.
 //!
-//! The contracts see only that every future is polled in a state in which it may be; nothing is proved about the HTTP messages.
+//! The contracts see that every future is polled in a state in which it may be, and that an origin is judged before it is connected to;
+//! nothing is proved about the HTTP messages.
 //!
-//! Tested by: tests/serve, tests/serve_slow, tests/serve_passages, tests/serve_kept, tests/serve_early and
+//! Tested by: must-fail edits; tests/serve, tests/serve_slow, tests/serve_passages, tests/serve_kept, tests/serve_early and
 //! tests/serve_hostile, which run the built program over loopback.
 #![tactic(auto)]
 

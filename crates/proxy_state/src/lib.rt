@@ -5,9 +5,9 @@
 //! is handed to the query thread, and the file that this thread writes while it runs. The crates above are generic over the whole
 //! (`Shared`), which `proxy_node` has together with the node.
 //!
-//! Proved beyond being safe is only that a key that is remembered is that of its target, that an object has a life only by what shows
-//! that it may be stored, and of what status and body the whole is that a 304 stands for. What is proved of the node holds by the
-//! contracts of the crates below. Tested by: tests/serve, tests/serve_slow and tests/serve_hostile, which run the built program over
+//! Proved beyond being safe is that a key that is remembered is that of its target, that an origin is asked at the name and port and for
+//! the target that the key has, that an object has a life only by what shows that it may be stored, and of what status and body the whole
+//! is that a 304 stands for. What is proved of the node holds by the contracts of the crates below. Tested by: tests/serve, tests/serve_slow and tests/serve_hostile, which run the built program over
 //! loopback; more-edits.
 #![tactic(auto)]
 
