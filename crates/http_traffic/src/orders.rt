@@ -1,4 +1,6 @@
 //! Fetches and their results.
+ghost use Rattle.std.specs.Prelude.{◌≡◌, IfSome};
+
 use crate::addresses::Addresses;
 use crate::passing::{Early, LeftChange, Passage};
 use futures::channel::oneshot;
@@ -201,7 +203,8 @@ pub enum Ended {
 /// Knows which servers may be fetched from as origin servers, and who began a fetch.
 pub trait Admit: Drop {
     /// This server, if it may be.
-    fn admitted(&self, server: SocketAddr) -> Option<AdmittedOrigin>;
+    fn admitted(&self, server: SocketAddr) -> Option<AdmittedOrigin>
+        ensures same { IfSome result (λ it. it.server ≡ server) };
 
     /// Gives the answer of this fetch, which has its end-to-end fields alone as yet, to the client that began it, while it is collected.
     /// Returns whether there is such a client that takes it.

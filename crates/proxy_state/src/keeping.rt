@@ -35,7 +35,7 @@ impl Profile {
         status: u16,
         head: &'a HeaderMap,
     ) -> Option<Storable<'a>>
-        ensures { IfSome result (IsOf exchange.mode status (fields_of head.now)) }
+        ensures { IfSome result (IsOf exchange.entry.mode status (fields_of head.now)) }
     {
         let Exchange {
             mode,

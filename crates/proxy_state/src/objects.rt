@@ -44,7 +44,7 @@ pub fn unstored_object(
     body: Vec<u8>,
     date: &[u8],
 ) -> Result<SharedObject, PassFault>
-    ensures status { IfOk result (λ object. object.status ≡ received.status) }
+    ensures status { IfOk result (λ object. object.status ≡ received.entry.status) }
     ensures life { IfOk result (λ object. object.life ≡ 0) }
 {
     let Received { status, head, age } = received;

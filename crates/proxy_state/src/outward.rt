@@ -1,4 +1,6 @@
 //! What is asked of other servers, and of which.
+ghost use Rattle.std.specs.Prelude.{◌≡◌, IfSome};
+
 use crate::addressing::{Destination, Peer, origin_of, peer_of};
 use crate::clock::date_seconds;
 use crate::fields::add_field;
@@ -116,7 +118,9 @@ impl Outward {
     }
 
     /// This server, if it may be fetched from as an origin.
-    pub fn admitted<R: Wait>(&self, rt: &R, server: SocketAddr) -> Option<AdmittedOrigin> {
+    pub fn admitted<R: Wait>(&self, rt: &R, server: SocketAddr) -> Option<AdmittedOrigin>
+        ensures same { IfSome result (λ it. it.server ≡ server) }
+    {
         self.origins.lock(rt).admitted(server)
     }
 
