@@ -35,7 +35,7 @@ CONFIG ?= examples/serve.json
 PREFIX ?= /usr/local
 DESTDIR ?=
 
-.PHONY: serve group feed fresh build install deb package systemd page test format cases documents loopback attacks open steady hostile slow interop clients load large fuzz limits early kept descriptors addresses six edits bench sweep storm
+.PHONY: serve group feed fresh build install deb package systemd page test format cases documents loopback attacks open steady hostile slow interop clients load large fuzz limits early kept descriptors addresses rules six edits bench sweep storm
 
 feed:
 	@tools/feed $(SCRIPT)
@@ -132,6 +132,10 @@ addresses:
 # What there is where the program may open few files.
 descriptors:
 	@tests/serve_descriptors $(PROGRAM)
+
+# What the rules of HTTP make of requests and answers, by rows.
+rules:
+	@tests/serve_rules $(PROGRAM)
 
 # Servers with an address of IPv6.
 six:

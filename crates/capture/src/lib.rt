@@ -9,7 +9,7 @@
 //! `specs/Written.antt` defines the octets of a written file's blocks, and `specs/Headers.antt` those of the IPv4 packet that is made of
 //! a datagram.
 //! Contracts see a frame and a block as the list of its octets, and of a reader what it has left.
-//! Tested by: crates/test_capture, tests/serve, more-edits.
+//! Tested by: crates/test_codecs, tests/serve, more-edits.
 #![tactic(auto)]
 
 mod block;

@@ -4,7 +4,7 @@
 //!
 //! The contracts see only that each future the stream yields may be polled, and which socket event a read or write waits for.
 //!
-//! Tested by: crates/test_edge.
+//! Tested by: tests/serve, tests/serve_attacks, tests/serve_slow.
 #![tactic(auto)]
 
 mod clients;

@@ -3,7 +3,7 @@
 //!
 //! What is done next is decided by `fair_use::Race`; that a server may be connected to is said by its type, `origin_rules::Admitted`. The
 //! contracts here see only that whoever waits is woken. Tested by:
-//! tests/serve_addresses, tests/serve_six, crates/test_edge.
+//! tests/serve_addresses, tests/serve_six, tests/serve.
 #![tactic(auto)]
 
 mod racing;

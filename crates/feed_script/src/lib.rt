@@ -3,7 +3,7 @@
 //! The script is text from any reader, the output is text to any writer; `script_lines` parses each line, and this crate
 //! executes it. The contract of [`feed`] sees the octets read and written: after success the output is exactly the text that
 //! `specs/Script.antt` defines for the whole input, and after a fault it is a prefix of the text of what was read.
-//! Tested by: crates/test_scripts, must-fail edits.
+//! Tested by: crates/test_node, must-fail edits.
 #![tactic(auto)]
 
 mod engine;

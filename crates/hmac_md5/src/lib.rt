@@ -3,7 +3,7 @@
 //!
 //! Contracts see keys, messages and codes as lists of octets; `specs/Hmac.antt` defines the code on top of the crate md5.
 //!
-//! Tested by: src/tests.rt (RFC 2202), crates/test_codecs (signed HTCP messages), must-fail edits.
+//! Tested by: crates/test_codecs (RFC 2202, and signed HTCP messages), must-fail edits.
 #![tactic(auto)]
 
 ghost use Rattle.std.specs.Prelude.{◌≡◌, ◌++◌, ◌↔◌, ◌<◌, ◌≤◌, ◌-◌, IsTrue, length, map, replicate, bit_xor};
@@ -95,6 +95,3 @@ pub fn same(a: &[u8], b: &[u8]) -> bool
 {
     a.len() == b.len() && difference(a, b) == 0
 }
-
-#[cfg(test)]
-mod tests;

@@ -7,8 +7,8 @@
 //! The administration's page stands here, too: one HTML document, which asks the administration for its figures, and the policy that it
 //! is answered with. `tools/page` writes the document out and takes it in again.
 //!
-//! Tested by: must-fail edits; crates/test_edge; tests/serve, serve_operator, serve_passages, serve_freshness, serve_slow and serve_hostile, which run the
-//! built program over loopback; `tools/page --check`, the policy's hashes; tests/page, in a browser.
+//! Tested by: must-fail edits; tests/serve, serve_operator, serve_passages, serve_freshness, serve_slow and serve_hostile, which run the built program
+//! over loopback; `tools/page --check`, the policy's hashes; tests/page, in a browser.
 #![tactic(auto)]
 
 mod account;

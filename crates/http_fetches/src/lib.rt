@@ -4,7 +4,7 @@
 //! The contracts see that every future is polled in a state in which it may be, and that an origin is judged before it is connected to;
 //! nothing is proved about the HTTP messages.
 //!
-//! Tested by: must-fail edits; crates/test_edge; tests/serve, tests/serve_slow, tests/serve_passages, tests/serve_kept, tests/serve_early and
+//! Tested by: must-fail edits; tests/serve, tests/serve_slow, tests/serve_passages, tests/serve_kept, tests/serve_early and
 //! tests/serve_hostile, which run the built program over loopback.
 #![tactic(auto)]
 

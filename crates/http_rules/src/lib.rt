@@ -5,7 +5,7 @@
 //!
 //! Pure functions on header maps and URLs, without any I/O. Their contracts define each result from the list of header fields
 //! (names in lower case) or from the parsed URL.
-//! Tested by: crates/test_http_rules, must-fail edits.
+//! Tested by: tests/serve_rules, tests/serve_freshness, must-fail edits.
 #![tactic(auto)]
 
 mod administrator;

@@ -2,7 +2,7 @@
 //! their results. The decisions are behind the traits `Front`, `FollowUp`, `PassOn` and `Panel`; no type of the HTTP library stands here.
 //!
 //! Proved is which of a name's addresses are connected to (`Addresses::admitted`) and how a method is written (`PassedMethod`), and of
-//! all else that it is free of panics and overflows. Tested by: crates/test_edge, tests/serve_passages.
+//! all else that it is free of panics and overflows. Tested by: tests/serve, tests/serve_passages.
 #![tactic(auto)]
 
 mod addresses;

@@ -3,7 +3,7 @@
 //! are started as they are needed, and take the names of those who ask in turns (`fair_use`).
 //!
 //! Nothing is proved here but that it is free of panics and overflows; whose turn it is and for how long what is known is used is decided
-//! by `fair_use`. Tested by: crates/test_edge, tests/serve, tests/serve_slow, tests/serve_six, tests/serve_attacks.
+//! by `fair_use`. Tested by: crates/test_http, tests/serve, tests/serve_slow, tests/serve_six, tests/serve_attacks.
 #![tactic(auto)]
 
 mod asker;

@@ -3,7 +3,7 @@
 //! Contracts see that a book is legal (replaying its entries from the opening state of the volume gives the present state and
 //! every tally), and of a settled desk how the receipts compare with the book. While a desk is open they see the seats alone, as
 //! other threads may change the node.
-//! Tested by: crates/test_book, crates/test_loop, crates/test_storm,
+//! Tested by: crates/test_node, crates/test_loop, crates/test_storm,
 //! crates/test_refusals, more-edits.
 #![tactic(auto)]
 

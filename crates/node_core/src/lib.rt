@@ -2,7 +2,7 @@
 //! (`plain_node`). A datagram is judged by the filters of its socket and of its sender, truncated to the verdict, and passed on.
 //! Contracts see a `State`: the plain node, the program of each slot and the counters. `HasTaken` relates the states before and
 //! after a list of events to the actions of each event.
-//! Tested by: crates/test_book, crates/test_loop, crates/test_storm, crates/test_refusals, more-edits.
+//! Tested by: crates/test_node, crates/test_loop, crates/test_storm, crates/test_refusals, more-edits.
 #![tactic(auto)]
 
 mod comparing;

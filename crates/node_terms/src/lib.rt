@@ -1,7 +1,7 @@
 //! Terms of the node that crates beside it use too: the endpoints, sockets and moments of datagrams, an IPv4 network, how a client's
 //! request may be answered, and how many fetches may be pending. Contracts see a moment as its number of milliseconds.
 //!
-//! Tested by: crates/test_codecs, crates/test_http_rules, cases/, more-edits.
+//! Tested by: crates/test_codecs, tests/serve_rules, cases/, more-edits.
 #![tactic(auto)]
 
 mod bounds;

@@ -3,11 +3,9 @@
 //!
 //! `Shelf` is seen by contracts as a store is, by its limits and its list of pairs, the one that was put there last first
 //! (`specs/Shelf.antt`). Contracts state the result and the next state of each call; what is counted is never above the limits.
-//! Tested by: src/tests.rt, must-fail edits.
+//! Tested by: crates/test_codecs, must-fail edits.
 #![tactic(auto)]
 
 mod shelf;
-#[cfg(test)]
-mod tests;
 
 pub use shelf::Shelf;

@@ -2,7 +2,7 @@
 //! servers that may be connected to, so that no other is.
 //!
 //! Pure functions. Their contracts define each result.
-//! Tested by: crates/test_http_rules, must-fail edits.
+//! Tested by: tests/serve_rules, tests/serve_six, must-fail edits.
 #![tactic(auto)]
 
 mod admitted;

@@ -3,7 +3,7 @@
 //! store, polls neighbours, and lets clients share fetches.
 //! Contracts see the node as a `PlainNode` and each call as one `plain_step` (specs/Plain.antt). A call that fails for lack of
 //! memory leaves the node unchanged; specs/Memory.antt says which events need none.
-//! Tested by: crates/test_book, test_loop, test_storm, test_refusals, cases/, more-edits.
+//! Tested by: crates/test_node, test_loop, test_storm, test_refusals, cases/, more-edits.
 #![tactic(auto)]
 
 mod action;

@@ -3,7 +3,7 @@
 //! The parser is stateless: [`read_line`] splits a line into words and turns them into an [`Item`]. Whether the line is allowed
 //! where it stands, and what it does, is the business of `feed_script`.
 //! Its contract says that the item is the reading (`script_line`) that the format gives for the octets of the line.
-//! Tested by: crates/test_scripts (through `feed_script`), must-fail edits.
+//! Tested by: crates/test_node (through `feed_script`), must-fail edits.
 #![tactic(auto)]
 
 mod address;

@@ -5,7 +5,7 @@
 //! `specs/Said.antt`), within which bounds, and what holds of the neighbours and the sockets of an accepted configuration. That there
 //! are no other keys, and the messages, is only tested. Which keys the node is given, and whether there is one for the cache's requests
 //! to itself, is defined in `specs/OwnKey.antt`.
-//! Tested by: tests/configurations (rows of cases/configurations), crates/test_http_rules, cases/serve, must-fail edits.
+//! Tested by: tests/configurations (rows of cases/configurations), crates/test_http, cases/serve, must-fail edits.
 #![tactic(auto)]
 
 mod fault;

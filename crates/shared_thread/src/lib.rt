@@ -2,7 +2,7 @@
 //! its peer sends.
 //!
 //! The contracts see only that the future of a job may be polled and which socket event a read or write waits for, and require a limit of
-//! at least one job. Tested by: crates/test_edge, tests/serve_attacks.
+//! at least one job. Tested by: crates/test_http, tests/serve_attacks.
 #![tactic(auto)]
 
 mod jobs;

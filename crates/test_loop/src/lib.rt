@@ -1,9 +1,10 @@
 //! Tests of what submits events to a node: the loop over the query sockets, datagrams that were judged before, and fetch workers.
 //!
-//! The loop of `mio_queries` runs over in-memory wires whose receives and sends fail in turn, for a node alone and for the seats of a
-//! desk. Filters are swapped between judging a datagram and taking it, also by another thread; one test compares times, within its
-//! own run, since nothing else tells that a datagram isn't judged twice. Workers with in-memory fetchers overlap at one desk. A
-//! clerk refuses events, keys and actions. The functions have only the contracts that opening a desk needs.
+//! The loop of `mio_queries` runs over in-memory wires whose receives and sends fail in turn; that it judges what comes, passes on and
+//! lets rounds end is tested over the built program (tests/serve, cases/). Filters are swapped between judging a datagram and taking
+//! it, also by another thread; one test compares times, within its own run, since nothing else tells that a datagram isn't judged
+//! twice. Workers with in-memory fetchers overlap at one desk. A clerk refuses events, keys and actions. The functions have only the
+//! contracts that opening a desk needs.
 //!
 //! Shared by the tests: `rows` (tables), `messages`, `sites` (nodes), `events`, `wires`, `desks`, `refusing` (a clerk that
 //! refuses) and `workers`.
@@ -30,10 +31,6 @@ mod orders;
 #[cfg(test)]
 mod overlapping;
 #[cfg(test)]
-mod passing;
-#[cfg(test)]
-mod pumping;
-#[cfg(test)]
 mod refusing;
 #[cfg(test)]
 mod rows;
@@ -42,13 +39,7 @@ mod scripted;
 #[cfg(test)]
 mod sharing;
 #[cfg(test)]
-mod silence;
-#[cfg(test)]
 mod sites;
-#[cfg(test)]
-mod sizes;
-#[cfg(test)]
-mod two_seats;
 #[cfg(test)]
 mod wires;
 #[cfg(test)]

@@ -56,8 +56,3 @@ fn datagram(alloc: Global, octets: Vec<u8>) -> Option<Arc<Datagram>> {
 pub(crate) fn query(alloc: Global, place: usize) -> Option<Arc<Datagram>> {
     datagram(alloc, QUERIES.get(place)?.to_vec(alloc).ok()?)
 }
-
-/// A datagram of this many octets, which are no message.
-pub(crate) fn zeros(alloc: Global, size: usize) -> Option<Arc<Datagram>> {
-    datagram(alloc, vec![in alloc; 0u8; size].ok()?)
-}

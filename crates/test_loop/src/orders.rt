@@ -19,7 +19,7 @@ struct Row {
     is_answered: bool,
 }
 
-const ROWS: [Row; 7] = [
+const ROWS: [Row; 8] = [
     // Accepted by the old filter, rejected by the new one.
     Row {
         judged: Some(65_535),
@@ -51,6 +51,12 @@ const ROWS: [Row; 7] = [
         judged: Some(65_535),
         in_force: Some(65_535),
         is_answered: true,
+    },
+    // An equal one, which was not the one in force.
+    Row {
+        judged: Some(0),
+        in_force: Some(0),
+        is_answered: false,
     },
     // Cut by the new filter to 12 octets, which are no message.
     Row {

@@ -6,10 +6,10 @@ use std::alloc::Global;
 use std::test::Fail;
 
 /// A wire's script, and what is expected: what `pump` returns, and the number of datagrams judged.
-pub(crate) struct Row {
-    pub(crate) script: Script<'static>,
-    pub(crate) gives: Result<Pumped, PumpFault>,
-    pub(crate) judged: u64,
+struct Row {
+    script: Script<'static>,
+    gives: Result<Pumped, PumpFault>,
+    judged: u64,
 }
 
 const ROWS: [Row; 7] = [
@@ -113,7 +113,7 @@ const ROWS: [Row; 7] = [
 ];
 
 /// A row, for a new node by itself.
-pub(crate) struct AsScripted;
+struct AsScripted;
 
 impl Question<Row> for AsScripted {
     fn holds(&self, alloc: Global, row: &Row) -> Option<bool> {

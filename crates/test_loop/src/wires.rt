@@ -1,5 +1,5 @@
 //! In-memory wires, and pumping over them.
-use crate::messages::{MISSES, PEER, query, zeros};
+use crate::messages::{MISSES, PEER, query};
 use crate::sites::{ALONE, counted_by, lone_of};
 use filter_slots::{Datagram, Moment, Socket};
 use mio_queries::{MemoryWire, PumpFault, Pumped, Received, Sending, WireFault, pump};
@@ -12,8 +12,6 @@ use std::sync::Arc;
 pub(crate) enum Step {
     /// A query, by its place in the list.
     Query(usize),
-    /// A datagram of so many octets, which are no message.
-    Zeros(usize),
     Idle(u64),
     Fault(WireFault),
 }
@@ -57,7 +55,6 @@ fn received(datagram: Option<Arc<Datagram>>) -> Option<Received> {
 fn answer_of(alloc: Global, step: Step) -> Option<Result<Received, WireFault>> {
     match step {
         Step::Query(place) => Some(Ok(received(query(alloc, place))?)),
-        Step::Zeros(size) => Some(Ok(received(zeros(alloc, size))?)),
         Step::Idle(now) => Some(Ok(Received::Idle(Moment::new(now)?))),
         Step::Fault(fault) => Some(Err(fault)),
     }

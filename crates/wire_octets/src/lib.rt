@@ -3,7 +3,7 @@
 //!
 //! Contracts see slices and buffers as lists of octets; the encoding is defined by the crate byteorder.
 //!
-//! Tested by: src/tests.rt, crates/test_codecs (by the codecs), must-fail edits.
+//! Tested by: crates/test_codecs, must-fail edits.
 #![tactic(auto)]
 
 mod appending;
@@ -15,6 +15,3 @@ pub use appending::{put_u16, put_u32};
 pub use encode_fault::EncodeFault;
 pub use laws::{number_from_its_octets, octets_from_their_number};
 pub use reading::{split_u16, split_u32};
-
-#[cfg(test)]
-mod tests;

@@ -1,4 +1,0 @@
-use Rattle.test_book.proofs.contents.receipts_give_way_by_their_octets.Given as goal
-
-abbrev pub ghosts-kept : goal.ghosts-kept
-ghosts-kept g a = record { name = a.blank.name; parts = a.blank.parts }

@@ -1,4 +1,0 @@
-use Rattle.test_book.proofs.desks.no_seat_and_too_many_are_refused.Given as goal
-
-abbrev pub ghosts-refused : goal.ghosts-refused
-ghosts-refused g a = record { name = a.blank.name; parts = a.blank.parts }

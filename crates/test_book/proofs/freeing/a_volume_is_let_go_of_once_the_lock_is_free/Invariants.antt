@@ -1,4 +1,0 @@
-use Rattle.test_book.proofs.freeing.a_volume_is_let_go_of_once_the_lock_is_free.Given as goal
-
-abbrev pub ghosts-told : goal.ghosts-told
-ghosts-told g a = record { name = a.blank.name; parts = a.blank.parts }
