@@ -29,7 +29,7 @@ use std::fmt;
 const OUT_OF_RANGE: &str = "number out of range";
 
 /// The form of the lines about answers to clients.
-#[derive(Clone, Copy, Debug, PartialEq, Eq)]
+#[derive(Clone, Copy, Debug)]
 pub enum LogFormat {
     /// The combined form of NCSA, with two more fields. It is the usual one.
     Common,
