@@ -2,7 +2,7 @@
 use std::net::IpAddr;
 
 /// How a line is written.
-#[derive(Clone, Copy, Debug, PartialEq, Eq)]
+#[derive(Clone, Copy)]
 pub enum Form {
     /// NCSA's combined format, and two fields more.
     Common,
@@ -11,7 +11,7 @@ pub enum Form {
 }
 
 /// How a request was answered; for one that was given up, how it would have been.
-#[derive(Clone, Copy, Debug, PartialEq, Eq)]
+#[derive(Clone, Copy)]
 pub enum Course {
     /// By what was stored: `hit`.
     Hit,
@@ -26,7 +26,7 @@ pub enum Course {
 }
 
 /// Whom an object was fetched from.
-#[derive(Clone, Copy, Debug, PartialEq, Eq)]
+#[derive(Clone, Copy)]
 pub enum Supplier {
     /// An origin server: `origin`.
     Origin,

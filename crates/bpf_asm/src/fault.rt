@@ -6,7 +6,7 @@ ghost use Rattle.bpf_asm.specs.Assembly.{fault_number, fault_line};
 use thiserror::Error;
 
 /// Why an assembler text is refused. The number in a variant is the line number, counted from 1.
-#[derive(Clone, Copy, Debug, PartialEq, Eq, Error)]
+#[derive(Clone, Copy, Debug, Error)]
 pub enum AsmFault {
     /// The first word of an instruction is not a mnemonic.
     #[error("line {0}: the first word is no mnemonic")]

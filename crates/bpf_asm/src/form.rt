@@ -7,7 +7,7 @@ use Piece::*;
 use bpf_check::operation::{Arithmetic, Comparison, Operand, Operation, Width};
 
 /// A token after the mnemonic: a fixed one, or a placeholder for a number or a label.
-#[derive(Clone, Copy, Debug, PartialEq, Eq)]
+#[derive(Clone, Copy)]
 pub(crate) enum Piece {
     Hash,
     Open,

@@ -74,7 +74,7 @@ impl CheckFault {
 }
 
 /// An accepted program. Contracts see the list of its instructions.
-#[derive(Debug, Drop)]
+#[derive(Drop)]
 pub struct Checked {
     insns: Vec<Insn>,
 }

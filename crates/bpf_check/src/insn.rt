@@ -4,7 +4,7 @@ ghost use Rattle.std.specs.Prelude.{◌≡◌, ◌+◌, ◌*◌};
 ghost use Rattle.bpf_check.specs.Insn.{InRange};
 
 /// A classic BPF instruction: the four fields of its encoding.
-#[derive(Clone, Copy, Debug, PartialEq, Eq)]
+#[derive(Clone, Copy, PartialEq, Eq)]
 pub struct Insn {
     /// The operation code.
     pub code: u16,

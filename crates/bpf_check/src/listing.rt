@@ -16,7 +16,7 @@ use std::alloc::Global;
 use thiserror::Error;
 
 /// Why a listing is refused. The number in a variant is the line number, counted from 1.
-#[derive(Clone, Copy, Debug, PartialEq, Eq, Error)]
+#[derive(Clone, Copy, Debug, Error)]
 pub enum ListingFault {
     /// The first line is missing, or is not exactly one number.
     #[error("the first line is no number")]

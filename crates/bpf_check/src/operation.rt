@@ -4,7 +4,7 @@ ghost use Rattle.std.specs.Prelude.{◌≡◌};
 ghost use Rattle.bpf_check.specs.Operation.{operation_of};
 
 /// How many octets a load reads from the packet.
-#[derive(Clone, Copy, Debug, PartialEq, Eq)]
+#[derive(Clone, Copy)]
 pub enum Width {
     /// Four octets.
     Word,
@@ -15,7 +15,7 @@ pub enum Width {
 }
 
 /// The right-hand operand of an operation.
-#[derive(Clone, Copy, Debug, PartialEq, Eq)]
+#[derive(Clone, Copy)]
 pub enum Operand {
     /// The field `k` of the instruction.
     Constant,
@@ -24,7 +24,7 @@ pub enum Operand {
 }
 
 /// An arithmetic or bitwise operation.
-#[derive(Clone, Copy, Debug, PartialEq, Eq)]
+#[derive(Clone, Copy)]
 pub enum Arithmetic {
     Add,
     Subtract,
@@ -40,7 +40,7 @@ pub enum Arithmetic {
 }
 
 /// The test of a conditional jump.
-#[derive(Clone, Copy, Debug, PartialEq, Eq)]
+#[derive(Clone, Copy)]
 pub enum Comparison {
     Equal,
     AtLeast,
@@ -50,7 +50,7 @@ pub enum Comparison {
 }
 
 /// What an instruction does. A is the accumulator, X the index register, M the scratch memory.
-#[derive(Clone, Copy, Debug, PartialEq, Eq)]
+#[derive(Clone, Copy)]
 pub enum Operation {
     /// A = the packet's octets at offset k, in network order.
     LoadAbsolute(Width),

@@ -10,7 +10,7 @@ use crate::packet::Packet;
 use bpf_check::Checked;
 
 /// The result of running a filter.
-#[derive(Clone, Copy, Debug, PartialEq, Eq)]
+#[derive(Clone, Copy, PartialEq, Eq)]
 pub struct Verdict {
     /// The value that the filter returned.
     pub value: u32,
@@ -19,7 +19,7 @@ pub struct Verdict {
 }
 
 /// The value of a run, and where it ended.
-#[derive(Clone, Copy, Debug, PartialEq, Eq)]
+#[derive(Clone, Copy)]
 pub struct Ending {
     /// The value that the filter returned.
     pub value: u32,

@@ -10,7 +10,7 @@ use bpf_check::insn::Insn;
 use bpf_check::operation::{Arithmetic, Comparison, Operand, Operation, Width, decode};
 
 /// The registers and the scratch memory.
-#[derive(Clone, Copy, Debug, PartialEq, Eq)]
+#[derive(Clone, Copy)]
 pub struct Machine {
     /// The accumulator.
     pub a: u32,
@@ -22,7 +22,7 @@ pub struct Machine {
 
 /// The effect of an instruction, as the definitions state it. The interpreter updates a machine in place and returns an
 /// [`Outcome`] instead.
-#[derive(Clone, Copy, Debug, PartialEq, Eq)]
+#[derive(Clone, Copy)]
 pub enum Step {
     /// Continues with the next instruction and this machine.
     Next(Machine),
@@ -46,7 +46,7 @@ impl Machine {
 }
 
 /// How a run continues after an instruction that has updated the machine.
-#[derive(Clone, Copy, Debug, PartialEq, Eq)]
+#[derive(Clone, Copy)]
 pub enum Outcome {
     /// Continues with the next instruction.
     Next,

@@ -16,7 +16,7 @@ pub const HEADER: usize = 28;
 
 /// A packet for filters: 28 header octets, made from the endpoints and the length, followed by the borrowed payload.
 /// Contracts see the list of its octets.
-#[derive(Debug, Drop)]
+#[derive(Drop)]
 pub struct Packet<'a> {
     header: [u8; HEADER],
     payload: &'a [u8],

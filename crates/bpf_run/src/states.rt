@@ -11,7 +11,7 @@ use std::alloc::{AllocError, Global};
 use std::marker::Model;
 
 /// A state of a run: the index of the instruction that is executed next, and the machine before it.
-#[derive(Clone, Copy, Debug)]
+#[derive(Clone, Copy)]
 pub struct State {
     place: usize,
     machine: Machine,
@@ -44,7 +44,7 @@ impl State {
 }
 
 /// A whole run: its states in order, and the value that it ended with.
-#[derive(Debug, Drop)]
+#[derive(Drop)]
 pub struct Run {
     /// The states, from the first instruction to the one that ended the run.
     pub states: Vec<State>,

@@ -4,7 +4,7 @@ use std::alloc::AllocError;
 use std::fmt;
 
 /// Why the next packet of a capture is not read. It prints as `capture fault` and its number.
-#[derive(Clone, Copy, Debug, PartialEq, Eq)]
+#[derive(Clone, Copy, PartialEq, Eq)]
 pub enum CaptureFault {
     /// 1: The file does not begin as a classic pcap file of version 2 does, nor a section as those of a pcapng file of version 1.
     NotCapture,

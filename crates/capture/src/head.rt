@@ -3,7 +3,7 @@
 use crate::link::Link;
 
 /// What a capture file says of a packet besides its octets.
-#[derive(Clone, Copy, Debug, PartialEq, Eq)]
+#[derive(Clone, Copy, PartialEq, Eq)]
 pub struct PacketHead {
     /// The link type of the packet, or `None` if it is not one that is read.
     pub link: Option<Link>,

@@ -8,7 +8,7 @@ use crate::order::{Order, half, word};
 use byteorder::{BigEndian, ByteOrder, LittleEndian};
 
 /// What a pcapng file says of an interface: of the packets that were captured at it.
-#[derive(Clone, Copy, Debug, PartialEq, Eq)]
+#[derive(Clone, Copy)]
 pub struct Interface {
     /// The link type of its packets, or `None` if it is not one that is read.
     pub link: Option<Link>,

@@ -7,7 +7,7 @@ use crate::order::pair;
 use byteorder::{BigEndian, ByteOrder, LittleEndian};
 
 /// The link types that are read, as tcpdump.org numbers them.
-#[derive(Clone, Copy, Debug, PartialEq, Eq)]
+#[derive(Clone, Copy, PartialEq, Eq)]
 pub enum Link {
     /// IP packets with no header before them (12, 14, 101), or IPv4 packets (228).
     Raw,

@@ -6,7 +6,7 @@ ghost use Rattle.capture.specs.Fields.{half, pair, word};
 use byteorder::{BigEndian, ByteOrder, LittleEndian};
 
 /// The byte order of the machine that wrote a capture file.
-#[derive(Clone, Copy, Debug, PartialEq, Eq)]
+#[derive(Clone, Copy, PartialEq, Eq)]
 pub enum Order {
     /// The highest octet first.
     Big,

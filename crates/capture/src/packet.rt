@@ -12,7 +12,7 @@ use crate::order::{Order, half, word};
 use crate::record::MOST_OCTETS;
 
 /// What the fields of a packet block say.
-#[derive(Clone, Copy, Debug, PartialEq, Eq)]
+#[derive(Clone, Copy)]
 pub struct Fields {
     /// The number of the packet's interface, from 0.
     pub interface: u32,
@@ -27,7 +27,7 @@ pub struct Fields {
 }
 
 /// A packet in a block; its captured octets are borrowed from it.
-#[derive(Clone, Copy, Debug)]
+#[derive(Clone, Copy)]
 pub(crate) struct Held<'a> {
     pub(crate) head: PacketHead,
     pub(crate) captured: &'a [u8],

@@ -29,7 +29,7 @@ const RECORD_HEAD: u64 = 16;
 pub const MOST_INTERFACES: usize = 65_536;
 
 /// The form of a capture file.
-#[derive(Clone, Copy, Debug, PartialEq, Eq)]
+#[derive(Clone, Copy)]
 pub enum Form {
     /// A classic pcap file, with what its header says.
     Classic(FileHead),
@@ -38,7 +38,7 @@ pub enum Form {
 }
 
 /// What a record or block was.
-#[derive(Clone, Copy, Debug, PartialEq, Eq)]
+#[derive(Clone, Copy)]
 pub enum Step {
     /// None: the file ends.
     End,
@@ -49,7 +49,7 @@ pub enum Step {
 }
 
 /// A capture file, as far as it was read. Contracts see its form, and the interfaces that its section described so far.
-#[derive(Debug, Drop)]
+#[derive(Drop)]
 pub struct Capture {
     form: Form,
     interfaces: Vec<Interface>,

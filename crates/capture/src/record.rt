@@ -12,7 +12,7 @@ use std::io::{ErrorKind, Read};
 pub const MOST_OCTETS: u32 = 262_144;
 
 /// What the header of a record says besides the number of captured octets.
-#[derive(Clone, Copy, Debug, PartialEq, Eq)]
+#[derive(Clone, Copy)]
 pub struct RecordHead {
     /// The whole seconds of the moment at which the packet came.
     pub seconds: u32,

@@ -9,7 +9,7 @@ use crate::order::pair;
 use bpf_run::End;
 
 /// A UDP datagram in a captured frame; the payload is borrowed from it.
-#[derive(Clone, Copy, Debug)]
+#[derive(Clone, Copy)]
 pub struct UdpView<'a> {
     /// Source address and port.
     pub from: End,

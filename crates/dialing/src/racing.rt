@@ -31,7 +31,7 @@ pub struct Connected {
 }
 
 /// Why a server was not connected to.
-#[derive(Clone, Copy, Debug, PartialEq, Eq)]
+#[derive(Clone, Copy)]
 pub enum DialFault {
     /// The attempt at each address has failed.
     Failed,

@@ -19,7 +19,7 @@ pub const FEW_FILES: usize = 600;
 
 /// How a table of open files is divided. Neither side is lent what the other one doesn't use, so that a client that comes always finds the file
 /// of its seat.
-#[derive(Clone, Copy, Debug, PartialEq, Eq)]
+#[derive(Clone, Copy)]
 pub struct Division {
     /// How many connections of clients there may be.
     pub seats: usize,
@@ -28,7 +28,7 @@ pub struct Division {
 }
 
 /// A table of so few open files that a start tells how it is divided.
-#[derive(Clone, Copy, Debug, PartialEq, Eq)]
+#[derive(Clone, Copy)]
 pub struct FewFiles {
     pub files: usize,
     pub division: Division,
@@ -64,7 +64,7 @@ pub fn division_of(files: usize, threads: usize, most: usize) -> Division
 }
 
 /// What becomes of one more connection to a server.
-#[derive(Clone, Copy, Debug, PartialEq, Eq)]
+#[derive(Clone, Copy)]
 pub enum FileRoom {
     /// There is room for it.
     Free,

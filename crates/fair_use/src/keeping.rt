@@ -8,7 +8,7 @@ pub const MOST_TO_A_SERVER: usize = 32;
 pub const MOST_IDLE: usize = 256;
 
 /// Which idle connection is closed for one that carries no request any more.
-#[derive(Clone, Copy, Debug, PartialEq, Eq)]
+#[derive(Clone, Copy)]
 pub enum GivesWay {
     /// None.
     Nobody,

@@ -6,7 +6,7 @@ ghost use Rattle.fair_use.specs.Race.{IsMove, after_begun, after_ended, is_asked
 const DELAY: u64 = 250;
 
 /// The attempts of a race, each to an address of its own, in the order of these.
-#[derive(Clone, Copy, Debug, PartialEq, Eq)]
+#[derive(Clone, Copy)]
 pub struct Race {
     /// How many there are in all.
     pub count: usize,
@@ -23,7 +23,7 @@ pub struct Race {
 }
 
 /// What is to be done in a race.
-#[derive(Clone, Copy, Debug, PartialEq, Eq)]
+#[derive(Clone, Copy)]
 pub enum Move {
     /// The next attempt begins, beside those under way if there are some.
     Begin,

@@ -3,7 +3,7 @@ ghost use Rattle.std.specs.Prelude.{◌≡◌};
 ghost use Rattle.fair_use.specs.Unanswered.{is_carried_out, may_have_changed};
 
 /// How much of a request its client has sent.
-#[derive(Clone, Copy, Debug, PartialEq, Eq)]
+#[derive(Clone, Copy)]
 pub enum Upload {
     /// All of it.
     Whole,

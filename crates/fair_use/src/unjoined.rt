@@ -6,7 +6,7 @@ ghost use Rattle.fair_use.specs.Unjoined.{IsRemembered};
 pub const MOST_UNJOINED: usize = 1_024;
 
 /// How a fetch for all clients ended, for who asks for the same next.
-#[derive(Clone, Copy, Debug, PartialEq, Eq)]
+#[derive(Clone, Copy, PartialEq, Eq)]
 pub enum SharedEnd {
     /// By a response that may be stored.
     Storable,

@@ -5,7 +5,7 @@ ghost use Rattle.std.specs.Fmt.{decimal};
 use std::fmt;
 
 /// Why [`feed`](crate::feed) fails.
-#[derive(Clone, Copy, Debug, PartialEq)]
+#[derive(Clone, Copy, PartialEq)]
 pub enum FeedFault {
     /// The line with this number, counted from 1, is wrong.
     Line(u64),

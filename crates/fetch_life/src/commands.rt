@@ -5,14 +5,14 @@ ghost use Rattle.fetch_life.specs.Table.{goes, shown, stay};
 use crate::stages::{Fetch, Flight, Stage};
 
 /// One of a server's addresses.
-#[derive(Clone, Copy, Debug, PartialEq, Eq)]
+#[derive(Clone, Copy, PartialEq, Eq)]
 pub enum Which {
     First,
     Other,
 }
 
 /// Which fields a request has, beside Host and the marks of this cache.
-#[derive(Clone, Copy, Debug, PartialEq, Eq)]
+#[derive(Clone, Copy, PartialEq, Eq)]
 pub struct Request {
     /// Those of the client that owns the fetch, but for the ones below.
     pub has_clients: bool,
@@ -29,7 +29,7 @@ pub struct Request {
 }
 
 /// Whom an object comes from.
-#[derive(Clone, Copy, Debug, PartialEq, Eq)]
+#[derive(Clone, Copy, PartialEq, Eq)]
 pub enum Supplier {
     Origin,
     /// An origin server, which has confirmed what was there.
@@ -42,7 +42,7 @@ pub enum Supplier {
 }
 
 /// An object that a fetch brings.
-#[derive(Clone, Copy, Debug, PartialEq, Eq)]
+#[derive(Clone, Copy, PartialEq, Eq)]
 pub struct BroughtObject {
     /// Whether it has a life, so that the node stores it.
     pub is_kept: bool,
@@ -50,7 +50,7 @@ pub struct BroughtObject {
 }
 
 /// What a fetch brings.
-#[derive(Clone, Copy, Debug, PartialEq, Eq)]
+#[derive(Clone, Copy, PartialEq, Eq)]
 pub enum Brought {
     Object(BroughtObject),
     /// Nothing: the node has the next source asked.
@@ -60,7 +60,7 @@ pub enum Brought {
 }
 
 /// How an attempt ended, as it is counted.
-#[derive(Clone, Copy, Debug, PartialEq, Eq)]
+#[derive(Clone, Copy, PartialEq, Eq)]
 pub enum Count {
     /// With a complete answer.
     Whole,
@@ -73,7 +73,7 @@ pub enum Count {
 }
 
 /// What is to be done.
-#[derive(Clone, Copy, Debug, PartialEq, Eq)]
+#[derive(Clone, Copy, PartialEq, Eq)]
 pub enum Command {
     /// Take its order anew (`Event::Ordered`).
     Renew,
@@ -105,7 +105,7 @@ pub enum Command {
 }
 
 /// At most four commands, in this order.
-#[derive(Clone, Copy, Debug, PartialEq, Eq)]
+#[derive(Clone, Copy, PartialEq, Eq)]
 pub struct Commands {
     pub first: Option<Command>,
     pub second: Option<Command>,
@@ -114,7 +114,7 @@ pub struct Commands {
 }
 
 /// A step of a fetch: what comes then, and what is to be done.
-#[derive(Clone, Copy, Debug, PartialEq, Eq)]
+#[derive(Clone, Copy)]
 pub struct Step {
     pub fetch: Fetch,
     pub commands: Commands,

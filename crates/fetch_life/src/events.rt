@@ -2,7 +2,7 @@
 use crate::facts::{Addresses, Failure, Order, Page};
 
 /// The head of an answer.
-#[derive(Clone, Copy, Debug, PartialEq, Eq)]
+#[derive(Clone, Copy)]
 pub struct Head {
     pub status: u16,
     /// Whether its content is announced to be so long that it is given while it is collected.
@@ -10,7 +10,7 @@ pub struct Head {
 }
 
 /// What happens to a fetch.
-#[derive(Clone, Copy, Debug, PartialEq, Eq)]
+#[derive(Clone, Copy)]
 pub enum Event {
     /// The node orders it.
     Ordered(Order),

@@ -1,7 +1,7 @@
 //! What is known of a fetch: of its order, of its server, and of what came. The rules of `http_rules` compute it.
 
 /// Whom a fetch asks.
-#[derive(Clone, Copy, Debug, PartialEq, Eq)]
+#[derive(Clone, Copy)]
 pub enum Source {
     /// An origin server.
     Origin,
@@ -12,7 +12,7 @@ pub enum Source {
 }
 
 /// What the node orders, and what is known of it.
-#[derive(Clone, Copy, Debug, PartialEq, Eq)]
+#[derive(Clone, Copy)]
 pub struct Order {
     pub source: Source,
     /// Whether it is for all clients. A private one is for the client that owns it.
@@ -34,7 +34,7 @@ pub struct Order {
 }
 
 /// The addresses of a server, of which the rules for origin servers admit some (`http_rules::OriginRules`).
-#[derive(Clone, Copy, Debug, PartialEq, Eq)]
+#[derive(Clone, Copy)]
 pub struct Addresses {
     pub is_first_admitted: bool,
     pub has_other: bool,
@@ -46,7 +46,7 @@ pub struct Addresses {
 }
 
 /// Why an attempt failed.
-#[derive(Clone, Copy, Debug, PartialEq, Eq)]
+#[derive(Clone, Copy)]
 pub enum Fault {
     /// Its server's name has no address.
     Lookup,
@@ -77,7 +77,7 @@ pub enum Fault {
 }
 
 /// An attempt has failed.
-#[derive(Clone, Copy, Debug, PartialEq, Eq)]
+#[derive(Clone, Copy)]
 pub struct Failure {
     pub fault: Fault,
     /// Whether an octet of an answer has come.
@@ -87,7 +87,7 @@ pub struct Failure {
 }
 
 /// A complete answer.
-#[derive(Clone, Copy, Debug, PartialEq, Eq)]
+#[derive(Clone, Copy)]
 pub struct Page {
     pub status: u16,
     /// Whether a 304 is about the object that was asked about, and can be brought up to date (`http_rules::is_about`, `updated`).
@@ -107,7 +107,7 @@ pub struct Page {
 }
 
 /// How an attempt ended.
-#[derive(Clone, Copy, Debug, PartialEq, Eq)]
+#[derive(Clone, Copy)]
 pub enum End {
     Whole(Page),
     /// No address of the server is admitted; it was not connected to.

@@ -3,7 +3,7 @@ use crate::commands::Which;
 use crate::facts::{End, Source};
 
 /// What stays of an order.
-#[derive(Clone, Copy, Debug, PartialEq, Eq)]
+#[derive(Clone, Copy)]
 pub struct Flight {
     pub source: Source,
     pub is_shared: bool,
@@ -14,7 +14,7 @@ pub struct Flight {
 }
 
 /// Which address has its turn.
-#[derive(Clone, Copy, Debug, PartialEq, Eq)]
+#[derive(Clone, Copy)]
 pub struct Reach {
     pub at: Which,
     /// Whether the other one has its turn yet.
@@ -22,7 +22,7 @@ pub struct Reach {
 }
 
 /// An exchange with a server.
-#[derive(Clone, Copy, Debug, PartialEq, Eq)]
+#[derive(Clone, Copy)]
 pub struct Exchange {
     pub reach: Reach,
     /// Whether its connection was used before.
@@ -32,7 +32,7 @@ pub struct Exchange {
 }
 
 /// A result that is handed in.
-#[derive(Clone, Copy, Debug, PartialEq, Eq)]
+#[derive(Clone, Copy)]
 pub struct Landing {
     pub end: End,
     /// Whether it was made anew, after a change.
@@ -40,7 +40,7 @@ pub struct Landing {
 }
 
 /// How far a fetch has come.
-#[derive(Clone, Copy, Debug, PartialEq, Eq)]
+#[derive(Clone, Copy)]
 pub enum Stage {
     /// It is not ordered.
     Ordering,
@@ -59,7 +59,7 @@ pub enum Stage {
 }
 
 /// A fetch, and how far it has come.
-#[derive(Clone, Copy, Debug, PartialEq, Eq)]
+#[derive(Clone, Copy)]
 pub struct Fetch {
     pub flight: Flight,
     pub stage: Stage,

@@ -8,7 +8,7 @@ use bpf_run::Socket;
 use byteorder::{BigEndian, ByteOrder};
 
 /// What stands in the fixed places of an answer.
-#[derive(Clone, Copy, Debug, PartialEq, Eq)]
+#[derive(Clone, Copy)]
 pub struct Answer {
     /// What it says: the opcode of an ICP message; of an HTCP message the octet with opcode and response, and 256 more if the
     /// response is about the whole message (MO).
@@ -18,7 +18,7 @@ pub struct Answer {
 }
 
 /// How two answers to one request differ, or which side alone has one.
-#[derive(Clone, Copy, Debug, PartialEq, Eq)]
+#[derive(Clone, Copy, PartialEq, Eq)]
 pub enum Kind {
     /// The same octets.
     Equal,

@@ -16,7 +16,7 @@ pub fn time_of(seconds: u64, nanoseconds: u32) -> u64
 }
 
 /// Gives packets their moments, in the order of the file.
-#[derive(Clone, Copy, Debug, PartialEq, Eq)]
+#[derive(Clone, Copy)]
 pub struct Clock {
     /// The time at which moments begin, in milliseconds since 1970; `None` until the first packet tells it.
     pub start: Option<u64>,

@@ -7,7 +7,7 @@ use std::alloc::Global;
 use std::io::Read;
 
 /// A packet whose frame was taken.
-#[derive(Clone, Copy, Debug)]
+#[derive(Clone, Copy)]
 pub(crate) struct Packet {
     /// Its number in the file, from 1.
     pub(crate) number: u64,
@@ -18,7 +18,7 @@ pub(crate) struct Packet {
 }
 
 /// Where a reader stands in a capture.
-#[derive(Debug, Drop)]
+#[derive(Drop)]
 pub(crate) struct Packets {
     capture: Capture,
     number: u64,

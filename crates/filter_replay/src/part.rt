@@ -9,7 +9,7 @@ use bpf_run::{End, Socket};
 use capture::UdpView;
 
 /// The two query sockets of a cache.
-#[derive(Clone, Copy, Debug, PartialEq, Eq)]
+#[derive(Clone, Copy)]
 pub struct Sockets {
     /// The address of both.
     pub own: [u8; 4],
@@ -63,7 +63,7 @@ fn is_complete(datagram: &UdpView<'_>) -> bool
 }
 
 /// What a datagram of a capture is to the cache.
-#[derive(Clone, Copy, Debug, PartialEq, Eq)]
+#[derive(Clone, Copy)]
 pub enum Part {
     /// It came to this query socket.
     Received(Socket),

@@ -4,7 +4,7 @@ use crate::part::Sockets;
 use node_core::Network;
 
 /// The cache that a capture is about: its own query sockets, and the settings of the node that stands for it.
-#[derive(Clone, Copy, Debug)]
+#[derive(Clone, Copy)]
 pub struct Plan<'a> {
     /// Its query sockets.
     pub sockets: Sockets,

@@ -21,7 +21,7 @@ use std::io::{Read, Write};
 pub const SCRIPT_LIMIT: u64 = 1_000_000_000;
 
 /// How far the packets of a capture are taken.
-#[derive(Clone, Copy, Debug)]
+#[derive(Clone, Copy)]
 pub(crate) struct Progress {
     pub(crate) clock: Clock,
     pub(crate) counts: Counts,

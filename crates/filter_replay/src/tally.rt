@@ -7,7 +7,7 @@ use crate::answer::Kind;
 use crate::part::Part;
 
 /// Numbers of packets, by what they are to the cache. Saturating.
-#[derive(Clone, Copy, Debug, PartialEq, Eq)]
+#[derive(Clone, Copy)]
 pub struct Counts {
     /// Datagrams to one of the query sockets.
     pub received: u64,
@@ -20,7 +20,7 @@ pub struct Counts {
 }
 
 /// Numbers of answers at a socket, by how those of the capture and of the node differ. Saturating.
-#[derive(Clone, Copy, Debug, PartialEq, Eq)]
+#[derive(Clone, Copy)]
 pub struct Answers {
     /// Both have it, with the same octets.
     pub equal: u64,

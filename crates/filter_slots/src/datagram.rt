@@ -12,7 +12,7 @@ use std::marker::Model;
 
 /// A received UDP datagram: the socket that received it, source and destination, and a payload of at most 65,507 octets.
 /// Contracts see a record of these.
-#[derive(Debug, Drop)]
+#[derive(Drop)]
 pub struct Datagram {
     socket: Socket,
     from: End,

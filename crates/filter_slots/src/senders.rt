@@ -16,7 +16,7 @@ pub(crate) const MOST_NEIGHBOURS: usize = 64;
 const BUCKETS: usize = 256;
 
 /// Socket and end of a neighbour, and the index of the previous neighbour in the same bucket.
-#[derive(Clone, Copy, Debug)]
+#[derive(Clone, Copy)]
 pub(crate) struct Sender {
     pub(crate) socket: Socket,
     pub(crate) end: End,

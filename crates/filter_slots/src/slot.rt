@@ -4,7 +4,7 @@ use bpf_run::Socket;
 use thiserror::Error;
 
 /// A slot for a filter program.
-#[derive(Clone, Copy, Debug, PartialEq, Eq)]
+#[derive(Clone, Copy, PartialEq, Eq)]
 pub enum Slot {
     /// The slot of a query socket. Its program judges each datagram that the socket receives.
     Socket(Socket),

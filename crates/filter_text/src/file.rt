@@ -2,7 +2,7 @@
 use filter_slots::Slot;
 
 /// The file of the filter of a slot.
-#[derive(Debug, Drop)]
+#[derive(Drop)]
 pub struct FilterFile {
     /// The slot.
     pub slot: Slot,

@@ -12,7 +12,7 @@ ghost use Rattle.htcp_packet.specs.Writing.{FitsForm, IsWritable};
 use crate::codes::{CLR, FOUND, NOP, NOT_FOUND, TST};
 
 /// The layout of OP-DATA.
-#[derive(Clone, Copy, Debug, PartialEq, Eq)]
+#[derive(Clone, Copy, PartialEq, Eq)]
 pub enum Form {
     Empty,
     Specifier,
@@ -49,7 +49,7 @@ impl Form {
 }
 
 /// SPECIFIER: identifies a request (RFC 2756, section 3.2).
-#[derive(Clone, Copy, Debug, PartialEq, Eq)]
+#[derive(Clone, Copy, PartialEq, Eq)]
 pub struct Specifier<'a> {
     pub method: &'a [u8],
     pub uri: &'a [u8],
@@ -58,7 +58,7 @@ pub struct Specifier<'a> {
 }
 
 /// DETAIL: describes a cached object (RFC 2756, section 3.3).
-#[derive(Clone, Copy, Debug, PartialEq, Eq)]
+#[derive(Clone, Copy, PartialEq, Eq)]
 pub struct Detail<'a> {
     pub response_headers: &'a [u8],
     pub entity_headers: &'a [u8],
@@ -66,7 +66,7 @@ pub struct Detail<'a> {
 }
 
 /// OP-DATA: the data of an opcode.
-#[derive(Clone, Copy, Debug, PartialEq, Eq)]
+#[derive(Clone, Copy, PartialEq, Eq)]
 pub enum HtcpBody<'a> {
     /// Of NOP, and of a CLR response.
     Empty,
@@ -86,7 +86,7 @@ pub enum HtcpBody<'a> {
 }
 
 /// AUTH: the signature of a message. Times are in seconds since 1970-01-01 UTC.
-#[derive(Clone, Copy, Debug, PartialEq, Eq)]
+#[derive(Clone, Copy, PartialEq, Eq)]
 pub enum HtcpAuth<'a> {
     Unsigned,
     Signed {
@@ -101,7 +101,7 @@ pub enum HtcpAuth<'a> {
 ///
 /// `rr` is set in a response. `f1` is RD in a request (a response is desired), and MO in a response (the response code
 /// applies to the whole message instead of the opcode).
-#[derive(Clone, Copy, Debug)]
+#[derive(Clone, Copy)]
 pub struct HtcpView<'a> {
     pub minor: u8,
     /// Under 16.

@@ -12,7 +12,7 @@ use byteorder::{BigEndian, ByteOrder};
 use hmac_md5::{mac, same};
 
 /// Result of verifying a signature.
-#[derive(Clone, Copy, Debug, PartialEq, Eq)]
+#[derive(Clone, Copy, PartialEq, Eq)]
 pub enum Sign {
     /// The message is not signed.
     Absent,

@@ -17,7 +17,7 @@ use std::alloc::{AllocError, Global};
 const FRAMES_A_TURN: u32 = 32;
 
 /// Why a body was not read.
-#[derive(Clone, Copy, Debug, PartialEq, Eq)]
+#[derive(Clone, Copy)]
 pub enum ReadFault {
     /// It is longer than the limit, or than what can ever be paid for.
     TooLong,

@@ -19,7 +19,7 @@ const MOST_OCTETS: usize = 64 * 1024;
 const PIECES_A_TURN: u32 = 16;
 
 /// How it ended that a content was passed on.
-#[derive(Clone, Copy, Debug, PartialEq, Eq)]
+#[derive(Clone, Copy, PartialEq, Eq)]
 pub enum Relayed {
     /// All of it was passed on, and its end.
     Whole,

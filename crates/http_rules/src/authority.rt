@@ -7,7 +7,7 @@ use crate::host_field::MOST_NAME_OCTETS;
 use crate::seconds::seconds;
 
 /// The end of a tunnel, as a request names it.
-#[derive(Clone, Copy, Debug, PartialEq, Eq)]
+#[derive(Clone, Copy)]
 pub struct Authority<'a> {
     /// The host: a registered name without percent-encoding, or an IPv4 address.
     pub host: &'a str,

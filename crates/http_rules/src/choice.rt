@@ -14,7 +14,7 @@ use http_header::HeaderMap;
 use node_terms::Mode;
 
 /// What is stored under a URL and fresh, in seconds.
-#[derive(Clone, Copy, Debug, PartialEq, Eq)]
+#[derive(Clone, Copy)]
 pub struct Stored {
     /// Its age.
     pub age: u32,

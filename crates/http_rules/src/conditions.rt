@@ -16,7 +16,7 @@ use crate::validators::{
 use http_header::HeaderMap;
 
 /// The answer that a stored object with status 200 gives to a request for it.
-#[derive(Clone, Copy, Debug, PartialEq, Eq)]
+#[derive(Clone, Copy, PartialEq, Eq)]
 pub enum StoredAnswer {
     /// The whole object, with status 200.
     Whole,

@@ -15,7 +15,7 @@ use crate::text::{is_name, trimmed};
 use http_header::HeaderMap;
 
 /// The quoting state of a scan through a field value.
-#[derive(Clone, Copy, Debug, PartialEq, Eq)]
+#[derive(Clone, Copy)]
 pub(crate) enum Place {
     /// Outside double quotes.
     Plain,
@@ -142,7 +142,7 @@ fn name_len(text: &[u8]) -> usize
 const SHORTEST_NAME: usize = 7;
 
 /// The directives of the Cache-Control fields of a head that the rules ask for.
-#[derive(Clone, Copy, Debug)]
+#[derive(Clone, Copy)]
 pub(crate) struct Directives {
     /// Whether there is `only-if-cached`.
     pub(crate) only_if_cached: bool,

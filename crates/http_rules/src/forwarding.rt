@@ -10,7 +10,7 @@ use std::alloc::{AllocError, Global};
 use thiserror::Error;
 
 /// Why the fields of a head are not forwarded.
-#[derive(Clone, Copy, Debug, PartialEq, Eq, Error)]
+#[derive(Clone, Copy, Debug, Error)]
 pub enum PassFault {
     /// The Connection fields have more than 64 elements.
     #[error("over 64 names in Connection")]
@@ -32,7 +32,7 @@ impl From<AllocError> for PassFault {
 }
 
 /// What becomes of a request that is to be passed on.
-#[derive(Debug, Drop)]
+#[derive(Drop)]
 pub enum Onward {
     /// It is passed on with these fields, as pairs of a name in lower case and a value.
     Pass(Vec<(Vec<u8>, Vec<u8>)>),

@@ -17,7 +17,7 @@ use http_header::HeaderMap;
 use node_terms::Mode;
 
 /// How a response is kept.
-#[derive(Clone, Copy, Debug, PartialEq, Eq)]
+#[derive(Clone, Copy, PartialEq, Eq)]
 pub struct Kept {
     /// Its age in seconds when it was received, below 2,147,483,648.
     pub age: u32,

@@ -6,7 +6,7 @@ ghost use Rattle.http_rules.specs.Mirrors.{is_below, mirrored, url_at};
 use std::alloc::{AllocError, Global};
 
 /// A mirror: what a request asks for in origin form (RFC 9112, section 3.2.1) below `path` comes from that text with `url` in the place of `path`.
-#[derive(Debug, Drop)]
+#[derive(Drop)]
 pub struct Mirror {
     /// The beginning of a request target, such as `/debian/`.
     pub path: String,

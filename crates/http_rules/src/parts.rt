@@ -7,7 +7,7 @@ const MINUTE: u64 = 60_000;
 
 /// The last two requests for parts of an object that is not stored, in milliseconds since any moment, and the length of the whole in
 /// octets, as far as they are known.
-#[derive(Clone, Copy, Debug, PartialEq, Eq)]
+#[derive(Clone, Copy)]
 pub struct PartRequests {
     /// When the one before the last came.
     pub before_last: Option<u64>,

@@ -13,7 +13,7 @@ use itoa::Buffer;
 use std::alloc::{AllocError, Global};
 
 /// One range of octets, as a request asks for it (RFC 9110, section 14.1.2). Octets are counted from 0.
-#[derive(Clone, Copy, Debug)]
+#[derive(Clone, Copy)]
 pub(crate) enum ByteRange {
     /// `first-last`: from the octet at the first place to the octet at the last one, which is not before it.
     Span(usize, usize),

@@ -4,7 +4,7 @@ ghost use Rattle.std.specs.Option.{option_copied};
 ghost use Rattle.http_rules.specs.Refresh.{fits, first_rule, ruled_lifetime};
 
 /// A text and where it stands in a URL. Octets are compared as they are, with regard to case.
-#[derive(Debug, Drop, PartialEq, Eq)]
+#[derive(Drop)]
 pub enum UrlPlace {
     /// At its beginning.
     Prefix(Vec<u8>),
@@ -25,7 +25,7 @@ impl UrlPlace {
 }
 
 /// The freshness lifetime that the operator gives to responses from some URLs.
-#[derive(Debug, Drop, PartialEq, Eq)]
+#[derive(Drop)]
 pub struct RefreshRule {
     /// What the URLs, as cache keys, begin or end with.
     pub place: UrlPlace,

@@ -12,7 +12,7 @@ use http_header::HeaderMap;
 use node_terms::Mode;
 
 /// Why an object would be served although it is stale.
-#[derive(Clone, Copy, Debug, PartialEq, Eq)]
+#[derive(Clone, Copy)]
 pub enum StaleUse {
     /// Its origin server has answered with an error, or not at all (RFC 5861, section 4).
     InPlaceOfError,

@@ -10,7 +10,7 @@ use thiserror::Error;
 use url::{ParseError, Position, Url};
 
 /// Why a request target has no cache key.
-#[derive(Clone, Copy, Debug, PartialEq, Eq, Error)]
+#[derive(Clone, Copy, Debug, Error)]
 pub enum TargetFault {
     /// Not an `http` URL with a host and without user and password.
     #[error("not an http URL of a host")]

@@ -141,7 +141,7 @@ impl Found {
 }
 
 /// Why no address of a server may be connected to.
-#[derive(Clone, Copy, Debug, PartialEq, Eq)]
+#[derive(Clone, Copy)]
 pub enum AdmitFault {
     /// None is admitted.
     Refused,

@@ -25,7 +25,7 @@ pub struct Asked {
 }
 
 /// Whom an object was fetched from.
-#[derive(Clone, Copy, Debug, PartialEq, Eq)]
+#[derive(Clone, Copy, PartialEq, Eq)]
 pub enum Supplier {
     /// An origin server.
     Origin,
@@ -65,7 +65,7 @@ pub enum Outcome {
 }
 
 /// How a request that is not a hit is forwarded, as Cache-Status reports it.
-#[derive(Clone, Copy, Debug, PartialEq, Eq)]
+#[derive(Clone, Copy, PartialEq, Eq)]
 pub enum Forward {
     /// It starts a fetch that others may join.
     Miss,
@@ -89,7 +89,7 @@ pub struct Asking {
 }
 
 /// How a request was answered.
-#[derive(Clone, Copy, Debug, PartialEq, Eq)]
+#[derive(Clone, Copy, PartialEq, Eq)]
 pub enum How {
     /// By a stored object.
     Hit,

@@ -130,7 +130,7 @@ pub struct Job {
 }
 
 /// A complete response, as received.
-#[derive(Debug, Drop)]
+#[derive(Drop)]
 pub struct Page {
     pub status: u16,
     pub head: HeaderMap,
@@ -138,7 +138,7 @@ pub struct Page {
 }
 
 /// Why a fetch failed.
-#[derive(Clone, Copy, Debug, PartialEq, Eq)]
+#[derive(Clone, Copy, PartialEq, Eq)]
 pub enum FetchFault {
     /// No address was found for the name of the server.
     Lookup,
@@ -170,7 +170,7 @@ pub enum FetchFault {
 }
 
 /// How a fetch ended.
-#[derive(Debug, Drop)]
+#[derive(Drop)]
 pub enum FetchEnd {
     /// With a complete response.
     Whole(Page),
@@ -181,7 +181,7 @@ pub enum FetchEnd {
 }
 
 /// The result of an order.
-#[derive(Debug, Drop)]
+#[derive(Drop)]
 pub struct Fetched {
     /// The number of the fetch.
     pub fetch: u32,

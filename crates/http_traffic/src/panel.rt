@@ -5,7 +5,7 @@ use futures::channel::mpsc;
 use std::alloc::AllocError;
 
 /// Why a filter was not installed.
-#[derive(Debug, Drop)]
+#[derive(Drop)]
 pub enum PutFault {
     /// The text is not a valid filter; the line says what is wrong.
     NoFilter(Vec<u8>),
@@ -14,7 +14,7 @@ pub enum PutFault {
 }
 
 /// Why no capture was begun.
-#[derive(Debug, Drop)]
+#[derive(Drop)]
 pub enum CaptureFault {
     /// The query does not say what to capture; the line says what it has to be.
     NoLimits(Vec<u8>),
@@ -25,7 +25,7 @@ pub enum CaptureFault {
 }
 
 /// What figures are asked for.
-#[derive(Clone, Copy, Debug, PartialEq, Eq)]
+#[derive(Clone, Copy)]
 pub enum Figures {
     /// The counters of both sockets, as JSON.
     Sockets,
@@ -40,14 +40,14 @@ pub enum Figures {
 }
 
 /// What is asked of the store.
-#[derive(Clone, Copy, Debug, PartialEq, Eq)]
+#[derive(Clone, Copy)]
 pub enum StoreOrder {
     Show,
     Remove,
 }
 
 /// Why a question about the store has no answer, or what it asks for is not done.
-#[derive(Debug, Drop)]
+#[derive(Drop)]
 pub enum StoreFault {
     /// The path or query asks for nothing; the line says what it has to be.
     NoQuestion(Vec<u8>),

@@ -3,7 +3,7 @@ ghost use Rattle.std.specs.Prelude.{◌≡◌, IfSome};
 ghost use Rattle.http_traffic.specs.Methods.{method_name};
 
 /// A method (RFC 9110, section 9.3; RFC 5789) beside GET whose requests are passed on as they are.
-#[derive(Clone, Copy, Debug, PartialEq, Eq)]
+#[derive(Clone, Copy, PartialEq, Eq)]
 pub enum PassedMethod {
     Head,
     Post,

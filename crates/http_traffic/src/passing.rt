@@ -52,7 +52,7 @@ pub struct Early {
 }
 
 /// Why a request that was passed on has no answer.
-#[derive(Clone, Copy, Debug, PartialEq, Eq)]
+#[derive(Clone, Copy, PartialEq, Eq)]
 pub enum PassFault {
     /// The server is no origin server that may be asked; it was not connected to.
     Refused,
@@ -119,7 +119,7 @@ pub struct Passing {
 }
 
 /// How a request is taken, by its method.
-#[derive(Clone, Copy, Debug, PartialEq, Eq)]
+#[derive(Clone, Copy, PartialEq, Eq)]
 pub enum Road {
     /// Its content is collected, and it is answered through the node.
     Node,

@@ -4,7 +4,7 @@ ghost use Rattle.std.specs.Prelude.{◌≡◌, ◌≢◌, MatchOption};
 ghost use Rattle.icp_packet.specs.Message.{code};
 
 /// ICP opcodes (RFC 2186, "ICP Opcodes").
-#[derive(Clone, Copy, Debug, PartialEq, Eq)]
+#[derive(Clone, Copy, PartialEq, Eq)]
 pub enum Opcode {
     /// Query: is the object with this URL stored?
     Query,
@@ -64,7 +64,7 @@ impl Opcode {
 }
 
 /// The payload, which follows the header. A URL is given without its terminating zero octet.
-#[derive(Clone, Copy, Debug, PartialEq, Eq)]
+#[derive(Clone, Copy, PartialEq, Eq)]
 pub enum IcpBody<'a> {
     /// Of a query: the address of the requesting client, and a URL.
     Query {
@@ -85,7 +85,7 @@ pub enum IcpBody<'a> {
 }
 
 /// A message of ICP version 2 (RFC 2186, "ICP Message Format").
-#[derive(Clone, Copy, Debug, PartialEq, Eq)]
+#[derive(Clone, Copy, PartialEq, Eq)]
 pub struct IcpView<'a> {
     /// Opcode.
     pub op: Opcode,

@@ -2,7 +2,7 @@
 use thiserror::Error;
 
 /// Counts of what was done. Saturating.
-#[derive(Clone, Copy, Debug, PartialEq, Eq)]
+#[derive(Clone, Copy, PartialEq, Eq)]
 pub struct Pumped {
     /// Turns in which a datagram was received.
     pub received: u64,

@@ -26,7 +26,7 @@ const WAKES: Token = Token(2);
 const ROOM: usize = 65_536;
 
 /// Errors of binding the sockets.
-#[derive(Clone, Copy, Debug, PartialEq, Eq, Error)]
+#[derive(Clone, Copy, Debug, Error)]
 pub enum BindFault {
     /// The address of this socket can't be bound.
     #[error("the end of a query socket can't be bound")]

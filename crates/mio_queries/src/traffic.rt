@@ -24,7 +24,7 @@ pub struct Sending {
 }
 
 /// Errors of a wire.
-#[derive(Clone, Copy, Debug, PartialEq, Eq, Error)]
+#[derive(Clone, Copy, Debug, Error)]
 pub enum WireFault {
     /// The wire failed. It counts these failures.
     #[error("the wire failed")]

@@ -77,7 +77,7 @@ impl NameDesk {
 }
 
 /// Why what was handed over was not taken. It is dropped.
-#[derive(Clone, Copy, Debug, PartialEq, Eq)]
+#[derive(Clone, Copy, PartialEq, Eq)]
 pub enum NotTaken {
     /// The name of its server may not wait for a look-up: too many do, of whom it is for or of all, or memory is short.
     Name,

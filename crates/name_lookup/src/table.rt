@@ -31,7 +31,7 @@ impl Waiter {
 }
 
 /// What becomes of one who seeks a name.
-#[derive(Clone, Copy, Debug, PartialEq, Eq)]
+#[derive(Clone, Copy, PartialEq, Eq)]
 pub enum Seeking {
     /// It was told what is known.
     Told,
@@ -62,7 +62,7 @@ pub struct LookUp {
 
 /// How many names wait for their look-up, how many look-ups are under way, those among them that nobody waits for any more, and what has
 /// become of others since the table was made.
-#[derive(Clone, Copy, Debug, PartialEq, Eq)]
+#[derive(Clone, Copy)]
 pub struct NameCounts {
     pub waiting: u64,
     pub under_way: u64,

@@ -4,7 +4,7 @@ ghost use Rattle.std.specs.Prelude.{◌≡◌};
 ghost use Rattle.neighbours.specs.Rank.{before};
 
 /// Index of a neighbour in the configuration, and its smoothed response time in eighths of a millisecond.
-#[derive(Clone, Copy, Debug)]
+#[derive(Clone, Copy)]
 pub struct Ranked {
     pub n: usize,
     pub s: u32,

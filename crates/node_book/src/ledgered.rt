@@ -22,7 +22,7 @@ use std::sync::ledger::{Book, Ledger, Share};
 use thiserror::Error;
 
 /// Errors of submitting an event.
-#[derive(Clone, Copy, Debug, PartialEq, Eq, Error)]
+#[derive(Clone, Copy, Debug, Error)]
 pub enum SubmitFault {
     /// 18,446,744,073,709,551,615 events were taken: there are no more event numbers.
     #[error("no event has a number any more")]

@@ -21,7 +21,7 @@ pub enum SettleFault {
 }
 
 /// The result of settling a desk.
-#[derive(Clone, Copy, Debug, PartialEq, Eq)]
+#[derive(Clone, Copy, PartialEq, Eq)]
 pub struct Report {
     /// Number of events taken.
     pub count: u64,

@@ -1,7 +1,7 @@
 //! What a client lets be done for its request.
 
 /// How a client's request may be answered.
-#[derive(Clone, Copy, Debug, PartialEq, Eq)]
+#[derive(Clone, Copy, PartialEq, Eq)]
 pub enum Mode {
     /// From the store, or by a fetch that other clients may join.
     Shared,

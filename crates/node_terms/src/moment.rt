@@ -8,7 +8,7 @@ use std::marker::Model;
 pub const LAST_MOMENT: u64 = 4_294_967_295_999;
 
 /// A point in time, in milliseconds since a start that the caller chooses, at most 4,294,967,295,999. Contracts see the number.
-#[derive(Clone, Copy, Debug, PartialEq, Eq, PartialOrd, Ord)]
+#[derive(Clone, Copy, PartialEq, Eq)]
 pub struct Moment {
     millis: u64,
 }

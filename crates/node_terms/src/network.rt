@@ -3,7 +3,7 @@ ghost use Rattle.std.specs.Prelude.{◌≡◌};
 ghost use Rattle.node_terms.specs.Networks.{first_bits, is_inside};
 
 /// An IPv4 network: the addresses whose first `prefix` bits equal those of `addr`.
-#[derive(Clone, Copy, Debug, PartialEq, Eq)]
+#[derive(Clone, Copy)]
 pub struct Network {
     /// Any address in the network.
     pub addr: [u8; 4],

@@ -10,7 +10,7 @@ use std::marker::Model;
 use std::sync::Arc;
 
 /// Reference-counted octets. Contracts see the octets.
-#[derive(Debug, Drop)]
+#[derive(Drop)]
 pub struct SharedOctets {
     octets: Arc<Vec<u8>>,
 }
@@ -52,14 +52,14 @@ impl SharedOctets {
 }
 
 /// The octets of a payload: its own, or reference-counted ones that several payloads share.
-#[derive(Debug, Drop)]
+#[derive(Drop)]
 pub enum Owned {
     Alone(Vec<u8>),
     InCommon(SharedOctets),
 }
 
 /// The octets of a datagram to send.
-#[derive(Debug, Drop)]
+#[derive(Drop)]
 pub struct Payload {
     octets: Owned,
 }

@@ -4,7 +4,7 @@ use neighbours::{Key, Neighbour};
 use node_terms::Network;
 
 /// The configuration, which stays the same while a node runs.
-#[derive(Debug, Drop)]
+#[derive(Drop)]
 pub struct Config {
     /// The node's own address and port for ICP; the address is the sender in each message.
     pub icp: End,

@@ -1,7 +1,7 @@
 //! Datagram counters.
 
 /// Numbers of datagrams at one socket, by what became of them. Saturating.
-#[derive(Clone, Copy, Debug, PartialEq, Eq)]
+#[derive(Clone, Copy, PartialEq, Eq)]
 pub struct Counters {
     /// All datagrams.
     pub judged: u64,
@@ -14,7 +14,7 @@ pub struct Counters {
 }
 
 /// The counters of both sockets.
-#[derive(Clone, Copy, Debug, PartialEq, Eq)]
+#[derive(Clone, Copy, PartialEq, Eq)]
 pub struct Stats {
     pub icp: Counters,
     pub htcp: Counters,

@@ -2,7 +2,7 @@
 use filter_slots::{End, Socket};
 
 /// The state of a neighbour at one moment.
-#[derive(Clone, Copy, Debug, PartialEq)]
+#[derive(Clone, Copy, PartialEq)]
 pub struct NeighbourView {
     /// The socket from which it is queried.
     pub protocol: Socket,
@@ -19,7 +19,7 @@ pub struct NeighbourView {
 }
 
 /// How large the book and the store of its node are at one moment.
-#[derive(Clone, Copy, Debug, PartialEq)]
+#[derive(Clone, Copy)]
 pub struct Sizes {
     /// Number of events taken.
     pub events: u64,

@@ -12,7 +12,7 @@ use std::marker::Model;
 
 /// The objects that were put here last, by key, limited in number and in octets. Objects are shared with whoever else has them.
 /// Contracts see the limits and the list of pairs, the one that was put here last first.
-#[derive(Debug, Drop)]
+#[derive(Drop)]
 pub struct Shelf {
     // No entry has the first millisecond as its time, so that all of them are fresh to the store then.
     store: Store,

@@ -9,7 +9,7 @@ use node_terms::Moment;
 use std::alloc::AllocError;
 
 /// An object and the time at which it was stored.
-#[derive(Debug, Drop)]
+#[derive(Drop)]
 pub struct Entry {
     pub object: SharedObject,
     pub at: Moment,

@@ -2,7 +2,6 @@
 
 ghost use Rattle.std.specs.Prelude.{◌≡◌};
 
-use std::fmt::{self, Debug, Formatter, Write};
 use std::hash::{BuildHasher, FoldHasher, Hasher};
 
 /// How tables hash their keys: from a seed. Who does not know it can't choose URLs that all fall on one place of a table.
@@ -28,12 +27,5 @@ impl BuildHasher for KeyHashes {
 
     fn build_hasher(&self) -> FoldHasher {
         self.begin
-    }
-}
-
-// Does not show the seed.
-impl Debug for KeyHashes {
-    fn fmt<W: Write>(&self, f: &mut Formatter<W>) -> fmt::Result {
-        f.write_str("KeyHashes")
     }
 }

@@ -28,7 +28,7 @@ pub enum KeyFault {
 
 /// A URL as received: it starts with `http://` and has at most 8,192 octets, each from 0x21 to 0x7e. Its octets are
 /// reference-counted. Contracts see the list of octets.
-#[derive(Debug, Drop)]
+#[derive(Drop)]
 pub struct CacheKey {
     octets: Arc<Vec<u8>>,
 }

@@ -14,7 +14,7 @@ use std::sync::Arc;
 const SHORTEST_SHARED: usize = 128 * 1024;
 
 // The octets of a body.
-#[derive(Debug, Drop)]
+#[derive(Drop)]
 enum Body {
     Own(Vec<u8>),
     // Other owners may have parts of them.
@@ -77,7 +77,7 @@ fn part_of(octets: &Bytes, first: usize, end: usize) -> Option<Bytes>
 
 /// A fetched object: status code, head, body, the received Age in seconds, and the time to live in seconds (`life`; 0 means
 /// not to be stored), with a digest of all these.
-#[derive(Debug, Drop)]
+#[derive(Drop)]
 pub struct Object {
     status: u16,
     head: Vec<(Vec<u8>, Vec<u8>)>,
@@ -203,7 +203,7 @@ impl Object {
 }
 
 /// A reference-counted object. Contracts see the object.
-#[derive(Debug, Drop)]
+#[derive(Drop)]
 pub struct SharedObject {
     object: Arc<Object>,
 }

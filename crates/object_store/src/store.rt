@@ -24,7 +24,7 @@ pub const MOST_OCTETS: u32 = 1_073_741_824;
 
 /// An LRU store of entries by key, limited in entries and in octets. Contracts see the limits and the list of pairs, the
 /// most recently used first.
-#[derive(Debug, Drop)]
+#[derive(Drop)]
 pub struct Store {
     most_entries: u32,
     most_octets: u32,

@@ -26,7 +26,7 @@ const NO_HOST: Network = Network {
 };
 
 /// Which servers may be fetched from as origins.
-#[derive(Debug, Drop)]
+#[derive(Drop)]
 pub struct OriginRules {
     /// The sockets of this cache.
     pub own: Vec<End>,

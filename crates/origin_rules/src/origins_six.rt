@@ -24,7 +24,7 @@ use std::alloc::{AllocError, Global};
 use std::net::{IpAddr, SocketAddr};
 
 /// A network of IPv6: an address as a number, and how many of its first bits all addresses of the network have, at most 128.
-#[derive(Clone, Copy, Debug, PartialEq, Eq)]
+#[derive(Clone, Copy)]
 pub struct SixNetwork {
     pub address: u128,
     pub prefix: u8,
@@ -50,7 +50,7 @@ impl SixNetwork {
 }
 
 /// A server with an address of IPv6, as a number, and its port.
-#[derive(Clone, Copy, Debug, PartialEq, Eq)]
+#[derive(Clone, Copy)]
 pub struct SixEnd {
     pub address: u128,
     pub port: u16,

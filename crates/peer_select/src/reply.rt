@@ -3,7 +3,7 @@
 use neighbours::Role;
 
 /// How a peer replied.
-#[derive(Clone, Copy, Debug, PartialEq, Eq)]
+#[derive(Clone, Copy)]
 pub enum Kind {
     /// The peer has the object.
     Hit,
@@ -14,7 +14,7 @@ pub enum Kind {
 }
 
 /// A reply: its kind, the index of its peer, and the peer's smoothed response time including this reply.
-#[derive(Clone, Copy, Debug)]
+#[derive(Clone, Copy)]
 pub struct Reply {
     pub s: u32,
     pub n: u8,
@@ -22,7 +22,7 @@ pub struct Reply {
 }
 
 /// A neighbour as copied into a round: weight and role, and whether it was up at the start.
-#[derive(Clone, Copy, Debug)]
+#[derive(Clone, Copy)]
 pub struct Peer {
     pub weight: u32,
     pub role: Role,
@@ -30,7 +30,7 @@ pub struct Peer {
 }
 
 /// Where to fetch an object from: a neighbour, by index, or the origin server.
-#[derive(Clone, Copy, Debug, PartialEq, Eq)]
+#[derive(Clone, Copy, PartialEq, Eq)]
 pub enum Source {
     Peer(usize),
     Origin,

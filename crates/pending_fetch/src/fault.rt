@@ -3,7 +3,7 @@
 use thiserror::Error;
 
 /// Why no fetch was opened. If both apply, it is `Full`.
-#[derive(Clone, Copy, Debug, PartialEq, Eq, Error)]
+#[derive(Clone, Copy, Debug, Error)]
 pub enum OpenFault {
     #[error("256 fetches are pending, or 1024 clients wait")]
     Full,
@@ -12,7 +12,7 @@ pub enum OpenFault {
 }
 
 /// Why a client did not join a fetch. If both apply, it is `Full`.
-#[derive(Clone, Copy, Debug, PartialEq, Eq, Error)]
+#[derive(Clone, Copy, Debug, Error)]
 pub enum JoinFault {
     #[error("1024 clients wait")]
     Full,

@@ -31,7 +31,7 @@ fn are_prefixes(networks: &[Network]) -> bool
 }
 
 /// The part of the configuration that the node keeps, apart from neighbours and store.
-#[derive(Debug, Drop)]
+#[derive(Drop)]
 pub struct Rules {
     pub(crate) icp: End,
     pub(crate) htcp: End,

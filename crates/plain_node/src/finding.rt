@@ -6,7 +6,7 @@ ghost use Rattle.plain_node.specs.HtcpRequests.{is_refusal, code_of, text_of};
 use htcp_packet::{Detail, HtcpBody};
 
 /// The result of an HTCP request (RFC 2756, sections 6.1, 6.2 and 6.5).
-#[derive(Clone, Copy, Debug, PartialEq, Eq)]
+#[derive(Clone, Copy, PartialEq, Eq)]
 pub enum Finding {
     /// Refused, with one of HTCP's overall response codes (MO set): 0 not signed, 1 bad signature, 2 operation not
     /// implemented, 5 source not allowed.

@@ -18,14 +18,14 @@ use node_words::Payload;
 use std::alloc::Global;
 
 /// A key that messages are signed with.
-#[derive(Clone, Copy, Debug)]
+#[derive(Clone, Copy)]
 pub struct Signer<'a> {
     pub name: &'a [u8],
     pub secret: &'a [u8],
 }
 
 /// The verdict on the signature of a received message.
-#[derive(Clone, Copy, Debug)]
+#[derive(Clone, Copy)]
 pub enum Judgement<'a> {
     /// The message isn't signed.
     Absent,

@@ -13,7 +13,7 @@ use object_store::SharedObject;
 use peer_select::Source;
 
 /// The count of an event's actions of each kind, and a digest of them all.
-#[derive(Clone, Copy, Debug, PartialEq, Eq)]
+#[derive(Clone, Copy, PartialEq, Eq)]
 pub struct Tally {
     /// Datagrams to send.
     pub sends: u64,

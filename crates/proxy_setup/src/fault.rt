@@ -5,7 +5,7 @@ use std::io;
 use std::io::ErrorKind;
 
 /// A port that the configuration sets.
-#[derive(Clone, Copy, Debug, PartialEq, Eq)]
+#[derive(Clone, Copy)]
 pub enum Port {
     /// `icp_port`.
     Icp,
@@ -20,7 +20,7 @@ pub enum Port {
 }
 
 /// Why a proxy did not start, or why it ended.
-#[derive(Clone, Copy, Debug, PartialEq, Eq)]
+#[derive(Clone, Copy)]
 pub enum ServeFault {
     /// The node refuses the configuration.
     Node(NodeFault),

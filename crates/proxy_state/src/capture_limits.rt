@@ -17,7 +17,7 @@ pub const QUERY_LINE: &str =
     "400 Bad Request: the query of /capture is seconds=1..3600 and octets=1024..67108864, each at most once, with & between them\n";
 
 /// Limits of a capture.
-#[derive(Clone, Copy, Debug, PartialEq, Eq)]
+#[derive(Clone, Copy)]
 pub struct CaptureLimits {
     seconds: Option<u64>,
     octets: Option<u64>,

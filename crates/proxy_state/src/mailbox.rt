@@ -15,7 +15,7 @@ use std::time::Instant;
 pub type Field = (Vec<u8>, Vec<u8>);
 
 /// What a waiting client is served by.
-#[derive(Clone, Copy, Debug, PartialEq, Eq)]
+#[derive(Clone, Copy, PartialEq, Eq)]
 pub enum Service {
     /// What is stored, or a fetch for all clients.
     Shared,

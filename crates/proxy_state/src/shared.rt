@@ -57,7 +57,7 @@ pub trait Shared: Drop {
 }
 
 /// What an event has given a client.
-#[derive(Clone, Copy, Debug, PartialEq, Eq)]
+#[derive(Clone, Copy, PartialEq, Eq)]
 pub enum Given {
     /// No answer yet.
     Nothing,

@@ -83,7 +83,7 @@ impl Cause {
 }
 
 /// Why a fetch was not started.
-#[derive(Clone, Copy, Debug, PartialEq, Eq)]
+#[derive(Clone, Copy, PartialEq, Eq)]
 pub enum Unstarted {
     /// No client waits for it any more.
     Unwanted,

@@ -28,7 +28,7 @@ const STILL_STORED: &str =
     "409 Conflict: the object is still stored; a filter of the HTCP socket may have dropped the request to take it out\n";
 
 /// Why an object stays where it is.
-#[derive(Clone, Copy, Debug, PartialEq, Eq)]
+#[derive(Clone, Copy)]
 pub enum Obstacle {
     /// The cache may not ask itself.
     NotAllowed,

@@ -27,7 +27,7 @@ fn micros<R: Clock>(rt: &R) -> u64 {
 }
 
 /// Why no recording was begun.
-#[derive(Clone, Copy, Debug, PartialEq, Eq)]
+#[derive(Clone, Copy)]
 pub enum TapFault {
     /// One is under way.
     Busy,

@@ -9,7 +9,7 @@ use bpf_run::{End, Socket};
 use capture::UdpView;
 
 /// Where the datagrams go that are judged.
-#[derive(Clone, Copy, Debug, PartialEq, Eq)]
+#[derive(Clone, Copy)]
 pub struct Aim {
     /// The port of the ICP socket, usually 3130.
     pub icp_port: u16,

@@ -14,7 +14,7 @@ use bpf_run::{Packet, Socket, judge};
 use capture::UdpView;
 
 /// How two filters differ in a datagram.
-#[derive(Clone, Copy, Debug, PartialEq, Eq)]
+#[derive(Clone, Copy, PartialEq, Eq)]
 pub enum Contrast {
     /// Both reject it, or both hand on as many octets.
     Same,
@@ -27,7 +27,7 @@ pub enum Contrast {
 }
 
 /// Numbers of datagrams, by how the two filters differ in them. Saturating.
-#[derive(Clone, Copy, Debug, PartialEq, Eq)]
+#[derive(Clone, Copy)]
 pub struct Differences {
     /// All that were judged.
     pub datagrams: u64,
@@ -40,7 +40,7 @@ pub struct Differences {
 }
 
 /// The counts of both query sockets, and of what is not judged. Saturating.
-#[derive(Clone, Copy, Debug, PartialEq, Eq)]
+#[derive(Clone, Copy)]
 pub struct Comparison {
     pub icp: Differences,
     pub htcp: Differences,

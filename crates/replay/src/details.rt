@@ -6,7 +6,7 @@ use bpf_run::{End, Socket};
 use std::alloc::{AllocError, Global};
 
 /// Numbers of judged datagrams. Saturating.
-#[derive(Clone, Copy, Debug, PartialEq, Eq)]
+#[derive(Clone, Copy)]
 pub struct Share {
     pub datagrams: u64,
     /// Those with verdict 0.
@@ -14,7 +14,7 @@ pub struct Share {
 }
 
 /// A sender and its datagrams.
-#[derive(Clone, Copy, Debug, PartialEq, Eq)]
+#[derive(Clone, Copy)]
 pub struct Sender {
     pub address: [u8; 4],
     pub share: Share,

@@ -5,7 +5,7 @@ use std::alloc::AllocError;
 use std::fmt;
 
 /// Why a capture is not replayed to its end.
-#[derive(Clone, Copy, Debug, PartialEq, Eq)]
+#[derive(Clone, Copy)]
 pub enum ReplayFault {
     /// The capture is not one that is read, or is broken. It prints as the fault, ` octet ` and the place.
     Capture {

@@ -21,7 +21,7 @@ use std::alloc::{AllocError, Global};
 use std::io::Read;
 
 /// What is asked of a capture.
-#[derive(Clone, Copy, Debug)]
+#[derive(Clone, Copy)]
 pub struct Question<'a> {
     /// The filter.
     pub program: &'a Checked,

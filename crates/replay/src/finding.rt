@@ -13,7 +13,7 @@ use bpf_run::{Packet, Socket, judge_with_end};
 use capture::UdpView;
 
 /// What a filter makes of a datagram.
-#[derive(Clone, Copy, Debug, PartialEq, Eq)]
+#[derive(Clone, Copy)]
 pub struct Finding {
     /// The verdict; 0 rejects the datagram.
     pub value: u32,
@@ -26,7 +26,7 @@ pub struct Finding {
 }
 
 /// A finding, and where the run ended.
-#[derive(Clone, Copy, Debug, PartialEq, Eq)]
+#[derive(Clone, Copy)]
 pub struct Judged {
     pub finding: Finding,
     /// The 0-based index of the instruction that ended the run.

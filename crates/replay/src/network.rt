@@ -1,7 +1,7 @@
 //! Networks of IPv4 addresses.
 
 /// The addresses that agree with one in their first bits.
-#[derive(Clone, Copy, Debug, PartialEq, Eq)]
+#[derive(Clone, Copy)]
 pub struct Network {
     address: u32,
     mask: u32,

@@ -7,7 +7,7 @@ use crate::finding::Finding;
 use bpf_run::Socket;
 
 /// Numbers of datagrams, by what the filter makes of them. Saturating.
-#[derive(Clone, Copy, Debug, PartialEq, Eq)]
+#[derive(Clone, Copy)]
 pub struct Counts {
     /// All that were judged.
     pub datagrams: u64,
@@ -22,7 +22,7 @@ pub struct Counts {
 }
 
 /// The counts of both query sockets, and of what is not judged. Saturating.
-#[derive(Clone, Copy, Debug, PartialEq, Eq)]
+#[derive(Clone, Copy)]
 pub struct Tally {
     pub icp: Counts,
     pub htcp: Counts,

@@ -16,7 +16,7 @@ use std::alloc::{AllocError, Global};
 use std::io::Read;
 
 /// The two filters that are compared.
-#[derive(Clone, Copy, Debug)]
+#[derive(Clone, Copy)]
 pub struct Pair<'a> {
     pub first: &'a Checked,
     pub other: &'a Checked,
@@ -25,7 +25,7 @@ pub struct Pair<'a> {
 }
 
 /// A datagram in which two filters differ.
-#[derive(Clone, Copy, Debug, PartialEq, Eq)]
+#[derive(Clone, Copy)]
 pub struct Differing {
     /// The number of its packet in the file, from 1.
     pub number: u64,

@@ -7,7 +7,7 @@ use crate::stages::{Life, Stage};
 use node_terms::Mode;
 
 /// What of an object answers a request (RFC 9110, sections 13 and 14).
-#[derive(Clone, Copy, Debug, PartialEq, Eq)]
+#[derive(Clone, Copy, PartialEq, Eq)]
 pub enum Shape {
     Whole,
     NotModified,
@@ -16,7 +16,7 @@ pub enum Shape {
 }
 
 /// An answer.
-#[derive(Clone, Copy, Debug, PartialEq, Eq)]
+#[derive(Clone, Copy, PartialEq, Eq)]
 pub enum Answer {
     /// A stored object.
     Hit(Shape),
@@ -35,14 +35,14 @@ pub enum Answer {
 }
 
 /// An answer, and whether it is its connection's last.
-#[derive(Clone, Copy, Debug, PartialEq, Eq)]
+#[derive(Clone, Copy, PartialEq, Eq)]
 pub struct Given {
     pub answer: Answer,
     pub is_last: bool,
 }
 
 /// What is taken out of the store (RFC 9111, section 4.4).
-#[derive(Clone, Copy, Debug, PartialEq, Eq)]
+#[derive(Clone, Copy, PartialEq, Eq)]
 pub enum Changed {
     /// What the head of the answer says that the request has changed (`http_rules::changed_keys`).
     ByAnswer,
@@ -51,7 +51,7 @@ pub enum Changed {
 }
 
 /// What is to be done.
-#[derive(Clone, Copy, Debug, PartialEq, Eq)]
+#[derive(Clone, Copy, PartialEq, Eq)]
 pub enum Command {
     /// Collect its content.
     Collect,
@@ -80,14 +80,14 @@ pub enum Command {
 }
 
 /// At most two commands, in this order.
-#[derive(Clone, Copy, Debug, PartialEq, Eq)]
+#[derive(Clone, Copy, PartialEq, Eq)]
 pub struct Commands {
     pub first: Option<Command>,
     pub second: Option<Command>,
 }
 
 /// A step of a life: what comes then, and what is to be done.
-#[derive(Clone, Copy, Debug, PartialEq, Eq)]
+#[derive(Clone, Copy)]
 pub struct Step {
     pub life: Life,
     pub commands: Commands,

@@ -3,7 +3,7 @@ use crate::commands::Shape;
 use crate::facts::{Lookup, Passage, RequestHead, TunnelTarget};
 
 /// How the content of a request ended that is collected.
-#[derive(Clone, Copy, Debug, PartialEq, Eq)]
+#[derive(Clone, Copy)]
 pub enum ContentEnd {
     Whole,
     TooLong,
@@ -11,7 +11,7 @@ pub enum ContentEnd {
 }
 
 /// The node has taken a request.
-#[derive(Clone, Copy, Debug, PartialEq, Eq)]
+#[derive(Clone, Copy)]
 pub struct Acceptance {
     /// Whether it has joined a fetch that another request began.
     pub has_joined: bool,
@@ -22,7 +22,7 @@ pub struct Acceptance {
 }
 
 /// The node has a stored object.
-#[derive(Clone, Copy, Debug, PartialEq, Eq)]
+#[derive(Clone, Copy)]
 pub struct Hit {
     /// Whether the request accepts an object of this age and life (`http_rules::accepts`), as it is given.
     pub is_accepted: bool,
@@ -31,7 +31,7 @@ pub struct Hit {
 }
 
 /// A fetch has brought an object.
-#[derive(Clone, Copy, Debug, PartialEq, Eq)]
+#[derive(Clone, Copy)]
 pub struct Fetched {
     /// Whether it may be stored.
     pub is_kept: bool,
@@ -41,7 +41,7 @@ pub struct Fetched {
 }
 
 /// The node has no answer.
-#[derive(Clone, Copy, Debug, PartialEq, Eq)]
+#[derive(Clone, Copy)]
 pub struct Failure {
     pub status: u16,
     /// Whether the answer is too long to be stored, and such answers are passed on.
@@ -49,7 +49,7 @@ pub struct Failure {
 }
 
 /// What the node answers.
-#[derive(Clone, Copy, Debug, PartialEq, Eq)]
+#[derive(Clone, Copy)]
 pub enum Outcome {
     Hit(Hit),
     Fetched(Fetched),
@@ -63,7 +63,7 @@ pub enum Outcome {
 }
 
 /// The head of the answer to a request that was passed on.
-#[derive(Clone, Copy, Debug, PartialEq, Eq)]
+#[derive(Clone, Copy)]
 pub struct PassedHead {
     pub status: u16,
     /// Whether its Connection fields have too many options.
@@ -71,7 +71,7 @@ pub struct PassedHead {
 }
 
 /// What came of a request that was passed on.
-#[derive(Clone, Copy, Debug, PartialEq, Eq)]
+#[derive(Clone, Copy)]
 pub enum PassedEnd {
     Head(PassedHead),
     /// The server is not admitted, and was not connected to.
@@ -83,7 +83,7 @@ pub enum PassedEnd {
 }
 
 /// What came of opening a tunnel.
-#[derive(Clone, Copy, Debug, PartialEq, Eq)]
+#[derive(Clone, Copy)]
 pub enum TunnelEnd {
     Opened,
     /// It is not open; the status to answer.
@@ -91,7 +91,7 @@ pub enum TunnelEnd {
 }
 
 /// What happens to a request.
-#[derive(Clone, Copy, Debug, PartialEq, Eq)]
+#[derive(Clone, Copy)]
 pub enum Event {
     /// Its head has come.
     Received(RequestHead),

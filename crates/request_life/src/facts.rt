@@ -3,7 +3,7 @@
 use node_terms::Mode;
 
 /// The method of a request (RFC 9110, section 9), as far as its life depends on it.
-#[derive(Clone, Copy, Debug, PartialEq, Eq)]
+#[derive(Clone, Copy)]
 pub enum Method {
     Get,
     Head,
@@ -12,7 +12,7 @@ pub enum Method {
 }
 
 /// The head of a request.
-#[derive(Clone, Copy, Debug, PartialEq, Eq)]
+#[derive(Clone, Copy)]
 pub struct RequestHead {
     pub method: Method,
     /// Whether the method is unsafe (RFC 9110, section 9.2.1).
@@ -42,7 +42,7 @@ pub struct RequestHead {
 }
 
 /// What the target of a request is.
-#[derive(Clone, Copy, Debug, PartialEq, Eq)]
+#[derive(Clone, Copy)]
 pub enum Target {
     /// A URL, or one stands for it.
     Url,
@@ -55,7 +55,7 @@ pub enum Target {
 }
 
 /// How a request is to be answered by RFC 9111 (`http_rules::choose`).
-#[derive(Clone, Copy, Debug, PartialEq, Eq)]
+#[derive(Clone, Copy)]
 pub enum Choice {
     Ask(Mode),
     /// Not at all, with this status.
@@ -63,7 +63,7 @@ pub enum Choice {
 }
 
 /// What is known once a request is complete that the node may answer.
-#[derive(Clone, Copy, Debug, PartialEq, Eq)]
+#[derive(Clone, Copy)]
 pub struct Lookup {
     pub target: Target,
     pub choice: Choice,
@@ -84,7 +84,7 @@ pub struct Lookup {
 }
 
 /// What is known of a request that is to be passed on.
-#[derive(Clone, Copy, Debug, PartialEq, Eq)]
+#[derive(Clone, Copy)]
 pub struct Passage {
     pub target: Target,
     pub has_come_back: bool,
@@ -98,7 +98,7 @@ pub struct Passage {
 }
 
 /// What is known of the end that a tunnel is to lead to.
-#[derive(Clone, Copy, Debug, PartialEq, Eq)]
+#[derive(Clone, Copy)]
 pub struct TunnelTarget {
     /// Whether the target is a host and a port (RFC 9110, section 9.3.6).
     pub is_authority: bool,

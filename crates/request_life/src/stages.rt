@@ -4,7 +4,7 @@ use fair_use::Upload;
 use node_terms::Mode;
 
 /// Which time a request is handed in.
-#[derive(Clone, Copy, Debug, PartialEq, Eq)]
+#[derive(Clone, Copy)]
 pub enum Round {
     First,
     /// Once more, since the fetch that it waited for was ended for want of clients.
@@ -12,7 +12,7 @@ pub enum Round {
 }
 
 /// A request that is being submitted to the node.
-#[derive(Clone, Copy, Debug, PartialEq, Eq)]
+#[derive(Clone, Copy)]
 pub struct Submission {
     pub mode: Mode,
     pub round: Round,
@@ -21,7 +21,7 @@ pub struct Submission {
 }
 
 /// Whose fetch a request waits for.
-#[derive(Clone, Copy, Debug, PartialEq, Eq)]
+#[derive(Clone, Copy)]
 pub enum Share {
     /// One for all that it has begun.
     Began,
@@ -32,7 +32,7 @@ pub enum Share {
 }
 
 /// A request that the node has waiting.
-#[derive(Clone, Copy, Debug, PartialEq, Eq)]
+#[derive(Clone, Copy)]
 pub struct Wait {
     pub mode: Mode,
     pub share: Share,
@@ -42,7 +42,7 @@ pub struct Wait {
 }
 
 /// How far the content of a request has come that is passed on.
-#[derive(Clone, Copy, Debug, PartialEq, Eq)]
+#[derive(Clone, Copy)]
 pub enum Content {
     /// Its client has not sent all of it.
     Coming,
@@ -53,7 +53,7 @@ pub enum Content {
 }
 
 /// How far a request has come.
-#[derive(Clone, Copy, Debug, PartialEq, Eq)]
+#[derive(Clone, Copy)]
 pub enum Stage {
     /// Its head has not come.
     Receiving,
@@ -91,7 +91,7 @@ pub enum Stage {
 }
 
 /// A request, and how far it has come.
-#[derive(Clone, Copy, Debug, PartialEq, Eq)]
+#[derive(Clone, Copy)]
 pub struct Life {
     pub head: RequestHead,
     pub stage: Stage,

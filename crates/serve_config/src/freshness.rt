@@ -20,7 +20,7 @@ const MOST_RULES: usize = 64;
 const MOST_OCTETS: usize = 8192;
 
 /// By which rules a stored answer is fresh.
-#[derive(Clone, Copy, Debug, PartialEq, Eq)]
+#[derive(Clone, Copy, PartialEq, Eq)]
 pub enum Freshness {
     /// The rules of this program's first versions. They are the usual ones.
     Published,
@@ -29,7 +29,7 @@ pub enum Freshness {
 }
 
 /// The part of a URL that a rule compares: 1 to 8,192 octets of visible ASCII.
-#[derive(Debug, Drop)]
+#[derive(Drop)]
 pub enum UrlPart {
     /// The URL ends with this.
     Suffix(String),
@@ -38,7 +38,7 @@ pub enum UrlPart {
 }
 
 /// A rule of the operator's about the freshness of the answers for some URLs.
-#[derive(Debug, Drop)]
+#[derive(Drop)]
 pub struct RefreshRule {
     /// Which URLs.
     pub place: UrlPart,

@@ -18,7 +18,7 @@ const MOST_MIRRORS: usize = 64;
 const MOST_OCTETS: usize = 8192;
 
 /// A mirror: what is asked for in origin form (RFC 9112, section 3.2.1) below a path is to come from below a URL.
-#[derive(Debug, Drop)]
+#[derive(Drop)]
 pub struct MirrorPath {
     /// The path: visible ASCII that begins and ends with a slash.
     pub path: String,

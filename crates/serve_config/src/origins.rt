@@ -15,7 +15,7 @@ use std::alloc::{AllocError, Global};
 use std::net::Ipv6Addr;
 
 /// A network of IPv6: an address as a number, and how many of its first bits all addresses of the network have, at most 128.
-#[derive(Clone, Copy, Debug, PartialEq, Eq)]
+#[derive(Clone, Copy)]
 pub struct SixNetwork {
     pub address: u128,
     pub prefix: u8,

@@ -17,7 +17,7 @@ use std::alloc::{AllocError, Global};
 const MOST_PORTS: usize = 64;
 
 /// What becomes of an answer that is too long for the store.
-#[derive(Clone, Copy, Debug, PartialEq, Eq)]
+#[derive(Clone, Copy, PartialEq, Eq)]
 pub enum Large {
     /// It is a failed fetch. It is the usual one.
     Refuse,

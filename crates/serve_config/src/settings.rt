@@ -23,13 +23,12 @@ use http_traffic::PassedMethod;
 use node_words::{Config, Network};
 use serde_json::Value;
 use std::alloc::Global;
-use std::fmt;
 
 // How the parser tells of a number that it has no place for. It then stops behind that number.
 const OUT_OF_RANGE: &str = "number out of range";
 
 /// The form of the lines about answers to clients.
-#[derive(Clone, Copy, Debug, PartialEq, Eq)]
+#[derive(Clone, Copy)]
 pub enum LogFormat {
     /// The combined form of NCSA, with two more fields. It is the usual one.
     Common,
@@ -38,7 +37,7 @@ pub enum LogFormat {
 }
 
 /// How much the program tells about its own work.
-#[derive(Clone, Copy, Debug, PartialEq, Eq)]
+#[derive(Clone, Copy, PartialEq, Eq)]
 pub enum LogLevel {
     /// Faults and what has always been told. It is the usual one.
     Quiet,
@@ -46,7 +45,7 @@ pub enum LogLevel {
     Info,
 }
 
-/// The settings of `serve`. `Debug` omits the token.
+/// The settings of `serve`. They have no `Debug`, so that nothing prints the token.
 #[derive(Drop)]
 pub struct Settings {
     /// The IPv4 address of the query sockets and of the client socket.
@@ -153,79 +152,6 @@ impl Settings {
                 Err(fault)
             }
         }
-    }
-}
-
-// Each prints some of the fields, in their order.
-impl Settings {
-    // How the proxy is reached.
-    fn show_front<W: fmt::Write>(&self, shown: &mut fmt::DebugStruct<'_, W>) {
-        shown
-            .field("address", &self.address)
-            .field("http_port", &self.http_port)
-            .field("six_clients", &self.six_clients)
-            .field("admin_port", &self.admin_port)
-            .field("name", &self.name);
-    }
-
-    // The sizes and numbers that the program keeps within.
-    fn show_limits<W: fmt::Write>(&self, shown: &mut fmt::DebugStruct<'_, W>) {
-        shown
-            .field("body_limit", &self.body_limit)
-            .field("volume", &self.volume)
-            .field("receipt_octets", &self.receipt_octets)
-            .field("book_octets", &self.book_octets)
-            .field("fetch_octets", &self.fetch_octets)
-            .field("shelf_octets", &self.shelf_octets)
-            .field("address_connections", &self.address_connections)
-            .field("client_threads", &self.client_threads)
-            .field("lookup_threads", &self.lookup_threads);
-    }
-
-    // Which origins are fetched from, what is told, and for how long answers are fresh.
-    fn show_web<W: fmt::Write>(&self, shown: &mut fmt::DebugStruct<'_, W>) {
-        shown
-            .field("deny_origins", &self.deny_origins)
-            .field("origin_ports", &self.origin_ports)
-            .field("origins6", &self.origins6)
-            .field("access_log", &self.access_log)
-            .field("access_log_format", &self.access_log_format)
-            .field("log_level", &self.log_level)
-            .field("freshness", &self.freshness)
-            .field("refresh", &self.refresh)
-            .field("serve_stale", &self.serve_stale);
-    }
-
-    // What is passed on, and the fields of fetches for all clients.
-    fn show_passing<W: fmt::Write>(&self, shown: &mut fmt::DebugStruct<'_, W>) {
-        shown
-            .field("mirrors", &self.mirrors)
-            .field("methods", &self.methods)
-            .field("connect_ports", &self.connect_ports)
-            .field("large", &self.large)
-            .field("streams", &self.streams)
-            .field("tunnels", &self.tunnels)
-            .field("fetch_seconds", &self.fetch_seconds)
-            .field("fetch_idle", &self.fetch_idle)
-            .field("fetch_speed", &self.fetch_speed)
-            .field("quick_abort_octets", &self.quick_abort_octets)
-            .field("keep_alive", &self.keep_alive)
-            .field("shared_fields", &self.shared_fields);
-    }
-}
-
-impl fmt::Debug for Settings {
-    fn fmt<W: fmt::Write>(&self, f: &mut fmt::Formatter<W>) -> fmt::Result {
-        let mut shown = f.debug_struct("Settings");
-        self.show_front(&mut shown);
-        self.show_limits(&mut shown);
-        self.show_web(&mut shown);
-        self.show_passing(&mut shown);
-        shown
-            .field("filters", &self.filters)
-            .field("stop_after", &self.stop_after)
-            .field("node", &self.node)
-            .finish_non_exhaustive()
     }
 }
 

@@ -18,7 +18,7 @@ const MOST_FIELDS: usize = 16;
 const MOST_OCTETS: usize = 255;
 
 /// A field that each fetch for all clients sends, whatever its clients sent.
-#[derive(Debug, Drop)]
+#[derive(Drop)]
 pub struct SharedField {
     /// Its name, in lower case: `user-agent`, `accept`, `accept-language` or `from` (RFC 9110, sections 10.1.5, 12.5.1, 12.5.4 and
     /// 10.1.2).

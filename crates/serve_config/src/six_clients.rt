@@ -14,7 +14,7 @@ use std::alloc::{AllocError, Global};
 use std::net::Ipv6Addr;
 
 /// Where clients with addresses of IPv6 are served, and which of them.
-#[derive(Debug, Drop)]
+#[derive(Drop)]
 pub struct SixClients {
     /// The address of the socket for them, as a number.
     pub address: u128,

@@ -8,7 +8,7 @@ use std::array;
 use std::sync::atomic::{AtomicU64, Ordering};
 
 /// An answer that has ended.
-#[derive(Clone, Copy, Debug, PartialEq, Eq)]
+#[derive(Clone, Copy)]
 pub struct AnswerNote {
     /// How it came to be.
     pub course: Course,
@@ -21,7 +21,7 @@ pub struct AnswerNote {
 }
 
 /// A fetch that has ended.
-#[derive(Clone, Copy, Debug, PartialEq, Eq)]
+#[derive(Clone, Copy)]
 pub struct FetchNote {
     /// Whom it was made from.
     pub from: FetchedFrom,
@@ -65,7 +65,7 @@ impl NeighbourCounters {
 }
 
 /// What the counters of a neighbour held.
-#[derive(Clone, Copy, Debug, PartialEq, Eq)]
+#[derive(Clone, Copy)]
 pub struct NeighbourCounts {
     /// Fetches from it, by outcome (in the order of `FetchOutcome`).
     pub fetches: [u64; 3],
@@ -240,7 +240,6 @@ impl Figures {
 }
 
 /// What the counters held, each when it was loaded: one after the other, so not all at one moment.
-#[derive(Debug)]
 pub struct Snapshot {
     /// Answers, by course (in the order of `Course`) and class of status (in the order of `StatusClass`).
     pub answers: [[u64; 6]; 5],

@@ -5,7 +5,7 @@ ghost use Rattle.traffic_figures.specs.Kinds.{class_name, class_place, course_na
 ghost use Rattle.traffic_figures.specs.StatusClass.{IsOfClass};
 
 /// How an answer came to be.
-#[derive(Clone, Copy, Debug, PartialEq, Eq)]
+#[derive(Clone, Copy)]
 pub enum Course {
     /// From a stored object.
     Hit,
@@ -58,7 +58,7 @@ impl Course {
 }
 
 /// The class of an answer's status (RFC 9110, section 15).
-#[derive(Clone, Copy, Debug, PartialEq, Eq)]
+#[derive(Clone, Copy, PartialEq, Eq)]
 pub enum StatusClass {
     /// 100 to 199.
     Informational,
@@ -136,7 +136,7 @@ pub fn class_of(status: u16) -> StatusClass
 }
 
 /// Whom a fetch was made from.
-#[derive(Clone, Copy, Debug, PartialEq, Eq)]
+#[derive(Clone, Copy)]
 pub enum FetchedFrom {
     /// An origin server.
     Origin,
@@ -157,7 +157,7 @@ impl FetchedFrom {
 }
 
 /// How a fetch ended.
-#[derive(Clone, Copy, Debug, PartialEq, Eq)]
+#[derive(Clone, Copy, PartialEq, Eq)]
 pub enum FetchOutcome {
     /// With a complete response, whatever its status.
     Whole,

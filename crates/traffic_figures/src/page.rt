@@ -3,7 +3,7 @@
 use crate::figures::Snapshot;
 
 /// What the filter of a query socket judged since the start.
-#[derive(Clone, Copy, Debug, PartialEq, Eq)]
+#[derive(Clone, Copy)]
 pub struct SocketFigures {
     /// Datagrams judged.
     pub judged: u64,
@@ -16,7 +16,7 @@ pub struct SocketFigures {
 }
 
 /// What the filters of both query sockets judged.
-#[derive(Clone, Copy, Debug, PartialEq, Eq)]
+#[derive(Clone, Copy)]
 pub struct Sockets {
     /// The ICP socket.
     pub icp: SocketFigures,
@@ -25,7 +25,7 @@ pub struct Sockets {
 }
 
 /// What is known of a neighbour at one moment.
-#[derive(Clone, Copy, Debug, PartialEq, Eq)]
+#[derive(Clone, Copy)]
 pub struct NeighbourState {
     /// Whether it is waited for.
     pub is_up: bool,
@@ -38,7 +38,7 @@ pub struct NeighbourState {
 }
 
 /// A neighbour.
-#[derive(Clone, Copy, Debug, PartialEq, Eq)]
+#[derive(Clone, Copy)]
 pub struct NeighbourFigures {
     /// The address at which it is queried.
     pub address: [u8; 4],
@@ -49,7 +49,7 @@ pub struct NeighbourFigures {
 }
 
 /// Look-ups of names of servers.
-#[derive(Clone, Copy, Debug, PartialEq, Eq)]
+#[derive(Clone, Copy)]
 pub struct LookUps {
     /// Names that wait for theirs.
     pub waiting: u64,
@@ -62,7 +62,7 @@ pub struct LookUps {
 }
 
 /// The lines of the access log since the start.
-#[derive(Clone, Copy, Debug, PartialEq, Eq)]
+#[derive(Clone, Copy)]
 pub struct LogLines {
     /// Lines written.
     pub written: u64,
@@ -71,7 +71,7 @@ pub struct LogLines {
 }
 
 /// What is counted of the attempts to connect to servers that go beside another one of the same server.
-#[derive(Clone, Copy, Debug)]
+#[derive(Clone, Copy)]
 pub struct AttemptFigures {
     /// Those under way.
     pub under_way: u64,
@@ -82,7 +82,7 @@ pub struct AttemptFigures {
 }
 
 /// Connections to servers.
-#[derive(Clone, Copy, Debug, PartialEq, Eq)]
+#[derive(Clone, Copy)]
 pub struct ServerConnectionFigures {
     /// Those that carry something, and those that are being made.
     pub busy: u64,
@@ -93,7 +93,6 @@ pub struct ServerConnectionFigures {
 }
 
 /// All that both texts show. What is `None` is left out of the metrics.
-#[derive(Debug)]
 pub struct Page {
     /// The counters of answers and fetches.
     pub figures: Snapshot,

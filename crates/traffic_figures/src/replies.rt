@@ -4,7 +4,7 @@ ghost use Rattle.std.specs.Prelude.{◌≡◌, ◌<◌, ◌↔◌, IfSome, IsNon
 ghost use Rattle.traffic_figures.specs.Replies.{IsHtcpReply, IsIcpReply, reply_name, reply_place};
 
 /// A kind of reply to a query of a neighbour. The first five are of ICP (RFC 2186), the next two of HTCP (RFC 2756).
-#[derive(Clone, Copy, Debug, PartialEq, Eq)]
+#[derive(Clone, Copy, PartialEq, Eq)]
 pub enum ReplyKind {
     /// The neighbour has the object: ICP_OP_HIT, or ICP_OP_HIT_OBJ, which brings it too.
     Hit,

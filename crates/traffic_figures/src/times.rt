@@ -61,7 +61,7 @@ pub(crate) fn total(counts: &[u64]) -> u64
 }
 
 /// How many times there were in each bucket, and their sum.
-#[derive(Clone, Copy, Debug, PartialEq, Eq)]
+#[derive(Clone, Copy)]
 pub struct Times {
     /// How many times there were in each bucket alone.
     pub counts: [u64; 15],

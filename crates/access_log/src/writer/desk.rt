@@ -41,7 +41,7 @@ impl Shared {
 }
 
 /// Lines since the log was opened.
-#[derive(Clone, Copy, Debug, PartialEq, Eq)]
+#[derive(Clone, Copy, PartialEq, Eq)]
 pub struct LogCounts {
     /// Lines that are written.
     pub written: u64,

@@ -6,7 +6,7 @@ use super::expected::Expected;
 const MOST_NESTED: u32 = 127;
 
 // Where in a token the beginning ends.
-#[derive(Clone, Copy, PartialEq, Eq)]
+#[derive(Clone, Copy)]
 enum Within {
     Nothing,
     Text,
