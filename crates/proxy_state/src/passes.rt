@@ -223,12 +223,12 @@ impl Passes {
 
     /// Adds a bound socket of this cache, which no tunnel leads to. Errors: out of memory.
     pub fn add_own<R: Wait>(&self, rt: &R, end: End) -> Result<(), AllocError> {
-        Ok(self.ends.lock(rt).own.push(end)?)
+        self.ends.lock(rt).add_own(end)
     }
 
     /// Notes the socket of this cache at an address of IPv6, which no tunnel leads to.
     pub fn note_own_six<R: Wait>(&self, rt: &R, end: SixEnd) {
-        self.ends.lock(rt).own_six = Some(end);
+        self.ends.lock(rt).note_own_six(end);
     }
 
     /// Notes that the answer of this URL is too long to be stored.
