@@ -422,6 +422,7 @@ impl<R: Clock + Copy, H: Answers> Opening<R, H> {
     }
 
     // Each of these addresses, if a tunnel may lead to it. Errors: out of memory.
+    #[tactic(auto, using(crate::proofs::Judging::judged_at))]
     fn judged(&self, servers: &[SocketAddr]) -> Result<Vec<Option<Admitted>>, AllocError>
         ensures judged { IfOk result (λ list. AreJudged self.now.is_origin servers.now list.items) }
     {
@@ -433,6 +434,7 @@ impl<R: Clock + Copy, H: Answers> Opening<R, H> {
     }
 
     // Those of these addresses that a tunnel may lead to. Errors: the status to answer.
+    #[tactic(auto, using(crate::proofs::Judging::chosen_judged))]
     fn admitted(&self, servers: Addresses) -> Result<AdmittedAddresses, u16>
         ensures judged { IfOk result (λ those. AllJudged self.now.is_origin those.list.items) }
     {
