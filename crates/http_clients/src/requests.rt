@@ -1,4 +1,6 @@
 //! Requests, and what answers them.
+ghost use Rattle.std.specs.Prelude.{◌≡◌, IfSome};
+
 use crate::account::SharedFacts;
 use futures::Future;
 use futures::channel::mpsc;
@@ -95,7 +97,10 @@ pub(crate) trait Answers: Drop {
     }
 
     /// This server, if a tunnel may lead to it as to an origin server.
-    fn admitted(&self, _server: SocketAddr) -> Option<AdmittedOrigin> {
+    fn admitted(&self, server: SocketAddr) -> Option<AdmittedOrigin>
+        ensures same { IfSome result (λ it. it.server ≡ server) }
+    {
+        let _ = server;
         None
     }
 

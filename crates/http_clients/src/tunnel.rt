@@ -1,7 +1,8 @@
 //! Tunnels, which clients open by CONNECT (RFC 9110, section 9.3.6): the way to the server.
-ghost use Rattle.std.specs.Prelude.{◌≡◌, IfSome};
+ghost use Rattle.std.specs.Prelude.{IfOk};
 ghost use Rattle.futures.specs.Poll.{OnPending};
 ghost use Rattle.futures.specs.Task.{Covers, Keeps};
+ghost use Rattle.http_clients.specs.Judged.{AllJudged, AreJudged, IsJudged};
 
 use crate::requests::Answers;
 use bytes::BytesMut;
@@ -411,7 +412,7 @@ impl<R: Clock + Copy, H: Answers> Opening<R, H> {
 
     // This address as one that a tunnel may lead to, if it may.
     fn judged_one(&self, server: SocketAddr) -> Option<Admitted>
-        ensures judged { IfSome result (λ it. it.is_judged ≡ self.now.is_origin) }
+        ensures judged { IsJudged self.now.is_origin server result }
     {
         if self.is_origin {
             Some(Admitted::origin(self.answers.admitted(server)?))
@@ -421,17 +422,23 @@ impl<R: Clock + Copy, H: Answers> Opening<R, H> {
     }
 
     // Each of these addresses, if a tunnel may lead to it. Errors: out of memory.
-    fn judged(&self, servers: &Addresses) -> Result<Vec<Option<Admitted>>, AllocError> {
+    #[tactic(auto, using(crate::proofs::Judging::judged_at))]
+    fn judged(&self, servers: &[SocketAddr]) -> Result<Vec<Option<Admitted>>, AllocError>
+        ensures judged { IfOk result (λ list. AreJudged self.now.is_origin servers.now list.items) }
+    {
         let mut judged = Vec::new(self.dialer.alloc);
-        for server in servers.as_slice() {
+        for server in servers {
             judged.push(self.judged_one(*server))?;
         }
         Ok(judged)
     }
 
     // Those of these addresses that a tunnel may lead to. Errors: the status to answer.
-    fn admitted(&self, servers: Addresses) -> Result<AdmittedAddresses, u16> {
-        let Ok(judged) = self.judged(&servers) else {
+    #[tactic(auto, using(crate::proofs::Judging::chosen_judged))]
+    fn admitted(&self, servers: Addresses) -> Result<AdmittedAddresses, u16>
+        ensures judged { IfOk result (λ those. AllJudged self.now.is_origin those.list.items) }
+    {
+        let Ok(judged) = self.judged(servers.as_slice()) else {
             drop(servers);
             return Err(503);
         };

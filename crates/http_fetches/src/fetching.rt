@@ -152,7 +152,8 @@ trait Means: Drop {
     type Watch: Watch;
 
     // What connects one job. Returns `None` if out of memory.
-    fn dialer(&self, is_origin: bool) -> Option<Self::Dialer>;
+    fn dialer(&self, is_origin: bool) -> Option<Self::Dialer>
+        ensures judges { IfSome result (λ dialer. Self.Dialer.judges dialer ≡ is_origin) };
 
     // The exchange of this fetch.
     fn get(&self, begun: Begun, asked: Asked) -> Self::Get;

@@ -1,7 +1,8 @@
 //! A visit of a server: waits for its addresses, then makes the call.
-ghost use Rattle.std.specs.Prelude.{◌≡◌, IfSome, true};
+ghost use Rattle.std.specs.Prelude.{◌≡◌, IfOk, IfSome, true};
 ghost use Rattle.futures.specs.Poll.{OnPending};
 ghost use Rattle.futures.specs.Task.{Covers, Keeps};
+ghost use Rattle.http_fetches.specs.Judged.{AllJudged, AreJudged};
 
 use crate::dialer::Dial;
 use crate::exchange::{Call, Talk};
@@ -11,6 +12,7 @@ use futures::{Future, ready};
 use http_rules::Admitted;
 use http_traffic::{Addresses, AdmitFault, AdmittedAddresses, FetchFault, Server};
 use std::alloc::{AllocError, Global};
+use std::net::SocketAddr;
 
 /// How a visit ended.
 #[derive(Drop)]
@@ -55,6 +57,39 @@ impl<D: Dial, T: Talk> Drop for Visit<D, T> {
     }
 }
 
+// Each of these servers, if it is admitted. Errors: out of memory.
+fn judged<D: Dial>(
+    alloc: Global,
+    dialer: &D,
+    servers: &[SocketAddr],
+) -> Result<Vec<Option<Admitted>>, AllocError>
+    ensures judged { IfOk result (λ list. AreJudged (D.judges dialer.now) servers.now list.items) }
+{
+    let mut judged = Vec::new(alloc);
+    for server in servers {
+        judged.push(dialer.admitted(*server))?;
+    }
+    Ok(judged)
+}
+
+// Those of these addresses that are admitted. Errors: there is none, or out of memory.
+#[tactic(auto, using(crate::proofs::Judging::chosen_judged))]
+fn admitted_by<D: Dial>(
+    alloc: Global,
+    dialer: &D,
+    servers: Addresses,
+) -> Result<AdmittedAddresses, AdmitFault>
+    ensures judged { IfOk result (λ those. AllJudged (D.judges dialer.now) those.list.items) }
+{
+    match judged(alloc, dialer, servers.as_slice()) {
+        Ok(judged) => servers.admitted(alloc, judged),
+        Err(_) => {
+            drop(servers);
+            Err(AdmitFault::NoMemory)
+        }
+    }
+}
+
 impl<D: Dial, T: Talk> Visit<D, T> {
     /// A visit that has not begun; without a dialer it fails, as out of memory.
     pub fn new(alloc: Global, server: Server, dialer: Option<D>, talk: T) -> Visit<D, T>
@@ -88,27 +123,15 @@ impl<D: Dial, T: Talk> Visit<D, T> {
         }
     }
 
-    // Each of these addresses, if it is admitted. Errors: out of memory.
-    fn judged(&self, servers: &Addresses) -> Result<Vec<Option<Admitted>>, AllocError> {
-        let Some(dialer) = &self.dialer else {
-            return Err(AllocError);
-        };
-        let mut judged = Vec::new(self.alloc);
-        for server in servers.as_slice() {
-            judged.push(dialer.admitted(*server))?;
-        }
-        Ok(judged)
-    }
-
     // Those of these addresses that are admitted. Errors: there is none, or out of memory.
-    fn admitted(&self, servers: Addresses) -> Result<AdmittedAddresses, AdmitFault> {
-        match self.judged(&servers) {
-            Ok(judged) => servers.admitted(self.alloc, judged),
-            Err(_) => {
-                drop(servers);
-                Err(AdmitFault::NoMemory)
-            }
-        }
+    fn admitted(&self, servers: Addresses) -> Result<AdmittedAddresses, AdmitFault>
+        ensures judged { IfSome self.now.dialer (λ dialer. IfOk result (λ those. AllJudged (D.judges dialer) those.list.items)) }
+    {
+        let Some(dialer) = &self.dialer else {
+            drop(servers);
+            return Err(AdmitFault::NoMemory);
+        };
+        admitted_by(self.alloc, dialer, servers)
     }
 
     // Makes the call to one of these addresses, if `call` gives one.

@@ -1,11 +1,11 @@
 -- Laws about the parts of keys. 47 is a slash, 58 a colon, 91 and 93 are brackets.
-use Rattle.std.proofs.Common.{◌≡◌, ◌<◌, ℕ, ◌+◌, List, [], ◌∷◌, ◌++◌, codes, length, take, drop, get_or, true, false, Bool, cond, suc, refl, sym, ap, ◌∙◌, arith, inl, inr, not, ◌==◌, Some}
+use Rattle.std.proofs.Common.{◌≡◌, ◌<◌, ℕ, ◌+◌, List, [], ◌∷◌, ◌++◌, codes, length, take, drop, get_or, true, false, Bool, cond, suc, refl, sym, ap, subst, ◌∙◌, arith, inl, inr, not, ◌==◌, ◌||◌, Some, None, is_none}
 use Rattle.std.specs.List.{list_all, prefix_len}
 use Rattle.std.proofs.Math.Seq.{take-suc}
 use Rattle.std.proofs.lemmas.List.{take-append-drop}
 use Rattle.std.proofs.lemmas.List.Sums.{passes_at_first}
 use Rattle.http_rules.specs.HostFields.{place_of}
-use Rattle.http_rules.specs.Destinations.{IsBare, IsDestination, is_rooted, port_behind, target_of}
+use Rattle.http_rules.specs.Destinations.{IsBare, IsDestination, authority_len, ends_authority, is_nowhere, is_rooted, leads_nowhere, name_len, port_behind, target_of}
 
 -- each element of the longest beginning that passes does
 passing : (q : ℕ → Bool) (xs : List ℕ) → list_all q (take (prefix_len q xs) xs) ≡ true
@@ -23,18 +23,6 @@ passing q (x ∷ xs) = by (q x) refl (passing q xs)
 -- no octet before the first one that is this one is it
 clean : (octet : ℕ) (text : List ℕ) → list_all (λ c. not (c == octet)) (take (place_of octet text) text) ≡ true
 clean octet text = passing (λ c. not (c == octet)) text
-
--- what begins at the first slash is rooted
-rooted : (text : List ℕ) → is_rooted (drop (place_of 47 text) text) ≡ true
-rooted [] = refl
-rooted (c ∷ cs) = by (c == 47) refl (rooted cs)
-  where
-    by : (b : Bool) → (c == 47) ≡ b → is_rooted (drop (place_of 47 cs) cs) ≡ true
-        → is_rooted (drop (cond (not b) (1 + place_of 47 cs) 0) (c ∷ cs)) ≡ true
-    by true e others = e
-    by false e others =
-        let up : 1 + place_of 47 cs ≡ suc (place_of 47 cs) = omega arith in
-        ap (λ k. is_rooted (drop k (c ∷ cs))) up ∙ others
 
 -- what no closing bracket follows has no port before its first colon
 pub bare : (host : List ℕ) (end : ℕ) → end ≡ place_of 58 host → IsBare (take end host)
@@ -59,11 +47,15 @@ closes rest end e inside =
     ended : get_or rest end 0 ≡ 93
     ended = let passes = passes_at_first (λ c. c == 93) rest 0 (rw e at inside) in grind (arith, e, passes)
 
+-- no octet of an authority ends it
+within : (text : List ℕ) → list_all (λ c. not (ends_authority c)) (take (authority_len text) text) ≡ true
+within text = passing (λ c. not (ends_authority c)) text
+
 -- the parts of a key, put together
 pub made : (key behind host rest name written target : List ℕ) (port p n : ℕ) → take 7 key ≡ codes "http://" → behind ≡ drop 7 key
-    → p ≡ place_of 47 behind → host ≡ take p behind → rest ≡ drop p behind → name ≡ take n host → written ≡ drop n host
+    → p ≡ authority_len behind → host ≡ take p behind → rest ≡ drop p behind → is_rooted rest ≡ true → name ≡ take n host → written ≡ drop n host
     → IsBare (take n host) → port_behind written ≡ Some port → target ≡ target_of rest → IsDestination key name port host target
-made key behind host rest name written target port p n begins left place h r named after plain numbered asked =
+made key behind host rest name written target port p n begins left place h r root named after plain numbered asked =
     record {
       rest = rest;
       written = written;
@@ -71,10 +63,40 @@ made key behind host rest name written target port p n begins left place h r nam
           sym (take-append-drop 7 key) ∙ ap (λ l. l ++ drop 7 key) begins
           ∙ ap (λ l. codes "http://" ++ l)
           (sym left ∙ sym (take-append-drop p behind) ∙ ap (λ l. l ++ drop p behind) (sym h) ∙ ap (λ l. host ++ l) (sym r));
-      whole = rw h (rw place (clean 47 behind));
-      rooted = rw r (rw place (rooted behind));
+      whole = rw h (rw place (within behind));
+      rooted = root;
       asked = asked;
       parted = sym (take-append-drop n host) ∙ ap (λ l. l ++ drop n host) (sym named) ∙ ap (λ l. name ++ l) (sym after);
       bare = rw named plain;
       numbered = numbered;
     }
+
+-- a key behind whose authority nothing begins a path leads nowhere
+pub unrooted : (key behind rest : List ℕ) (p : ℕ) → behind ≡ drop 7 key → p ≡ authority_len behind → rest ≡ drop p behind → is_rooted rest ≡ false
+    → leads_nowhere key ≡ true
+unrooted key behind rest p left place r root = subst (λ text. is_nowhere text ≡ true) left (by_root behind at)
+  where
+    at : is_rooted (drop (authority_len behind) behind) ≡ false
+    at = ap (λ n. is_rooted (drop n behind)) (sym place) ∙ ap is_rooted (sym r) ∙ root
+    by_root : (text : List ℕ) → is_rooted (drop (authority_len text) text) ≡ false → is_nowhere text ≡ true
+    by_root text e =
+        ap (λ b. not b || is_none (port_behind (drop (name_len (take (authority_len text) text)) (take (authority_len text) text)))) e
+
+or_true : (b : Bool) → (b || true) ≡ true
+or_true true = refl
+or_true false = refl
+
+-- so does one behind whose name there is no port
+pub unnumbered : (key behind host written : List ℕ) (p n : ℕ) → behind ≡ drop 7 key → p ≡ authority_len behind → host ≡ take p behind
+    → n ≡ name_len host → written ≡ drop n host → port_behind written ≡ None → leads_nowhere key ≡ true
+unnumbered key behind host written p n left place h named after none = subst (λ text. is_nowhere text ≡ true) left (by_port behind at)
+  where
+    whole : host ≡ take (authority_len behind) behind
+    whole = h ∙ ap (λ k. take k behind) place
+    at : port_behind (drop (name_len (take (authority_len behind) behind)) (take (authority_len behind) behind)) ≡ None
+    at =
+        sym (ap (λ l. port_behind (drop (name_len l) l)) whole) ∙ ap (λ k. port_behind (drop k host)) (sym named)
+        ∙ ap port_behind (sym after) ∙ none
+    by_port : (text : List ℕ) → port_behind (drop (name_len (take (authority_len text) text)) (take (authority_len text) text)) ≡ None
+        → is_nowhere text ≡ true
+    by_port text e = ap (λ o. not (is_rooted (drop (authority_len text) text)) || is_none o) e ∙ or_true (not (is_rooted (drop (authority_len text) text)))

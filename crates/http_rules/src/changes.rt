@@ -1,9 +1,9 @@
 //! What a response to a request that is not safe makes stale (RFC 9111, section 4.4).
-ghost use Rattle.std.specs.Prelude.{◌≡◌, ◌++◌, IfOk, option_copied, option_to_list};
+ghost use Rattle.std.specs.Prelude.{◌≡◌, ◌++◌, None, IfOk, IsOk, codes, false, option_copied, option_to_list};
 ghost use Rattle.http_header.specs.Token.{lowercase};
 ghost use Rattle.http_rules.specs.Changes.{is_change, is_same_origin, key_beside, key_within, named_key, named_keys, other_keys, text_in, url_of};
 ghost use Rattle.url.specs.Parser.{Gives, parse_url};
-ghost use Rattle.http_rules.specs.Fields.{fields_of};
+ghost use Rattle.http_rules.specs.Fields.{fields_of, first_value};
 
 use crate::fields::first_value;
 use crate::passing::is_unsafe;
@@ -25,7 +25,7 @@ pub struct Changed {
 /// The keys whose stored responses a response with this status and head to a request for this key makes stale (RFC 9111, section
 /// 4.4). None unless the method is unsafe and the status 2xx or 3xx; otherwise the key itself, and those of Location and
 /// Content-Location where they are of the same origin: scheme, host and port. Of several such fields the first counts, and one that
-/// is no `http` URL, or is too long for a key, does not count. Whether the key itself is one takes no memory.
+/// is no `http` URL, or is too long for a key, does not count. Whether the key itself is one takes no memory, nor do the others where no such field is there.
 pub fn changed_keys(
     alloc: Global,
     key: &CacheKey,
@@ -34,6 +34,8 @@ pub fn changed_keys(
     head: &HeaderMap,
 ) -> Changed
     ensures own { result.own ≡ is_change method.now status }
+    ensures unchanged { is_change method.now status ≡ false → IsOk result.others }
+    ensures unnamed { first_value (codes "location") (fields_of head.now) ≡ None → first_value (codes "content-location") (fields_of head.now) ≡ None → IsOk result.others }
     ensures others { IfOk result.others (λ keys. keys.items ≡ other_keys key.now method.now status (fields_of head.now)) }
 {
     if !is_change(method, status) {
@@ -50,7 +52,8 @@ pub fn changed_keys(
 
 // The keys that Location and Content-Location refer to, where they are of the same origin as this key.
 fn named_keys(alloc: Global, key: &CacheKey, head: &HeaderMap) -> Result<Vec<CacheKey>, AllocError>
-    ensures { IfOk result (λ keys. keys.items ≡ named_keys key.now (fields_of head.now)) }
+    ensures named { IfOk result (λ keys. keys.items ≡ named_keys key.now (fields_of head.now)) }
+    ensures unnamed { first_value (codes "location") (fields_of head.now) ≡ None → first_value (codes "content-location") (fields_of head.now) ≡ None → IsOk result }
 {
     let location = named_key(alloc, key, head, "location")?;
     let content = named_key(alloc, key, head, "content-location")?;
@@ -66,7 +69,8 @@ fn is_change(method: &str, status: u16) -> bool
 
 // These keys and, if it is there, this one.
 fn with_key(keys: Vec<CacheKey>, key: Option<CacheKey>) -> Result<Vec<CacheKey>, AllocError>
-    ensures { IfOk result (λ after. after.items ≡ keys.items ++ option_to_list key) }
+    ensures after { IfOk result (λ after. after.items ≡ keys.items ++ option_to_list key) }
+    ensures none { key ≡ None → IsOk result }
 {
     let mut keys = keys;
     if let Some(key) = key {
@@ -83,7 +87,8 @@ fn named_key(
     name: &str,
 ) -> Result<Option<CacheKey>, AllocError>
     requires { lowercase name.now ≡ name.now }
-    ensures { IfOk result (λ found. found ≡ named_key key.now name.now (fields_of head.now)) }
+    ensures found { IfOk result (λ found. found ≡ named_key key.now name.now (fields_of head.now)) }
+    ensures unnamed { first_value name.now (fields_of head.now) ≡ None → IsOk result }
 {
     let Some(reference) = first_value(head, name) else {
         return Ok(None);

@@ -1,6 +1,6 @@
 //! Where a key leads to.
-ghost use Rattle.std.specs.Prelude.{◌≡◌, ◌≤◌, ◌+◌, ◌∷◌, codes, drop, length, take, true, IfSome};
-ghost use Rattle.http_rules.specs.Destinations.{IsBare, IsDestination, is_rooted, port_behind, target_of};
+ghost use Rattle.std.specs.Prelude.{◌≡◌, ◌≤◌, ◌+◌, ◌∷◌, codes, length, take, true, MatchOption};
+ghost use Rattle.http_rules.specs.Destinations.{IsBare, IsDestination, authority_len, bracketed_len, ends_authority, is_rooted, leads_nowhere, name_len, port_behind, target_of};
 ghost use Rattle.http_rules.specs.HostFields.{place_of};
 
 use crate::host_field::{SCHEME_OCTETS, place_of};
@@ -23,21 +23,25 @@ pub struct Destination<'a> {
     pub target: &'a [u8],
 }
 
-/// Where this key leads to. `None` if the port is no number of 16 bits.
+/// Where this key leads to. `None` if the port is no number of 16 bits, or a query or a fragment is right behind the authority.
 pub fn destination_of(key: &CacheKey) -> Option<Destination<'_>>
-    ensures leads { IfSome result (λ d. IsDestination key.now d.name.now d.port d.host.now d.target.now) }
+    ensures leads { MatchOption result (leads_nowhere key.now ≡ true) (λ d. IsDestination key.now d.name.now d.port d.host.now d.target.now) }
 {
     destination_in(key.as_slice())
 }
 
 // Where the key of these octets leads to.
+#[tactic(auto, using(crate::proofs::Destinations::unrooted, crate::proofs::Destinations::unnumbered))]
 fn destination_in(key: &[u8]) -> Option<Destination<'_>>
     requires long { 7 ≤ length key.now }
     requires begins { take 7 key.now ≡ codes "http://" }
-    ensures leads { IfSome result (λ d. IsDestination key.now d.name.now d.port d.host.now d.target.now) }
+    ensures leads { MatchOption result (leads_nowhere key.now ≡ true) (λ d. IsDestination key.now d.name.now d.port d.host.now d.target.now) }
 {
     let (_, behind) = key.split_at(SCHEME_OCTETS);
-    let (host, rest) = behind.split_at(place_of(b'/', behind));
+    let (host, rest) = behind.split_at(authority_len(behind));
+    if !is_rooted(rest) {
+        return None;
+    }
     let (name, written) = host.split_at(name_len(host));
     match port_behind(written) {
         Some(port) => Some(Destination {
@@ -50,9 +54,40 @@ fn destination_in(key: &[u8]) -> Option<Destination<'_>>
     }
 }
 
+// How many octets the authority has that a text begins with.
+fn authority_len(text: &[u8]) -> usize
+    ensures value { result ≡ authority_len text.now }
+    ensures bound { result ≤ length text.now }
+{
+    for i in 0..text.len() {
+        if ends_authority(text[i]) {
+            return i;
+        }
+    }
+    text.len()
+}
+
+// Whether an octet ends an authority.
+fn ends_authority(octet: u8) -> bool
+    ensures { result ≡ ends_authority octet }
+{
+    octet == b'/' || (octet == b'?' || octet == b'#')
+}
+
+// Whether what is behind the authority is nothing, or begins with a slash.
+fn is_rooted(rest: &[u8]) -> bool
+    ensures { result ≡ is_rooted rest.now }
+{
+    match rest {
+        [] => true,
+        [first, ..] => *first == b'/',
+    }
+}
+
 // How many octets the name in an authority has.
 #[tactic(auto, using(crate::proofs::Destinations::bare))]
 fn name_len(host: &[u8]) -> usize
+    ensures value { result ≡ name_len host.now }
     ensures bare { IsBare (take result host.now) }
     ensures bound { result ≤ length host.now }
 {
@@ -65,6 +100,7 @@ fn name_len(host: &[u8]) -> usize
 // How many octets the name has that begins with a bracket, which this is behind.
 #[tactic(auto, using(crate::proofs::Destinations::closes, crate::proofs::Destinations::unclosed))]
 fn bracketed_len(rest: &[u8]) -> usize
+    ensures value { result ≡ bracketed_len rest.now }
     ensures bare { IsBare (take result (91 ∷ rest.now)) }
     ensures bound { result ≤ length rest.now + 1 }
 {

@@ -166,7 +166,9 @@ impl Addresses {
     }
 
     /// The addresses.
-    pub fn as_slice(&self) -> &[SocketAddr] {
+    pub fn as_slice(&self) -> &[SocketAddr]
+        ensures { result.now ≡ self.now.list.items }
+    {
         self.list.as_slice()
     }
 
@@ -213,7 +215,9 @@ impl AdmittedAddresses {
     }
 
     /// The addresses.
-    pub fn as_slice(&self) -> &[Admitted] {
+    pub fn as_slice(&self) -> &[Admitted]
+        ensures { result.now ≡ self.now.list.items }
+    {
         self.list.as_slice()
     }
 

@@ -1,4 +1,6 @@
 //! Requests of clients, their answers, and what accepts them.
+ghost use Rattle.std.specs.Prelude.{◌≡◌, IfSome};
+
 use crate::passing::{Coming, Early, Passing, Road, TunnelEnd};
 use futures::channel::oneshot;
 use http_header::HeaderMap;
@@ -213,7 +215,10 @@ pub trait PassOn: Drop {
     }
 
     /// This server, if a tunnel may lead to it as to an origin server.
-    fn admitted(&mut self, _server: SocketAddr) -> Option<AdmittedOrigin> {
+    fn admitted(&mut self, server: SocketAddr) -> Option<AdmittedOrigin>
+        ensures same { IfSome result (λ it. it.server ≡ server) }
+    {
+        let _ = server;
         None
     }
 }

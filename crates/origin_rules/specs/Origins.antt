@@ -1,10 +1,11 @@
 -- Which servers may be fetched from as origins.
-use Rattle.std.specs.Prelude.{ℕ, List, [], ◌∷◌, bytes_eq, not, ◌==◌, ◌&&◌, ◌||◌, Bool, true, Vec, Option, Some, None, if◌then◌else◌}
+use Rattle.std.specs.Prelude.{ℕ, List, [], ◌∷◌, bytes_eq, not, ◌==◌, ◌&&◌, ◌||◌, Bool, true, Vec, Option, Some, None, option_map, if◌then◌else◌}
 use Rattle.std.specs.List.{list_any}
 use Rattle.node_terms.specs.declared.ends.End.{End}
 use Rattle.node_terms.specs.declared.network.Network.{Network}
 use Rattle.node_terms.specs.Networks.{is_inside}
 use Rattle.origin_rules.specs.declared.origins.OriginRules.{OriginRules}
+use Rattle.origin_rules.specs.declared.origins_six.SixNetwork.{SixNetwork}
 
 -- the address that a connection to an address reaches: Linux takes 0.0.0.0 for 127.0.0.1
 abbrev pub reached : List ℕ → List ℕ
@@ -22,6 +23,10 @@ is_denied denied addr = list_any (λ network. is_inside addr network || is_insid
 abbrev pub is_port : {Z : Type 0} → Option (Vec ℕ Z) → ℕ → Bool
 is_port None port = true
 is_port (Some ports) port = list_any (λ known. known == port) ports.items
+
+-- the networks of IPv6 that are given, if any are
+abbrev pub six_items : {Z : Type 0} → Option (Vec SixNetwork Z) → Option (List SixNetwork)
+six_items networks = option_map (λ given. given.items) networks
 
 -- whether a server may be fetched from
 abbrev pub admits : OriginRules → End → Bool

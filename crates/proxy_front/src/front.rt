@@ -565,7 +565,6 @@ impl<R: Wait + Clock + Drop, S: Shared, N: TakeEvents> TakeCalls for NodeFront<R
             Call::IsLarge(asked) => Returned::Whether(self.is_beside_node(asked).unwrap_or(false)),
             Call::PassOn(asked, content) => Returned::Passing(self.pass(asked, content)),
             Call::Tunnel(asked) => Returned::Tunnel(self.lead(asked)),
-            Call::Admitted(server) => Returned::Admitted(self.admitted(server)),
             Call::Gone(client) => self.gone(client),
             Call::Answered => self.answered(),
             Call::Tell(told) => self.tell(told),
@@ -574,6 +573,10 @@ impl<R: Wait + Clock + Drop, S: Shared, N: TakeEvents> TakeCalls for NodeFront<R
                 Returned::Nothing
             }
         }
+    }
+
+    fn admitted(&mut self, server: SocketAddr) -> Option<AdmittedOrigin> {
+        self.proxy.passes().admitted(&self.rt, server)
     }
 }
 
@@ -623,10 +626,6 @@ impl<R: Wait + Clock + Drop, S: Shared, N: TakeEvents> NodeFront<R, S, N> {
                 Err(_) => Shape::Whole,
             },
         }
-    }
-
-    fn admitted(&mut self, server: SocketAddr) -> Option<AdmittedOrigin> {
-        self.proxy.passes().admitted(&self.rt, server)
     }
 
     fn gone(&mut self, client: u64) -> Returned {

@@ -1,5 +1,7 @@
 //! How a front is handed to what serves it: as a type that has only its calls, each of which it takes by one function. The prover
 //! looks at all methods of a trait for all of the type that has them, which is too much for a front with the whole node behind it.
+ghost use Rattle.std.specs.Prelude.{◌≡◌, IfSome};
+
 use crate::front::ServeFront;
 use http_header::HeaderMap;
 use http_rules::AdmittedOrigin;
@@ -37,8 +39,6 @@ pub enum Call<'a> {
     Passed(&'a Asked, u16, &'a HeaderMap),
     /// `PassOn::tunnel`.
     Tunnel(&'a Asked),
-    /// `PassOn::admitted`.
-    Admitted(SocketAddr),
 }
 
 /// What such a call returns.
@@ -51,13 +51,16 @@ pub enum Returned {
     Shape(Shape),
     Passing(Result<Passing, u16>),
     Tunnel(Result<TunnelEnd, u16>),
-    Admitted(Option<AdmittedOrigin>),
 }
 
 /// Takes the calls of a front.
 pub trait TakeCalls: Drop {
     /// Takes one.
     fn take_call(&mut self, call: Call<'_>) -> Returned;
+
+    /// Takes `PassOn::admitted`: a call of its own, since its contract says which server is admitted.
+    fn admitted(&mut self, server: SocketAddr) -> Option<AdmittedOrigin>
+        ensures same { IfSome result (λ it. it.server ≡ server) };
 }
 
 /// A front whose calls another type takes.
@@ -170,13 +173,7 @@ impl<T: TakeCalls> PassOn for Handed<T> {
     }
 
     fn admitted(&mut self, server: SocketAddr) -> Option<AdmittedOrigin> {
-        match self.to.take_call(Call::Admitted(server)) {
-            Returned::Admitted(admitted) => admitted,
-            other => {
-                drop(other);
-                None
-            }
-        }
+        self.to.admitted(server)
     }
 }
 

@@ -1,12 +1,16 @@
 //! Results of fetches on their way to the node.
+ghost use Rattle.std.specs.Prelude.{◌≡◌, IfOk, IfSome, None, false, true};
+ghost use Rattle.http_rules.specs.Fields.{fields_of};
+ghost use Rattle.http_rules.specs.Storing.{IsOf};
+
 use crate::ends::{end_of, is_down};
 use crossbeam_channel::Sender;
 use fair_use::{SharedEnd, Upload, may_have_changed};
 use filter_slots::Moment;
 use http_header::HeaderMap;
 use http_rules::{
-    Changed, Revalidated, SourceEnd, StaleUse, Storable, age_of, changed_keys, complete_length,
-    supersedes,
+    Changed, PassFault, Revalidated, SourceEnd, StaleUse, Storable, age_of, changed_keys,
+    complete_length, supersedes,
 };
 use http_traffic::{Change, Ended, FetchEnd, FetchFault, Fetched, LeftChange, Page, Supplier};
 use httpdate::HttpDate;
@@ -247,6 +251,50 @@ pub struct Results<R, S, N> {
     pub opened: Option<Sender<(), Global>>,
 }
 
+// The age of a response with this head, of which there is this to show that it may be stored.
+fn age_by(storable: &Option<Storable<'_>>, head: &HeaderMap) -> u32 {
+    match storable {
+        Some(storable) => storable.age(),
+        None => age_of(head),
+    }
+}
+
+// What there is to show that a response may be stored, unless it is not to be kept.
+fn unless(is_unkept: bool, storable: Option<Storable<'_>>) -> Option<Storable<'_>>
+    ensures unkept { is_unkept ≡ true → result ≡ None }
+    ensures kept { is_unkept ≡ false → result ≡ storable.entry }
+{
+    if is_unkept {
+        drop(storable);
+        return None;
+    }
+    storable
+}
+
+// The object of a received response, with a life if there is something to show that it may be stored. Errors: there are too many names in
+// Connection, or out of memory.
+fn object_by(
+    alloc: Global,
+    name: &[u8],
+    storable: Option<Storable<'_>>,
+    received: Received<'_>,
+    body: Vec<u8>,
+    date: &[u8],
+) -> Result<SharedObject, PassFault>
+    requires status { IfSome storable.entry (λ it. it.status ≡ received.entry.status) }
+    ensures status { IfOk result (λ object. object.status ≡ received.entry.status) }
+    ensures unkept { storable.entry ≡ None → IfOk result (λ object. object.life ≡ 0) }
+{
+    match storable {
+        Some(storable) => {
+            let object = stored_object(alloc, name, &storable, body, date);
+            drop(storable);
+            object
+        }
+        None => unstored_object(alloc, name, received, body, date),
+    }
+}
+
 // Hands in the outcome of an attempt. Returns whether the node has taken it.
 fn take<N: TakeEvents>(
     node: &mut N,
@@ -334,7 +382,9 @@ impl<R: Wait + Clock + Drop, S: Shared, N: TakeEvents> Results<R, S, N> {
     }
 
     // A fetch of this key whose response has come, as far as the life of that depends on it.
-    fn exchange<'a>(&self, key: Option<&'a CacheKey>, flight: Flight) -> Exchange<'a> {
+    fn exchange<'a>(&self, key: Option<&'a CacheKey>, flight: Flight) -> Exchange<'a>
+        ensures mode { result.mode ≡ flight.mode }
+    {
         let received = date_seconds(&self.rt);
         let took = micros_since(&self.rt, flight.began).unwrap_or(0) / 1_000_000;
         Exchange {
@@ -355,7 +405,10 @@ impl<R: Wait + Clock + Drop, S: Shared, N: TakeEvents> Results<R, S, N> {
         flight: Flight,
         status: u16,
         head: &'a HeaderMap,
-    ) -> Option<Storable<'a>> {
+    ) -> Option<Storable<'a>>
+        ensures of { IfSome result (IsOf flight.mode status (fields_of head.now)) }
+        ensures private { flight.mode ≡ Mode.Private → result ≡ None }
+    {
         let exchange = self.exchange(key, flight);
         self.proxy.kept().profile.storable(exchange, status, head)
     }
@@ -413,25 +466,26 @@ impl<R: Wait + Clock + Drop, S: Shared, N: TakeEvents> Results<R, S, N> {
         is_unkept: bool,
         page: Page,
         date: &[u8],
-    ) -> Option<SharedObject> {
+    ) -> Option<SharedObject>
+        ensures status { IfSome result (λ object. object.status ≡ page.status) }
+        ensures unkept { is_unkept ≡ true → IfSome result (λ object. object.life ≡ 0) }
+        ensures private { flight.mode ≡ Mode.Private → IfSome result (λ object. object.life ≡ 0) }
+    {
         let Page { status, head, body } = page;
         let name = self.proxy.outward().name.as_bytes();
         let storable = self.storable(key, flight, status, &head);
-        let age = match &storable {
-            Some(storable) => storable.age(),
-            None => age_of(&head),
-        };
-        let object = match &storable {
-            Some(storable) if !is_unkept => stored_object(self.alloc, name, storable, body, date),
-            _ => {
-                let head = &head;
-                let received = Received { status, head, age };
-                unstored_object(self.alloc, name, received, body, date)
-            }
-        };
-        drop(storable);
-        drop(head);
-        object.ok()
+        let age = age_by(&storable, &head);
+        let head = &head;
+        let received = Received { status, head, age };
+        object_by(
+            self.alloc,
+            name,
+            unless(is_unkept, storable),
+            received,
+            body,
+            date,
+        )
+        .ok()
     }
 
     // Whether the object of a response is not to be kept.

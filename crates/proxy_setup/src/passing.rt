@@ -35,7 +35,8 @@ pub(crate) fn allows_own(config: &Config) -> bool {
     config.allowed.iter().any(|network| network.contains(own))
 }
 
-/// What passes without the node, which is taken out of the settings. Tunnels lead to none of the networks that nothing is fetched from.
+/// What passes without the node, which is taken out of the settings. Tunnels lead to the ports that are configured for them, and to none of
+/// the networks that nothing is fetched from.
 pub(crate) fn passes_of(
     alloc: Global,
     settings: &mut Settings,
@@ -46,8 +47,8 @@ pub(crate) fn passes_of(
     let connect_ports = mem::replace(&mut settings.connect_ports, Vec::new(alloc));
     Ok(Passes {
         methods: mem::replace(&mut settings.methods, Vec::new(alloc)),
-        has_six: origins.denied_six.is_some(),
-        ends: Mutex::new(ends_of(alloc, connect_ports.as_slice(), origins)?),
+        has_six: origins.has_six(),
+        ends: Mutex::new(origins.for_ports(alloc, connect_ports.as_slice())?),
         connect_ports,
         large: large_of(alloc, settings.large, hashes)?,
         streams: Places::new(alloc, settings.streams)?,
@@ -60,28 +61,6 @@ pub(crate) fn passes_of(
         servers: Arc::new(alloc, ServerConnections::new(alloc, FETCHERS)?)?,
         purger: purger_of(alloc, &settings.node)?,
     })
-}
-
-/// Where tunnels may lead to: to these ports, and to servers that may be fetched from at another port.
-fn ends_of(alloc: Global, ports: &[u16], origins: &OriginRules) -> Result<OriginRules, AllocError> {
-    Ok(OriginRules {
-        own: Vec::new(alloc),
-        own_six: None,
-        denied: copy_of(alloc, origins.denied.as_slice())?,
-        ports: Some(copy_of(alloc, ports)?),
-        denied_six: match &origins.denied_six {
-            Some(denied) => Some(copy_of(alloc, denied.as_slice())?),
-            None => None,
-        },
-    })
-}
-
-fn copy_of<T: Copy + Drop>(alloc: Global, items: &[T]) -> Result<Vec<T>, AllocError> {
-    let mut copy = Vec::with_capacity(alloc, items.len())?;
-    for item in items {
-        copy.push(*item)?;
-    }
-    Ok(copy)
 }
 
 /// Room for the URLs of large answers, where these are passed on.

@@ -533,13 +533,8 @@ fn origins_of(alloc: Global, settings: &mut Settings) -> Result<OriginRules, All
         Some(denied) => denied,
         None => usual_denials(alloc, judged_address(settings))?,
     };
-    Ok(OriginRules {
-        own: Vec::new(alloc),
-        denied,
-        ports: settings.origin_ports.take(),
-        own_six: None,
-        denied_six,
-    })
+    let ports = settings.origin_ports.take();
+    Ok(OriginRules::new(alloc, denied, ports, denied_six))
 }
 
 /// The address by which it is judged whether this host's own servers are usually fetched from: that of the sockets, or none where clients of

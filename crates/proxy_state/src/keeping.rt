@@ -1,7 +1,8 @@
 //! For how long responses are kept.
-ghost use Rattle.std.specs.Prelude.{IfSome};
+ghost use Rattle.std.specs.Prelude.{◌≡◌, IfSome, None};
 ghost use Rattle.http_rules.specs.Fields.{fields_of};
 ghost use Rattle.http_rules.specs.Storing.{IsOf};
+ghost use Rattle.proxy_state.specs.Keeping.{storable_by};
 
 use http_header::HeaderMap;
 use http_rules::{RefreshRule, Storable, may_keep};
@@ -35,7 +36,9 @@ impl Profile {
         status: u16,
         head: &'a HeaderMap,
     ) -> Option<Storable<'a>>
-        ensures { IfSome result (IsOf exchange.entry.mode status (fields_of head.now)) }
+        ensures of { IfSome result (IsOf exchange.entry.mode status (fields_of head.now)) }
+        ensures exact { result ≡ storable_by exchange.entry.mode exchange.entry.url.now status (fields_of head.now) exchange.entry.requested exchange.entry.received self.now }
+        ensures private { exchange.entry.mode ≡ Mode.Private → result ≡ None }
     {
         let Exchange {
             mode,

@@ -1,4 +1,7 @@
 //! Waiting clients and in-flight fetches.
+ghost use Rattle.std.specs.Prelude.{◌≡◌, IfOk};
+ghost use Rattle.object_store.specs.Object.{head_of};
+
 use crate::attendance::Attendance;
 use crate::in_flight::{Flight, InFlight, Look, Unwanted};
 use futures::channel::oneshot;
@@ -488,10 +491,13 @@ impl Mailbox {
 }
 
 /// A copy of some fields. Errors: out of memory.
-pub(crate) fn copy_of(alloc: Global, fields: &[Field]) -> Result<Vec<Field>, AllocError> {
+pub(crate) fn copy_of(alloc: Global, fields: &[Field]) -> Result<Vec<Field>, AllocError>
+    ensures { IfOk result (λ copy. head_of copy.items ≡ head_of fields.now) }
+{
     let mut copy = Vec::new(alloc);
-    for (name, value) in fields {
-        copy.push((name.to_vec(alloc)?, value.to_vec(alloc)?))?;
+    for i in 0..fields.len() {
+        let name = fields[i].0.as_slice().to_vec(alloc)?;
+        copy.push((name, fields[i].1.as_slice().to_vec(alloc)?))?;
     }
     Ok(copy)
 }

@@ -131,11 +131,11 @@ impl Outward {
 
     /// Adds a bound socket of this cache, which is never fetched from. Errors: out of memory.
     pub fn add_own<R: Wait>(&self, rt: &R, end: End) -> Result<(), AllocError> {
-        Ok(self.origins.lock(rt).own.push(end)?)
+        self.origins.lock(rt).add_own(end)
     }
 
     /// Notes the bound socket of this cache at an address of IPv6, which is never fetched from.
     pub fn note_own_six<R: Wait>(&self, rt: &R, end: SixEnd) {
-        self.origins.lock(rt).own_six = Some(end);
+        self.origins.lock(rt).note_own_six(end);
     }
 }

@@ -1,5 +1,9 @@
 //! What passes the proxy without the node: requests that are passed on as they are, answers that are too long to be stored, and
 //! tunnels. The rules of this, and how many are under way.
+ghost use Rattle.std.specs.Prelude.{◌≡◌, IfSome, false, true};
+ghost use Rattle.std.specs.String.{string_bytes};
+ghost use Rattle.http_rules.specs.Destinations.{IsDestination};
+
 use crate::addressing::{Destination, Peer, origin_of, peer_of};
 use crate::storage::Purger;
 use filter_slots::End;
@@ -206,7 +210,9 @@ impl Passes {
     }
 
     /// This server, if a tunnel may lead to it.
-    pub fn admitted<R: Wait>(&self, rt: &R, server: SocketAddr) -> Option<AdmittedOrigin> {
+    pub fn admitted<R: Wait>(&self, rt: &R, server: SocketAddr) -> Option<AdmittedOrigin>
+        ensures same { IfSome result (λ it. it.server ≡ server) }
+    {
         self.ends.lock(rt).admitted(server)
     }
 
@@ -217,12 +223,12 @@ impl Passes {
 
     /// Adds a bound socket of this cache, which no tunnel leads to. Errors: out of memory.
     pub fn add_own<R: Wait>(&self, rt: &R, end: End) -> Result<(), AllocError> {
-        Ok(self.ends.lock(rt).own.push(end)?)
+        self.ends.lock(rt).add_own(end)
     }
 
     /// Notes the socket of this cache at an address of IPv6, which no tunnel leads to.
     pub fn note_own_six<R: Wait>(&self, rt: &R, end: SixEnd) {
-        self.ends.lock(rt).own_six = Some(end);
+        self.ends.lock(rt).note_own_six(end);
     }
 
     /// Notes that the answer of this URL is too long to be stored.
@@ -249,15 +255,20 @@ impl Passes {
     }
 
     /// Where a request for this URL goes that is passed on. `None` if there is nobody to pass it on to, or if out of memory.
-    pub fn onwards(&self, alloc: Global, key: &CacheKey) -> Option<Onwards> {
-        let destination = if self.is_direct {
-            origin_of(alloc, key)
-        } else {
-            peer_of(alloc, key, self.parent?)
-        };
+    pub fn onwards(&self, alloc: Global, key: &CacheKey) -> Option<Onwards>
+        ensures kind { IfSome result (λ onwards. onwards.is_origin ≡ self.now.is_direct) }
+        ensures origin { self.now.is_direct ≡ true → IfSome result (λ onwards. IsDestination key.now (string_bytes onwards.destination.name) onwards.destination.port (string_bytes onwards.destination.host) (string_bytes onwards.destination.target)) }
+        ensures parent { self.now.is_direct ≡ false → IfSome result (λ onwards. string_bytes onwards.destination.target ≡ key.now) }
+    {
+        if self.is_direct {
+            return Some(Onwards {
+                destination: origin_of(alloc, key)?,
+                is_origin: true,
+            });
+        }
         Some(Onwards {
-            destination: destination?,
-            is_origin: self.is_direct,
+            destination: peer_of(alloc, key, self.parent?)?,
+            is_origin: false,
         })
     }
 }

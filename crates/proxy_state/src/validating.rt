@@ -1,5 +1,11 @@
 //! Responses that confirm what was fetched before.
-ghost use Rattle.std.specs.Prelude.{◌≡◌, IfSome};
+ghost use Rattle.std.specs.Prelude.{◌≡◌, IfSome, length};
+ghost use Rattle.http_header.specs.FieldValue.{plain_value};
+ghost use Rattle.http_header.specs.HeaderMap.{append};
+ghost use Rattle.http_header.specs.Token.{lowercase};
+ghost use Rattle.http_rules.specs.Updating.{updated};
+ghost use Rattle.http_rules.specs.Validators.{stored_fields};
+ghost use Rattle.proxy_state.specs.Objects.{framed, head_with};
 
 use http_header::{HeaderMap, HeaderName, HeaderValue};
 use http_rules::{Revalidated, end_to_end, tells_end, updated};
@@ -18,6 +24,7 @@ const MOST_FIELDS: usize = 128;
 /// `None` if there would be more than 128 fields or they would have more than 65,536 octets (each 304 may add some), or if out of memory.
 pub fn confirmed(alloc: Global, revalidated: &Revalidated<'_>) -> Option<Page>
     ensures status { IfSome result (λ page. page.status ≡ revalidated.now.object.status) }
+    ensures head { IfSome result (λ page. page.head ≡ framed (length revalidated.now.object.body) (head_with (updated revalidated.now.given revalidated.now.object.head))) }
     ensures body { IfSome result (λ page. page.body.items ≡ revalidated.now.object.body) }
 {
     let fields = updated(alloc, revalidated).ok()?;
@@ -26,19 +33,37 @@ pub fn confirmed(alloc: Global, revalidated: &Revalidated<'_>) -> Option<Page>
     }
     let object = revalidated.object();
     let body = object.body().to_vec(alloc).ok()?;
-    let mut head = HeaderMap::new(alloc);
-    for (name, value) in &fields {
-        add(alloc, &mut head, name.as_slice(), value.as_slice())?;
-    }
-    if !tells_end(&head) {
-        let length = body.len().to_string(alloc).ok()?;
-        add(alloc, &mut head, b"content-length", length.as_bytes())?;
-    }
+    let head = head_with(alloc, fields.as_slice())?;
+    let head = framed(alloc, head, body.len())?;
     Some(Page {
         status: object.status(),
         head,
         body,
     })
+}
+
+// The head that has these fields. `None` if one is invalid, if there are too many, or if out of memory.
+fn head_with(alloc: Global, fields: &[(Vec<u8>, Vec<u8>)]) -> Option<HeaderMap>
+    ensures { IfSome result (λ head. head ≡ head_with (stored_fields fields.now)) }
+{
+    let mut head = HeaderMap::new(alloc);
+    for i in 0..fields.len() {
+        let (name, value) = (fields[i].0.as_slice(), fields[i].1.as_slice());
+        add(alloc, &mut head, name, value)?;
+    }
+    Some(head)
+}
+
+// A head with the length of its body, where it does not tell where that ends. `None` if there are too many fields, or if out of memory.
+fn framed(alloc: Global, mut head: HeaderMap, octets: usize) -> Option<HeaderMap>
+    ensures { IfSome result (λ it. it ≡ framed octets head) }
+{
+    if tells_end(&head) {
+        return Some(head);
+    }
+    let octets = octets.to_string(alloc).ok()?;
+    add(alloc, &mut head, b"content-length", octets.as_bytes())?;
+    Some(head)
 }
 
 /// The fields whose rules say whether and for how long a response is kept.
@@ -87,7 +112,9 @@ fn octets_of(fields: &[(Vec<u8>, Vec<u8>)]) -> usize {
 }
 
 /// Appends a field. Returns `None` if it is invalid, if there are too many, or if out of memory.
-fn add(alloc: Global, head: &mut HeaderMap, name: &[u8], value: &[u8]) -> Option<()> {
+fn add(alloc: Global, head: &mut HeaderMap, name: &[u8], value: &[u8]) -> Option<()>
+    ensures { IfSome result (λ _. head.new ≡ append head.old (lowercase name.now) (plain_value value.now)) }
+{
     let name = HeaderName::from_bytes(alloc, name).ok()?;
     let value = HeaderValue::from_bytes(alloc, value).ok()?;
     let _ = head.append(name, value).ok()?;

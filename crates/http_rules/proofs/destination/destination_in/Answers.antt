@@ -6,7 +6,7 @@ pub returns-in-Some : goal.returns-in-Some
 returns-in-Some c =
     record {
       leads = made c.args.key.now c.split_at.result.1.now c.split_at-2.result.0.now c.split_at-2.result.1.now c.split_at-3.result.0.now
-          c.split_at-3.result.1.now c.target_of.result.now c.in-Some.port c.place_of.result c.name_len.result c.requires.begins
-          c.split_at.ensures.back c.place_of.ensures.value c.split_at-2.ensures.front c.split_at-2.ensures.back c.split_at-3.ensures.front
-          c.split_at-3.ensures.back c.name_len.ensures.bare (sym c.in-Some.ensures) c.target_of.ensures;
+          c.split_at-3.result.1.now c.target_of.result.now c.in-Some.port c.authority_len.result c.name_len.result c.requires.begins
+          c.split_at.ensures.back c.authority_len.ensures.value c.split_at-2.ensures.front c.split_at-2.ensures.back (sym c.is_rooted.ensures)
+          c.split_at-3.ensures.front c.split_at-3.ensures.back c.name_len.ensures.bare (sym c.in-Some.ensures) c.target_of.ensures;
     }
