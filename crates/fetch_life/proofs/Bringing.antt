@@ -16,8 +16,8 @@ use Rattle.fetch_life.specs.declared.commands.Command.{Command}
 use Rattle.fetch_life.specs.declared.commands.Command.TheVariants as does
 use Rattle.fetch_life.specs.declared.stages.Flight.{Flight}
 use Rattle.fetch_life.specs.Table.{Turn, listed, brought, brings, is_replaced, is_for_all, is_origin, is_error, is_loss, stands_for, itself, object_of, object, is_kept, supplier_of, shelf_step, follows, is_own_supplier, is_superseded, is_gone, where_so, is_unanswered, is_changed, hands_in}
-use Rattle.fetch_life.specs.Laws.{one, is_kept_object, comes_from, is_confirmed_one, is_stale_one, is_unwanted_one, is_server_error, is_outage, is_misnamed}
-use Rattle.fetch_life.proofs.Measures.{is_confirming, is_down, is_odd}
+use Rattle.fetch_life.specs.Laws.{one, may_be_stored, is_kept_object, comes_from, is_confirmed_one, is_stale_one, is_unwanted_one, is_server_error, is_outage, is_misnamed}
+use Rattle.fetch_life.proofs.Measures.{is_confirming, is_down, is_odd, is_storable}
 use Rattle.fetch_life.specs.declared.facts.Fault.{Fault}
 use Rattle.fetch_life.specs.declared.facts.Fault.TheVariants as faults
 use Rattle.fetch_life.proofs.Walk.{split, both, not_true}
@@ -27,7 +27,7 @@ pub record Cases (P : Brought → Type 0) (f : Flight) (o : Bool) (end : End) : 
   pub nothing : P Nothing
   pub refused : P (object false suppliers.Nobody)
   pub stale : is_for_all f ≡ true → is_down end ≡ true → o ≡ false → P (object false suppliers.Stale)
-  pub confirmed : (p : Page) → f.is_asking ≡ true → is_confirming end ≡ true → is_odd end ≡ false → P (object (is_kept f o p) suppliers.Confirmed)
+  pub confirmed : (p : Page) → f.is_asking ≡ true → is_confirming end ≡ true → is_odd end ≡ false → end ≡ ends.Whole p → P (object (is_kept f o p) suppliers.Confirmed)
   pub by_itself : (p : Page) → end ≡ ends.Whole p → P (object (is_kept f o p && (p.status == 200)) (supplier_of f.source))
 
 object_case : (P : Brought → Type 0) (f : Flight) (o : Bool) (p : Page) (s : Supplier) → P Nothing → P (object (is_kept f o p) s) → P (object_of f o p s)
@@ -51,7 +51,7 @@ stands_case P f o p c =
     (λ _. split P (f.is_asking && (p.status == 304)) _ _
     (λ e. let h = both f.is_asking (p.status == 304) e in
     split P p.is_about _ _
-    (λ about. object_case P f o p suppliers.Confirmed c.nothing (c.confirmed p h.0 (and_true (p.status == 304) p.is_about h.1 about) (not_odd (p.status == 304) p.is_about about)))
+    (λ about. object_case P f o p suppliers.Confirmed c.nothing (c.confirmed p h.0 (and_true (p.status == 304) p.is_about h.1 about) (not_odd (p.status == 304) p.is_about about) refl))
     (λ _. c.nothing))
     (λ _. split P ((p.status == 304) && (f.is_shared && f.has_shelf)) _ _ (λ _. c.nothing)
     (λ _. itself_case P f o p c.nothing (c.by_itself p refl)))))
@@ -111,12 +111,12 @@ and_small false b n e = e
 pub kept_is_shared : (f : Flight) (o : Bool) (end : End) → one (is_kept_object (brought f o end)) ≤ one f.is_shared
 kept_is_shared f o end =
     brought_case (λ b. one (is_kept_object b) ≤ one f.is_shared) f o end
-    (record { nothing = omega arith; refused = omega arith; stale = λ _ _ _. omega arith; confirmed = λ p _ _ _. (kept_if f o p).0; by_itself = λ p _. and_small (is_kept f o p) (p.status == 200) _ (kept_if f o p).0 })
+    (record { nothing = omega arith; refused = omega arith; stale = λ _ _ _. omega arith; confirmed = λ p _ _ _ _. (kept_if f o p).0; by_itself = λ p _. and_small (is_kept f o p) (p.status == 200) _ (kept_if f o p).0 })
 
 pub kept_is_current : (f : Flight) (o : Bool) (end : End) → one (is_kept_object (brought f o end)) ≤ one (not o)
 kept_is_current f o end =
     brought_case (λ b. one (is_kept_object b) ≤ one (not o)) f o end
-    (record { nothing = omega arith; refused = omega arith; stale = λ _ _ _. omega arith; confirmed = λ p _ _ _. (kept_if f o p).1; by_itself = λ p _. and_small (is_kept f o p) (p.status == 200) _ (kept_if f o p).1 })
+    (record { nothing = omega arith; refused = omega arith; stale = λ _ _ _. omega arith; confirmed = λ p _ _ _ _. (kept_if f o p).1; by_itself = λ p _. and_small (is_kept f o p) (p.status == 200) _ (kept_if f o p).1 })
 
 at_least : (b : Bool) → b ≡ true → 1 ≤ one b
 at_least true e = omega arith
@@ -135,12 +135,12 @@ no_stale Sibling = refl
 pub confirmed_is_asked : (f : Flight) (o : Bool) (end : End) → one (comes_from is_confirmed_one (brought f o end)) ≤ one f.is_asking
 confirmed_is_asked f o end =
     brought_case (λ b. one (comes_from is_confirmed_one b) ≤ one f.is_asking) f o end
-    (record { nothing = omega arith; refused = omega arith; stale = λ _ _ _. omega arith; confirmed = λ p a _ _. at_least f.is_asking a; by_itself = λ p _. let e = no_confirmed f.source in omega arith })
+    (record { nothing = omega arith; refused = omega arith; stale = λ _ _ _. omega arith; confirmed = λ p a _ _ _. at_least f.is_asking a; by_itself = λ p _. let e = no_confirmed f.source in omega arith })
 
 pub confirmed_is_about : (f : Flight) (o : Bool) (end : End) → one (comes_from is_confirmed_one (brought f o end)) ≤ one (is_confirming end)
 confirmed_is_about f o end =
     brought_case (λ b. one (comes_from is_confirmed_one b) ≤ one (is_confirming end)) f o end
-    (record { nothing = omega arith; refused = omega arith; stale = λ _ _ _. omega arith; confirmed = λ p _ a _. at_least (is_confirming end) a; by_itself = λ p _. let e = no_confirmed f.source in omega arith })
+    (record { nothing = omega arith; refused = omega arith; stale = λ _ _ _. omega arith; confirmed = λ p _ a _ _. at_least (is_confirming end) a; by_itself = λ p _. let e = no_confirmed f.source in omega arith })
 
 for_all_is : (f : Flight) → is_for_all f ≡ true → (1 ≤ one f.is_shared) × (1 ≤ one (is_origin f.source))
 for_all_is f e = let h = both (is_origin f.source) f.is_shared e in (at_least f.is_shared h.1, at_least (is_origin f.source) h.0)
@@ -148,28 +148,28 @@ for_all_is f e = let h = both (is_origin f.source) f.is_shared e in (at_least f.
 pub stale_is_shared : (f : Flight) (o : Bool) (end : End) → one (comes_from is_stale_one (brought f o end)) ≤ one f.is_shared
 stale_is_shared f o end =
     brought_case (λ b. one (comes_from is_stale_one b) ≤ one f.is_shared) f o end
-    (record { nothing = omega arith; refused = omega arith; stale = λ a _ _. (for_all_is f a).0; confirmed = λ p _ _ _. omega arith; by_itself = λ p _. let e = no_stale f.source in omega arith })
+    (record { nothing = omega arith; refused = omega arith; stale = λ a _ _. (for_all_is f a).0; confirmed = λ p _ _ _ _. omega arith; by_itself = λ p _. let e = no_stale f.source in omega arith })
 
 pub stale_is_of_origin : (f : Flight) (o : Bool) (end : End) → one (comes_from is_stale_one (brought f o end)) ≤ one (is_origin f.source)
 stale_is_of_origin f o end =
     brought_case (λ b. one (comes_from is_stale_one b) ≤ one (is_origin f.source)) f o end
-    (record { nothing = omega arith; refused = omega arith; stale = λ a _ _. (for_all_is f a).1; confirmed = λ p _ _ _. omega arith; by_itself = λ p _. let e = no_stale f.source in omega arith })
+    (record { nothing = omega arith; refused = omega arith; stale = λ a _ _. (for_all_is f a).1; confirmed = λ p _ _ _ _. omega arith; by_itself = λ p _. let e = no_stale f.source in omega arith })
 
 pub stale_is_current : (f : Flight) (o : Bool) (end : End) → one (comes_from is_stale_one (brought f o end)) ≤ one (not o)
 stale_is_current f o end =
     brought_case (λ b. one (comes_from is_stale_one b) ≤ one (not o)) f o end
-    (record { nothing = omega arith; refused = omega arith; stale = λ _ _ c. at_least (not o) (ap not c); confirmed = λ p _ _ _. omega arith; by_itself = λ p _. let e = no_stale f.source in omega arith })
+    (record { nothing = omega arith; refused = omega arith; stale = λ _ _ c. at_least (not o) (ap not c); confirmed = λ p _ _ _ _. omega arith; by_itself = λ p _. let e = no_stale f.source in omega arith })
 
 pub stale_is_down : (f : Flight) (o : Bool) (end : End) → one (comes_from is_stale_one (brought f o end)) ≤ one (is_down end)
 stale_is_down f o end =
     brought_case (λ b. one (comes_from is_stale_one b) ≤ one (is_down end)) f o end
-    (record { nothing = omega arith; refused = omega arith; stale = λ _ d _. at_least (is_down end) d; confirmed = λ p _ _ _. omega arith; by_itself = λ p _. let e = no_stale f.source in omega arith })
+    (record { nothing = omega arith; refused = omega arith; stale = λ _ d _. at_least (is_down end) d; confirmed = λ p _ _ _ _. omega arith; by_itself = λ p _. let e = no_stale f.source in omega arith })
 
 -- nothing that has ended by itself is given up for want of clients
 pub brought_is_wanted : (f : Flight) (o : Bool) (end : End) → one (is_unwanted_one (brought f o end)) ≡ 0
 brought_is_wanted f o end =
     brought_case (λ b. one (is_unwanted_one b) ≡ 0) f o end
-    (record { nothing = refl; refused = refl; stale = λ _ _ _. refl; confirmed = λ p _ _ _. refl; by_itself = λ p _. refl })
+    (record { nothing = refl; refused = refl; stale = λ _ _ _. refl; confirmed = λ p _ _ _ _. refl; by_itself = λ p _. refl })
 
 -- a 304 about something else is neither kept nor confirms
 only_one : (s : ℕ) → (s == 200) ≡ true → (s == 304) ≡ false
@@ -194,7 +194,7 @@ odd_is_unkept f o end =
       nothing = omega arith;
       refused = omega arith;
       stale = λ _ _ _. omega arith;
-      confirmed = λ p _ _ c. let e = at_least (not (is_odd end)) (ap not c) in let g = small_one (is_kept f o p) in omega arith;
+      confirmed = λ p _ _ c _. let e = at_least (not (is_odd end)) (ap not c) in let g = small_one (is_kept f o p) in omega arith;
       by_itself = λ p e. subst (λ x. one (is_kept f o p && (p.status == 200)) ≤ one (not (is_odd x))) (sym e) (odd_unkept (is_kept f o p) p);
     })
 
@@ -205,7 +205,7 @@ odd_is_unconfirmed f o end =
       nothing = omega arith;
       refused = omega arith;
       stale = λ _ _ _. omega arith;
-      confirmed = λ p _ _ c. at_least (not (is_odd end)) (ap not c);
+      confirmed = λ p _ _ c _. at_least (not (is_odd end)) (ap not c);
       by_itself = λ p _. let e = no_confirmed f.source in omega arith;
     })
 
@@ -224,4 +224,34 @@ pub brought_is_named : (f : Flight) (o : Bool) (end : End) → one (comes_from (
 brought_is_named f o end =
     let n = own_named f.source in
     brought_case (λ b. one (comes_from (is_misnamed f.source) b) ≡ 0) f o end
-    (record { nothing = refl; refused = n.0; stale = λ _ _ _. n.1; confirmed = λ p _ _ _. n.2; by_itself = λ p _. well_named f.source })
+    (record { nothing = refl; refused = n.0; stale = λ _ _ _. n.1; confirmed = λ p _ _ _ _. n.2; by_itself = λ p _. well_named f.source })
+
+-- what is kept may be stored
+kept_page : (s m o h e t a : Bool) → one ((s && (m && (not o && not h))) && e) ≤ one (m && (not h && (e || (t && a))))
+kept_page false m o h e t a = omega arith
+kept_page true false o h e t a = omega arith
+kept_page true true true h e t a = omega arith
+kept_page true true false true e t a = omega arith
+kept_page true true false false false t a = omega arith
+kept_page true true false false true t a = omega arith
+
+kept_confirmed : (s m o h e t a : Bool) → (t && a) ≡ true → one (s && (m && (not o && not h))) ≤ one (m && (not h && (e || (t && a))))
+kept_confirmed false m o h e t a g = omega arith
+kept_confirmed true false o h e t a g = omega arith
+kept_confirmed true true true h e t a g = omega arith
+kept_confirmed true true false true e t a g = omega arith
+kept_confirmed true true false false true t a g = omega arith
+kept_confirmed true true false false false true true g = omega arith
+kept_confirmed true true false false false true false g = absurd (cc)
+kept_confirmed true true false false false false a g = absurd (cc)
+
+pub kept_is_storable : (f : Flight) (o : Bool) (end : End) → one (is_kept_object (brought f o end)) ≤ one (is_storable end)
+kept_is_storable f o end =
+    brought_case (λ b. one (is_kept_object b) ≤ one (is_storable end)) f o end
+    (record {
+      nothing = omega arith;
+      refused = omega arith;
+      stale = λ _ _ _. omega arith;
+      confirmed = λ p _ c _ e. subst (λ x. one (is_kept f o p) ≤ one (is_storable x)) (sym e) (kept_confirmed f.is_shared p.may_keep o p.hides_rules (p.status == 200) (p.status == 304) p.is_about (subst (λ x. is_confirming x ≡ true) e c));
+      by_itself = λ p e. subst (λ x. one (is_kept f o p && (p.status == 200)) ≤ one (is_storable x)) (sym e) (kept_page f.is_shared p.may_keep o p.hides_rules (p.status == 200) (p.status == 304) p.is_about);
+    })

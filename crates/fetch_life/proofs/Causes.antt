@@ -26,7 +26,7 @@ use Rattle.fetch_life.proofs.Steps.{at, same_awaited, Harmless, over_harm, may_a
 use Rattle.fetch_life.proofs.Handing.{hands_asked, hands_noted, unanswered_asks, changed_is_private, hands_count, hands_over, shelves_other, takes_off}
 
 -- what a result that is handed in does not have done
-hands_none : (is : Command → Bool) (f : Flight) (end : End) (b : Brought) → is does.Shelve ≡ false → is does.Unshelve ≡ false → is does.AskNoMore ≡ false → is does.NoteChanged ≡ false → is (does.HandIn b) ≡ false → count_by is (hands_in f end b).commands ≡ 0
+pub hands_none : (is : Command → Bool) (f : Flight) (end : End) (b : Brought) → is does.Shelve ≡ false → is does.Unshelve ≡ false → is does.AskNoMore ≡ false → is does.NoteChanged ≡ false → is (does.HandIn b) ≡ false → count_by is (hands_in f end b).commands ≡ 0
 hands_none is f end b put gone asked noted given =
     let a = hands_count is f end b asked noted in
     let c = shelves_other is f end b put gone in
@@ -95,7 +95,7 @@ ends_counted f stage event t (rows.Hands_in g o l) flies = absurd (cc)
 ends_counted f stage event t row flies = refl
 
 -- why a server is tried once more
-same_cut : (fault : Fault) → is_cut_off fault ≡ is_cut fault
+pub same_cut : (fault : Fault) → is_cut_off fault ≡ is_cut fault
 same_cut faults.Cut = refl
 same_cut fault = refl
 
@@ -103,7 +103,7 @@ pub same_unreached : (fault : Fault) → is_unreached fault ≡ is_connect fault
 same_unreached faults.Connect = refl
 same_unreached fault = refl
 
-cut_so : (x : Failure) → x.has_answer ≡ false → is_cut x.fault ≡ true → (is_cut_off x.fault && not x.has_answer) ≡ true
+pub cut_so : (x : Failure) → x.has_answer ≡ false → is_cut x.fault ≡ true → (is_cut_off x.fault && not x.has_answer) ≡ true
 cut_so x none cut = and_true (is_cut_off x.fault) (not x.has_answer) (same_cut x.fault ∙ cut) (ap not none)
 
 pub again_cause : (f : Flight) (stage : Stage) (event : Event) (t : Turn) → Row f stage event t → is_exchanging stage ≡ true → 0 < count_by tries t.commands → is_cut_short event ≡ true

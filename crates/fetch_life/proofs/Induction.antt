@@ -78,3 +78,33 @@ balances is owed step life (event ∷ rest) =
     let a = step life event in
     let b = count_append is (turn_of life event).commands (orders (turn_of life event).fetch rest) in
     omega arith
+
+-- what is done is taken from what may be, to which some events add one
+pub is_fed : (is : Command → Bool) (left : Fetch → ℕ) (by : Event → Bool) → ((life : Fetch) (event : Event) → count_by is (turn_of life event).commands + left (turn_of life event).fetch ≤ left life + one (by event)) → (life : Fetch) (events : List Event) → count_by is (orders life events) + left (after life events) ≤ left life + count_by by events
+is_fed is left by step life [] = omega arith
+is_fed is left by step life (event ∷ rest) =
+    let e = is_fed is left by step (turn_of life event).fetch rest in
+    let a = step life event in
+    let b = count_append is (turn_of life event).commands (orders (turn_of life event).fetch rest) in
+    let c = one_more by event rest in
+    omega arith
+
+-- or three
+pub is_fed_thrice : (is : Command → Bool) (left : Fetch → ℕ) (by : Event → Bool) → ((life : Fetch) (event : Event) → count_by is (turn_of life event).commands + left (turn_of life event).fetch ≤ left life + 3 * one (by event)) → (life : Fetch) (events : List Event) → count_by is (orders life events) + left (after life events) ≤ left life + 3 * count_by by events
+is_fed_thrice is left by step life [] = omega arith
+is_fed_thrice is left by step life (event ∷ rest) =
+    let e = is_fed_thrice is left by step (turn_of life event).fetch rest in
+    let a = step life event in
+    let b = count_append is (turn_of life event).commands (orders (turn_of life event).fetch rest) in
+    let c = one_more by event rest in
+    omega arith
+
+-- one thing is done no more often than another
+pub is_matched : (is by : Command → Bool) (due : Fetch → ℕ) → ((life : Fetch) (event : Event) → count_by is (turn_of life event).commands + due (turn_of life event).fetch ≤ due life + count_by by (turn_of life event).commands) → (life : Fetch) (events : List Event) → count_by is (orders life events) + due (after life events) ≤ due life + count_by by (orders life events)
+is_matched is by due step life [] = omega arith
+is_matched is by due step life (event ∷ rest) =
+    let e = is_matched is by due step (turn_of life event).fetch rest in
+    let a = step life event in
+    let b = count_append is (turn_of life event).commands (orders (turn_of life event).fetch rest) in
+    let c = count_append by (turn_of life event).commands (orders (turn_of life event).fetch rest) in
+    omega arith

@@ -7,3 +7,5 @@ pub mod Steps
 pub mod Whole
 pub mod Causes
 pub mod Served
+pub mod Orders
+pub mod Landed

@@ -7,7 +7,7 @@ use Rattle.fetch_life.specs.declared.stages.Fetch.{Fetch}
 use Rattle.fetch_life.specs.declared.stages.Stage.{Stage}
 use Rattle.fetch_life.specs.declared.stages.Stage.TheVariants as stages
 use Rattle.fetch_life.specs.Table.{is_origin, is_too_large}
-use Rattle.fetch_life.specs.Laws.{one, is_first, is_other, is_server_error, is_outage}
+use Rattle.fetch_life.specs.Laws.{one, is_first, is_other, is_server_error, is_outage, may_be_stored, Making, Unmade, Guarded, Delivered}
 
 abbrev pub is_begun : Stage → Bool
 is_begun stages.Ordering = false
@@ -138,3 +138,48 @@ telling_at stage = 0
 
 abbrev pub harm_telling : Fetch → ℕ
 harm_telling f = telling_at f.stage
+
+-- an end that may be stored for all
+abbrev pub is_storable : End → Bool
+is_storable (ends.Whole p) = may_be_stored p
+is_storable end = false
+
+abbrev pub storable_at : Stage → ℕ
+storable_at (stages.Landing l) = one (is_storable l.end)
+storable_at stage = 0
+
+abbrev pub harm_storable : Fetch → ℕ
+harm_storable f = storable_at f.stage
+
+-- how far the result of a fetch is
+abbrev pub making_at : Stage → Making
+making_at (stages.Landing l) = Guarded
+making_at stages.Over = Delivered
+making_at stage = Unmade
+
+-- how often a request may be sent yet, but for what lets it be sent again
+abbrev pub sends_due : Stage → ℕ
+sends_due (stages.Exchanging e) = 0
+sends_due (stages.Landing l) = 0
+sends_due stages.Over = 0
+sends_due stage = 1
+
+-- how often at most
+abbrev pub sends_left : Stage → ℕ
+sends_left stages.Ordering = 3
+sends_left stages.Renewing = 3
+sends_left stages.Seeking = 3
+sends_left (stages.Connecting r) = 1 + one r.has_other
+sends_left (stages.Exchanging e) = one e.is_reused + one e.reach.has_other
+sends_left (stages.Landing l) = 0
+sends_left stages.Over = 0
+
+-- how often an answer may be offered yet
+abbrev pub offers_due : Stage → ℕ
+offers_due (stages.Exchanging e) = one (not e.is_offered)
+offers_due stage = 0
+
+-- what is due of a fetch that has landed
+abbrev pub due_at : ℕ → Stage → ℕ
+due_at n (stages.Landing l) = n
+due_at n stage = 0

@@ -171,11 +171,11 @@ hands_in_made before o landed =
 
 -- WHAT HAS COME IS HANDED IN
 
-unlost : (f : Flight) (l : Landing) → is_lost f false l ≡ false
+pub unlost : (f : Flight) (l : Landing) → is_lost f false l ≡ false
 unfolding is_lost
 unlost f l = refl
 
-landed_so : (f : Flight) (l : Landing) → locked_at f false l ≡ hands_in f l.end (brought f l.is_remade l.end)
+pub landed_so : (f : Flight) (l : Landing) → locked_at f false l ≡ hands_in f l.end (brought f l.is_remade l.end)
 landed_so f l = on_false (is_lost f false l) _ _ (unlost f l)
 
 hands_count_one : (is : Brought → Bool) (f : Flight) (end : End) (b : Brought) (later : List Event) → count_by (hands is) ((hands_in f end b).commands ++ orders (hands_in f end b).fetch later) ≡ one (is b)
@@ -189,7 +189,7 @@ hands_count_one is f end b later =
     omega arith
 
 -- how often something is handed in of an end, if no change has come between
-lands_count : (is : Brought → Bool) (f : Flight) (end : End) (later : List Event) → count_by (hands is) ((lands f end).commands ++ orders (lands f end).fetch (events.Locked false ∷ later)) ≡ one (is (brought f false end))
+pub lands_count : (is : Brought → Bool) (f : Flight) (end : End) (later : List Event) → count_by (hands is) ((lands f end).commands ++ orders (lands f end).fetch (events.Locked false ∷ later)) ≡ one (is (brought f false end))
 lands_count is f end later =
     let l : Landing = record { end = end; is_remade = false } in
     let a = hands_count_one is f end (brought f false end) later in
@@ -198,11 +198,11 @@ lands_count is f end later =
     let c = count_append (hands is) (lands f end).commands ((locked_at f false l).commands ++ orders (locked_at f false l).fetch later) in
     omega arith
 
-and_none : (a b : Bool) → b ≡ false → (a && b) ≡ false
+pub and_none : (a b : Bool) → b ≡ false → (a && b) ≡ false
 and_none true b e = e
 and_none false b e = refl
 
-none_and : (a b : Bool) → a ≡ false → (a && b) ≡ false
+pub none_and : (a b : Bool) → a ≡ false → (a && b) ≡ false
 none_and true b e = absurd (cc)
 none_and false b e = refl
 
@@ -210,7 +210,7 @@ not_replaced : (f : Flight) (p : Page) → is_error p.status ≡ false → is_re
 not_replaced f p e = and_none (is_for_all f) (is_error p.status && p.has_stale) (none_and (is_error p.status) p.has_stale e)
 
 -- an answer of status 200 is given by itself
-brought_page : (f : Flight) (p : Page) → p.status ≡ 200 → p.is_object ≡ true → brought f false (ends.Whole p) ≡ object (is_kept f false p && (p.status == 200)) (supplier_of f.source)
+pub brought_page : (f : Flight) (p : Page) → p.status ≡ 200 → p.is_object ≡ true → brought f false (ends.Whole p) ≡ object (is_kept f false p && (p.status == 200)) (supplier_of f.source)
 unfolding brought
 brought_page f p is some =
     on_false (is_replaced f false (ends.Whole p)) _ _ (not_replaced f p (ap is_error is)) ∙ on_false (not (is_origin f.source) && (p.status == 508)) _ _ (and_none (not (is_origin f.source)) (p.status == 508) (ap (λ n. n == 508) is)) ∙ on_false (f.is_asking && (p.status == 412)) _ _ (and_none f.is_asking (p.status == 412) (ap (λ n. n == 412) is)) ∙ on_false (f.is_asking && (p.status == 304)) _ _ (and_none f.is_asking (p.status == 304) (ap (λ n. n == 304) is)) ∙ on_false ((p.status == 304) && (f.is_shared && f.has_shelf)) _ _ (none_and (p.status == 304) _ (ap (λ n. n == 304) is)) ∙ on_true p.is_object _ _ some
@@ -219,7 +219,7 @@ pub page_is_given : (f : Flight) (e : Exchange) (p : Page) (later : List Event) 
 page_is_given f e p later is some =
     lands_count is_object_one f (ends.Whole p) later ∙ ap (λ b. one (is_object_one b)) (brought_page f p is some)
 
-four_true : (s m h e : Bool) → s ≡ true → m ≡ true → h ≡ false → e ≡ true → one ((s && (m && (not false && not h))) && e) ≡ 1
+pub four_true : (s m h e : Bool) → s ≡ true → m ≡ true → h ≡ false → e ≡ true → one ((s && (m && (not false && not h))) && e) ≡ 1
 four_true true true false true a b c d = refl
 four_true s m h e a b c d = absurd (cc)
 
@@ -227,12 +227,12 @@ pub page_is_kept : (f : Flight) (e : Exchange) (p : Page) (later : List Event) �
 page_is_kept f e p later is some shared may open_rules =
     lands_count is_kept_object f (ends.Whole p) later ∙ ap (λ b. one (is_kept_object b)) (brought_page f p is some) ∙ four_true f.is_shared p.may_keep p.hides_rules (p.status == 200) shared may open_rules (ap (λ n. n == 200) is)
 
-both_true : (a b : Bool) → a ≡ true → b ≡ true → (a && b) ≡ true
+pub both_true : (a b : Bool) → a ≡ true → b ≡ true → (a && b) ≡ true
 both_true true b e g = g
 both_true false b e g = absurd (cc)
 
 -- a 304 about what was asked about confirms it
-brought_confirmed : (f : Flight) (p : Page) → f.is_asking ≡ true → p.status ≡ 304 → p.is_about ≡ true → p.is_object ≡ true → brought f false (ends.Whole p) ≡ object (is_kept f false p) suppliers.Confirmed
+pub brought_confirmed : (f : Flight) (p : Page) → f.is_asking ≡ true → p.status ≡ 304 → p.is_about ≡ true → p.is_object ≡ true → brought f false (ends.Whole p) ≡ object (is_kept f false p) suppliers.Confirmed
 unfolding brought
 brought_confirmed f p asking is about some =
     on_false (is_replaced f false (ends.Whole p)) _ _ (not_replaced f p (ap is_error is)) ∙ on_false (not (is_origin f.source) && (p.status == 508)) _ _ (and_none (not (is_origin f.source)) (p.status == 508) (ap (λ n. n == 508) is)) ∙ on_false (f.is_asking && (p.status == 412)) _ _ (and_none f.is_asking (p.status == 412) (ap (λ n. n == 412) is)) ∙ on_true (f.is_asking && (p.status == 304)) _ _ (both_true f.is_asking (p.status == 304) asking (ap (λ n. n == 304) is)) ∙ on_true p.is_about _ _ about ∙ on_true p.is_object _ _ some
@@ -246,7 +246,7 @@ brought_stale : (f : Flight) (x : Failure) → is_replaced f false (ends.Failed 
 unfolding brought
 brought_stale f x e = on_true (is_replaced f false (ends.Failed x)) _ _ e
 
-replaced_so : (o s l t : Bool) → o ≡ true → s ≡ true → l ≡ true → t ≡ true → (not false && ((o && s) && (l && t))) ≡ true
+pub replaced_so : (o s l t : Bool) → o ≡ true → s ≡ true → l ≡ true → t ≡ true → (not false && ((o && s) && (l && t))) ≡ true
 replaced_so true true true true a b c d = refl
 replaced_so o s l t a b c d = absurd (cc)
 
@@ -271,7 +271,7 @@ server_is_tried f a way =
     ap (λ b. not b || (a.is_first_admitted || (a.has_other && a.is_other_admitted))) (sym (same_origin f.source)) ∙ way in
     let e = no_way (not (is_origin f.source)) a.is_first_admitted a.has_other a.is_other_admitted n m w in absurd (cc)))))
 
-turned : (w : Which) → 0 + cond {A = ℕ} (is_beside w (opposite w)) 1 0 ≡ 1
+pub turned : (w : Which) → 0 + cond {A = ℕ} (is_beside w (opposite w)) 1 0 ≡ 1
 turned First = refl
 turned Other = refl
 

@@ -32,11 +32,11 @@ at f stage = record { flight = f; stage = stage }
 abbrev pub Harmless : (Command → Bool) → (Fetch → ℕ) → (Event → Bool) → Type 0
 Harmless is harm fits = (f : Flight) (stage : Stage) (event : Event) (t : Turn) → Row f stage event t → count_by is t.commands + harm t.fetch ≤ 4 * (harm (at f stage) + one (not (fits event)))
 
-twice : (b : Bool) → one (not (not b)) ≡ one b
+pub twice : (b : Bool) → one (not (not b)) ≡ one b
 twice true = refl
 twice false = refl
 
-small : (b : Bool) → one b ≤ 1
+pub small : (b : Bool) → one b ≤ 1
 small true = omega arith
 small false = omega arith
 

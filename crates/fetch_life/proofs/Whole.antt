@@ -23,7 +23,7 @@ use Rattle.fetch_life.proofs.Induction.{count_append, balances, runs_down, adds_
 use Rattle.fetch_life.proofs.Causes.{success_cause, failure_cause, refusal_cause, want_cause, ends_counted, again_cause, turn_cause, sends_fitting, names_fitting, telling_stays, flight_stays, asks_balance, asks_on, notes_private}
 use Rattle.fetch_life.proofs.Steps.{steps_run_down, odd_stays, current_stays, current_stale, change_keeps, change_stales, odd_lands, any_event, hands_once, does_less, counts_less, conditions_asking, conditions_of_origin, confirms_about, confirms_asking, fields_private, given_up_shared, goes_first, goes_other, keeps_current, keeps_shared, offers_shared, shelves_origin, stale_current, stale_down, stale_origin, stale_shared}
 
-row_of : (fetch : Fetch) (event : Event) → Row fetch.flight fetch.stage event (turn_of fetch event)
+pub row_of : (fetch : Fetch) (event : Event) → Row fetch.flight fetch.stage event (turn_of fetch event)
 row_of fetch event = turn_row fetch.flight fetch.stage event
 
 pub hands_in_once : (events : List Event) → times is_hand_in events ≡ one (is_over (after unordered events).stage)
@@ -42,7 +42,7 @@ is_counted_once events =
     omega arith
 
 -- what is over stays so
-over_stays : (f : Flight) (event : Event) → turn f stages.Over event ≡ stay f stages.Over
+pub over_stays : (f : Flight) (event : Event) → turn f stages.Over event ≡ stay f stages.Over
 over_stays f (events.Ordered o) = refl
 over_stays f (events.Addressed a) = refl
 over_stays f events.Connected = refl
@@ -277,7 +277,7 @@ shelf_stays events all =
 pub fetch_stays : (f : Flight) (stage : Stage) (event : Event) → is_unordered stage ≡ false → (turn f stage event).fetch.flight ≡ f
 fetch_stays f stage event ordered = flight_stays f stage event _ (turn_row f stage event) ordered
 
-ordered_as : (P : Flight → Type 0) (f : Flight) (stage : Stage) (o : Order) → is_unordered stage ≡ true → P (flight_of o) → P (turn f stage (events.Ordered o)).fetch.flight
+pub ordered_as : (P : Flight → Type 0) (f : Flight) (stage : Stage) (o : Order) → is_unordered stage ≡ true → P (flight_of o) → P (turn f stage (events.Ordered o)).fetch.flight
 ordered_as P f stages.Ordering o new is =
     split (λ (t : Turn). P t.fetch.flight) (o.is_shared && o.is_unwanted) _ _ (λ _. split (λ (t : Turn). P t.fetch.flight) o.was_unwanted _ _ (λ _. is) (λ _. is))
     (λ _. split (λ (t : Turn). P t.fetch.flight) o.is_possible _ _ (λ _. is) (λ _. is))

@@ -1,9 +1,10 @@
 -- The words of the laws: what commands, events and stages are.
-use Rattle.std.specs.Prelude.{◌≡◌, ℕ, ◌+◌, List, [], ◌∷◌, ◌&&◌, ◌||◌, ◌==◌, not, Bool, true, false, Option, Some, None}
+use Rattle.std.specs.Prelude.{◌≡◌, ℕ, ◌+◌, List, [], ◌∷◌, ◌&&◌, ◌||◌, ◌==◌, nat_le, nat_lt, not, Bool, true, false, Option, Some, None}
 use Rattle.fetch_life.specs.declared.facts.Order.{Order}
 use Rattle.fetch_life.specs.declared.facts.Addresses.{Addresses}
 use Rattle.fetch_life.specs.declared.facts.Fault.{Fault}
 use Rattle.fetch_life.specs.declared.facts.Fault.TheVariants as faults
+use Rattle.fetch_life.specs.declared.facts.Page.{Page}
 use Rattle.fetch_life.specs.declared.facts.Source.{Source}
 use Rattle.fetch_life.specs.declared.facts.Source.TheVariants.{Origin, Parent, Sibling}
 use Rattle.fetch_life.specs.declared.commands.Count.{Count}
@@ -56,6 +57,34 @@ is_outage faults.Slow = true
 is_outage faults.Cancelled = false
 is_outage faults.NoMemory = false
 is_outage faults.NoFile = true
+
+-- the origin was reached, and has not answered as it should
+abbrev pub is_bad_answer : Fault → Bool
+is_bad_answer faults.Lookup = false
+is_bad_answer faults.Connect = false
+is_bad_answer faults.Request = false
+is_bad_answer faults.Cut = true
+is_bad_answer faults.NotHttp = true
+is_bad_answer faults.LargeHead = true
+is_bad_answer faults.TooLarge = false
+is_bad_answer faults.Time = true
+is_bad_answer faults.Room = true
+is_bad_answer faults.Slow = true
+is_bad_answer faults.Cancelled = false
+is_bad_answer faults.NoMemory = false
+is_bad_answer faults.NoFile = false
+
+-- a status that says that what was there is there no longer as it was: 2xx, or 3xx but for 304, or 404 or 410
+abbrev pub says_new : ℕ → Bool
+says_new status = (nat_le 200 status && (nat_lt status 400 && not (status == 304))) || ((status == 404) || (status == 410))
+
+-- whether it may be stored for all (RFC 9111, section 3): it is an answer of status 200, or confirms one, and its rules are seen and allow it
+abbrev pub may_be_stored : Page → Bool
+may_be_stored p = p.may_keep && (not p.hides_rules && ((p.status == 200) || ((p.status == 304) && p.is_about)))
+
+-- a client's reload of what is there has found something else: another answer that could be stored, or other rules for it
+abbrev pub finds_other : Page → Bool
+finds_other p = ((p.status == 200) && p.could_be_kept) || ((p.status == 304) && p.has_other_rules)
 
 -- COMMANDS
 
@@ -175,6 +204,24 @@ abbrev pub is_note_changed : Command → Bool
 is_note_changed does.NoteChanged = true
 is_note_changed command = false
 
+-- changes what is on the shelf
+abbrev pub is_on_shelf : Command → Bool
+is_on_shelf does.Shelve = true
+is_on_shelf does.Unshelve = true
+is_on_shelf command = false
+
+abbrev pub is_send : Command → Bool
+is_send (does.Send request) = true
+is_send command = false
+
+abbrev pub is_lock : Command → Bool
+is_lock does.Lock = true
+is_lock command = false
+
+abbrev pub is_make : Command → Bool
+is_make (does.Make b) = true
+is_make command = false
+
 abbrev pub is_first : Which → Bool
 is_first First = true
 is_first Other = false
@@ -237,6 +284,63 @@ sends_unlike f (does.Send request) =
     not (same request.has_only_if_cached (is_asked_for_stored f.source) && same request.has_loop_marks f.is_shared)
 sends_unlike f command = false
 
+-- sends a client's fields in a fetch for all, or leaves them out in one for that client alone; or the fields of all fetches for all likewise
+abbrev pub sends_others : Flight → Command → Bool
+sends_others f (does.Send request) = not (same request.has_clients (not f.is_shared) && same request.has_shared f.is_shared)
+sends_others f command = false
+
+-- sends a client's Accept-Encoding beside the conditions of this cache
+abbrev pub sends_both : Command → Bool
+sends_both (does.Send request) = request.has_codings && request.has_conditions
+sends_both command = false
+
+-- leaves out what the client that owns the fetch says of codings, without conditions of this cache
+abbrev pub leaves_out_codings : Flight → Command → Bool
+leaves_out_codings f (does.Send request) = not f.is_shared && (not request.has_codings && not request.has_conditions)
+leaves_out_codings f command = false
+
+-- sends the conditions of what is there, or leaves them out, otherwise than was ordered
+abbrev pub sends_unasked : Flight → Command → Bool
+sends_unasked f (does.Send request) = not (same request.has_conditions f.is_asking)
+sends_unasked f command = false
+
+-- THE ORDER OF COMMANDS
+
+-- how far a result is: it is not made, or is made, or is under the lock of changes, or was handed in
+pub data Making : Type 0 where
+  Unmade : Making
+  Ready : Making
+  Guarded : Making
+  Delivered : Making
+
+-- what a command makes of that
+abbrev pub made_of : Making → Command → Making
+made_of so_far (does.Make b) = Ready
+made_of so_far does.Lock = Guarded
+made_of so_far (does.HandIn b) = Delivered
+made_of so_far command = so_far
+
+-- is done under the lock of changes alone, once the result is made: the shelf is changed, notes are taken, or an object is handed in
+abbrev pub needs_lock : Command → Bool
+needs_lock does.Shelve = true
+needs_lock does.Unshelve = true
+needs_lock does.AskNoMore = true
+needs_lock does.NoteChanged = true
+needs_lock (does.HandIn b) = is_object_one b
+needs_lock command = false
+
+-- whether a command may be done while a result is so far. Once it is made nothing but the lock is taken; under the lock it is made anew, or handed in,
+-- before which alone the shelf is changed; and once it was handed in nothing more is done
+abbrev pub is_its_turn : Making → Command → Bool
+is_its_turn Unmade command = not (needs_lock command) && not (is_lock command)
+is_its_turn Ready command = is_lock command
+is_its_turn Guarded command = is_hand_in command || (is_make command || needs_lock command)
+is_its_turn Delivered command = false
+
+abbrev pub is_in_order : Making → List Command → Bool
+is_in_order so_far [] = true
+is_in_order so_far (command ∷ rest) = is_its_turn so_far command && is_in_order (made_of so_far command) rest
+
 -- EVENTS
 
 -- a complete answer has come
@@ -291,6 +395,11 @@ is_not_telling (events.Whole p) = false
 is_not_telling (events.Failed x) = not (is_too_long x.fault)
 is_not_telling event = true
 
+-- an event by which nothing may be stored: no complete answer that may
+abbrev pub lets_keep_nothing : Event → Bool
+lets_keep_nothing (events.Whole p) = not (may_be_stored p)
+lets_keep_nothing event = true
+
 -- an event that is no order of a fetch for all
 abbrev pub is_not_for_all : Event → Bool
 is_not_for_all (events.Ordered o) = not o.is_shared
@@ -343,6 +452,11 @@ bars_other event = true
 abbrev pub renews : Event → Bool
 renews (events.Unwanted is_awaited) = is_awaited
 renews event = false
+
+-- an event by which a request may be sent once more: its connection has ended before an octet of an answer came (RFC 9112, section 9.3.1), or it is
+-- begun anew
+abbrev pub lets_send_again : Event → Bool
+lets_send_again event = is_cut_short event || renews event
 
 -- STAGES
 

@@ -11,6 +11,7 @@ ghost use Rattle.fetch_life.specs.declared.commands.Count.TheVariants as counts;
 ghost use Rattle.fetch_life.specs.declared.commands.Command.TheVariants as does;
 ghost use Rattle.fetch_life.specs.declared.events.Event.{Event};
 ghost use Rattle.fetch_life.specs.declared.events.Event.TheVariants as events;
+ghost use Rattle.fetch_life.specs.declared.events.Head.{Head as AnswerHead};
 ghost use Rattle.fetch_life.specs.declared.stages.Exchange.{Exchange as ServerExchange};
 ghost use Rattle.fetch_life.specs.declared.stages.Flight.{Flight};
 ghost use Rattle.fetch_life.specs.declared.stages.Reach.{Reach as ServerReach};
@@ -19,7 +20,7 @@ ghost use Rattle.fetch_life.specs.declared.stages.Stage.TheVariants as stages;
 ghost use Rattle.fetch_life.specs.Rows.{Row};
 ghost use Rattle.fetch_life.specs.Runs.{after, fetch_at, orders, times, turn_of, unordered, IsOnlyBy};
 ghost use Rattle.fetch_life.specs.Table.{turn};
-ghost use Rattle.fetch_life.specs.Laws.{is_ask_no_more, is_note_changed, is_question, is_asked, told, made, FitsMade, counts_as, is_success, is_refusal, is_failure, is_want, is_answer, is_fault, is_denial, is_desertion, is_object_one, is_kept_object, is_misnamed, is_from_origin, is_outage, is_unshelve, is_not_telling, is_either, is_beside, is_unreached, is_unconnected, is_cut_short, is_connecting, is_in_flight, is_under_way, is_unordered, has_way, sends_unlike, tries, one, steps, is_landing, is_exchanging, is_renewing, keeps_or_confirms, is_any, is_count, is_hand_in, is_unwanted_one, renews, may_be_left, is_confirmed_one, is_stale_one, comes_from, hands, is_shelve, keeps, is_first, is_other, goes_to, is_offer, sends_clients, sends_conditions, is_not_for_all, is_not_private, is_not_of_origin, is_not_asking, confirms_nothing, is_not_down, is_not_unchanged, bars_first, bars_other, is_over};
+ghost use Rattle.fetch_life.specs.Laws.{is_in_order, Unmade, lets_keep_nothing, may_ask, is_send, lets_send_again, sends_others, sends_both, leaves_out_codings, sends_unasked, says_new, finds_other, is_bad_answer, is_too_long, is_server_error, is_on_shelf, is_ask_no_more, is_note_changed, is_question, is_asked, told, made, FitsMade, counts_as, is_success, is_refusal, is_failure, is_want, is_answer, is_fault, is_denial, is_desertion, is_object_one, is_kept_object, is_misnamed, is_from_origin, is_outage, is_unshelve, is_not_telling, is_either, is_beside, is_unreached, is_unconnected, is_cut_short, is_connecting, is_in_flight, is_under_way, is_unordered, has_way, sends_unlike, tries, one, steps, is_landing, is_exchanging, is_renewing, keeps_or_confirms, is_any, is_count, is_hand_in, is_unwanted_one, renews, may_be_left, is_confirmed_one, is_stale_one, comes_from, hands, is_shelve, keeps, is_first, is_other, goes_to, is_offer, sends_clients, sends_conditions, is_not_for_all, is_not_private, is_not_of_origin, is_not_asking, confirms_nothing, is_not_down, is_not_unchanged, bars_first, bars_other, is_over};
 
 /// Each turn of the table is one of its rows.
 pub fn each_turn_is_a_row()
@@ -36,10 +37,14 @@ pub fn one_result()
     ensures over { (events : List Event) → steps unordered events ≤ 12 + 12 * count_by renews events }
 {}
 
-/// A fetch stays what was ordered: whom it asks, and whether it is for all, is as its last order says.
+/// A fetch stays what was ordered: whom it asks, whether it is for all, whether it asks about what is there, and whether its answer may be
+/// given while it is collected, is as its last order says.
 pub fn one_fetch()
     ensures source { (f : Flight) (stage : Stage) (o : Order) → is_unordered stage ≡ true → (turn f stage (events.Ordered o)).fetch.flight.source ≡ o.source }
     ensures shared { (f : Flight) (stage : Stage) (o : Order) → is_unordered stage ≡ true → (turn f stage (events.Ordered o)).fetch.flight.is_shared ≡ o.is_shared }
+    ensures asking { (f : Flight) (stage : Stage) (o : Order) → is_unordered stage ≡ true → (turn f stage (events.Ordered o)).fetch.flight.is_asking ≡ may_ask o }
+    ensures streamed { (f : Flight) (stage : Stage) (o : Order) → is_unordered stage ≡ true → (turn f stage (events.Ordered o)).fetch.flight.is_streamed ≡ o.is_streamed }
+    ensures shelf { (f : Flight) (stage : Stage) (o : Order) → is_unordered stage ≡ true → (turn f stage (events.Ordered o)).fetch.flight.has_shelf ≡ o.has_shelf }
     ensures stays { (f : Flight) (stage : Stage) (event : Event) → is_unordered stage ≡ false → (turn f stage event).fetch.flight ≡ f }
 {}
 
@@ -85,8 +90,11 @@ pub fn want_of_clients()
 
 /// What a change has overtaken is never kept, nor what was fetched for one client alone: neither stored nor put on the shelf, where
 /// origins are asked about it. That holds whenever a change was found once, whatever is found when the result was made anew. A neighbour's
-/// object never reaches the shelf. What is there stays where no answer has come, and none that is too long.
+/// object never reaches the shelf. What is there stays where no answer has come, and none that is too long. And nothing is kept but what may be
+/// stored for all (RFC 9111, section 3): where no answer of a run is of status 200, or a 304 about what was asked about, whose rules are seen
+/// and allow it, nothing is.
 pub fn what_is_kept()
+    ensures allowed { (events : List Event) → AllByRecursion (λ event. lets_keep_nothing event ≡ true) events → times keeps events ≡ 0 }
     ensures overtaken { (events : List Event) → AllByRecursion (λ event. is_not_unchanged event ≡ true) events → times keeps events ≡ 0 }
     ensures changed { (before later : List Event) → is_landing (after unordered before).stage ≡ true → count_by keeps (orders (after unordered before) (events.Locked true ∷ later)) ≡ 0 }
     ensures private { (events : List Event) → AllByRecursion (λ event. is_not_for_all event ≡ true) events → times keeps events ≡ 0 }
@@ -109,8 +117,11 @@ pub fn confirmation()
 {}
 
 /// Something stale is given in place of a result only where the origin is down and that is allowed (RFC 9111, section 4.2.4; RFC 5861,
-/// section 4): never for one client alone, for a neighbour, or after a change, also where the result was made anew since.
+/// section 4): never for one client alone, for a neighbour, or after a change, also where the result was made anew since. And it is given there:
+/// of a failure wherever that comes, unless a server is tried once more for it, and of an answer that says that the server fails.
 pub fn what_is_stale()
+    ensures failed { (f : Flight) (stage : Stage) (x : FailedAttempt) (later : List Event) → is_in_flight stage ≡ true → is_from_origin f.source ≡ true → f.is_shared ≡ true → is_outage x.fault ≡ true → x.has_stale ≡ true → count_by tries (turn f stage (events.Failed x)).commands ≡ 0 → count_by (hands (comes_from is_stale_one)) (orders (fetch_at f stage) (events.Failed x ∷ events.Locked false ∷ later)) ≡ 1 }
+    ensures answered { (f : Flight) (e : ServerExchange) (p : WholePage) (later : List Event) → is_from_origin f.source ≡ true → f.is_shared ≡ true → is_server_error p.status ≡ true → p.has_stale ≡ true → count_by (hands (comes_from is_stale_one)) (orders (fetch_at f (stages.Exchanging e)) (events.Whole p ∷ events.Locked false ∷ later)) ≡ 1 }
     ensures down { (events : List Event) → AllByRecursion (λ event. is_not_down event ≡ true) events → times (hands (comes_from is_stale_one)) events ≡ 0 }
     ensures shared { (events : List Event) → AllByRecursion (λ event. is_not_for_all event ≡ true) events → times (hands (comes_from is_stale_one)) events ≡ 0 }
     ensures origin { (events : List Event) → AllByRecursion (λ event. is_not_of_origin event ≡ true) events → times (hands (comes_from is_stale_one)) events ≡ 0 }
@@ -130,10 +141,68 @@ pub fn servers()
 
 /// The request of a fetch for all has no field of any client but the marks of loops, which it always has (RFC 8586). A sibling, and nobody else,
 /// is asked for what it has stored alone. A request is sent once more only where its connection ended before an octet of an answer came. The
-/// answer to a private one is offered to nobody else.
+/// answer to a private one is offered to nobody else. A private fetch has its client's own fields, and one for all those of all such fetches. The
+/// conditions of what is there are sent where it is to be asked about, and nowhere else; a client's Accept-Encoding never beside them (RFC 9110,
+/// section 8.8.3.3), and always where its fetch has none.
 pub fn requests()
+    ensures own { (f : Flight) (stage : Stage) (event : Event) → count_by (sends_others f) (turn f stage event).commands ≡ 0 }
+    ensures either { (f : Flight) (stage : Stage) (event : Event) → count_by sends_both (turn f stage event).commands ≡ 0 }
+    ensures codings { (f : Flight) (stage : Stage) (event : Event) → count_by (leaves_out_codings f) (turn f stage event).commands ≡ 0 }
+    ensures asked { (f : Flight) (stage : Stage) (event : Event) → count_by (sends_unasked f) (turn f stage event).commands ≡ 0 }
     ensures fields { (events : List Event) → AllByRecursion (λ event. is_not_private event ≡ true) events → times sends_clients events ≡ 0 }
     ensures like { (f : Flight) (stage : Stage) (event : Event) → count_by (sends_unlike f) (turn f stage event).commands ≡ 0 }
     ensures again { (f : Flight) (stage : Stage) (event : Event) → is_exchanging stage ≡ true → 0 < count_by tries (turn f stage event).commands → is_cut_short event ≡ true }
     ensures offered { (events : List Event) → AllByRecursion (λ event. is_not_for_all event ≡ true) events → times is_offer events ≡ 0 }
+{}
+
+/// Things are done in this order: how an attempt has ended is counted before its result is made, and it is made before the lock of changes is
+/// taken, right behind which nothing else stands. What is on the shelf is changed, what is asked about no more or was found to have changed is
+/// noted, and an object is handed in, under that lock alone; and handing in is the last that is done.
+pub fn in_order()
+    ensures { (events : List Event) → is_in_order Unmade (orders unordered events) ≡ true }
+{}
+
+/// A request is sent once more only where its connection ended before an octet of an answer came, or where its fetch is begun anew, and at most
+/// twice more, since it is not sent for ever (RFC 9112, section 9.3.1). Where it went over a connection that was kept, it goes over a new one to the
+/// same address, and where that was new, to the other one, if that has not had its turn.
+pub fn sent_again()
+    ensures caused { (events : List Event) → times is_send events ≤ 1 + count_by lets_send_again events }
+    ensures most { (events : List Event) → times is_send events ≤ 3 + 3 * count_by renews events }
+    ensures kept { (f : Flight) (x : FailedAttempt) (e : ServerExchange) → e.is_reused ≡ true → is_cut_short (events.Failed x) ≡ true → (turn f (stages.Exchanging e) (events.Failed x)).commands ≡ does.Connect e.reach.at ∷ [] }
+    ensures fresh { (f : Flight) (x : FailedAttempt) (e : ServerExchange) → e.is_reused ≡ false → e.reach.has_other ≡ true → is_cut_short (events.Failed x) ≡ true → count_by (goes_to (is_beside e.reach.at)) (turn f (stages.Exchanging e) (events.Failed x)).commands ≡ 1 }
+{}
+
+/// A long answer of status 200 is offered to who began its fetch for all, once for each time that the request was sent.
+pub fn what_is_offered()
+    ensures offered { (f : Flight) (h : AnswerHead) (e : ServerExchange) → f.is_shared ≡ true → f.is_streamed ≡ true → e.is_offered ≡ false → h.status ≡ 200 → h.is_long ≡ true → (turn f (stages.Exchanging e) (events.Began h)).commands ≡ does.Offer ∷ [] }
+    ensures once { (events : List Event) → times is_offer events ≤ times is_send events }
+{}
+
+/// What is on the shelf never outlives what tells of something else. An answer for all that says so (2xx, 3xx, 404, 410) takes its place or
+/// takes it away, and so does a 304 that confirms it; a 304 about something else, and an answer of the origin's that is too long, take it away:
+/// exactly once, whatever changes come between, by the time that the fetch is over. What is kept of the origin's is put there.
+pub fn what_is_on_the_shelf()
+    ensures replaced { (f : Flight) (e : ServerExchange) (p : WholePage) (later : List Event) → f.is_shared ≡ true → p.is_object ≡ true → says_new p.status ≡ true → is_over (after (fetch_at f (stages.Exchanging e)) (events.Whole p ∷ later)).stage ≡ true → count_by is_on_shelf (orders (fetch_at f (stages.Exchanging e)) (events.Whole p ∷ later)) ≡ 1 }
+    ensures confirmed { (f : Flight) (e : ServerExchange) (p : WholePage) (later : List Event) → f.is_shared ≡ true → f.is_asking ≡ true → p.status ≡ 304 → p.is_about ≡ true → p.is_object ≡ true → is_over (after (fetch_at f (stages.Exchanging e)) (events.Whole p ∷ later)).stage ≡ true → count_by is_on_shelf (orders (fetch_at f (stages.Exchanging e)) (events.Whole p ∷ later)) ≡ 1 }
+    ensures other { (f : Flight) (e : ServerExchange) (p : WholePage) (later : List Event) → f.is_asking ≡ true → p.status ≡ 304 → p.is_about ≡ false → is_over (after (fetch_at f (stages.Exchanging e)) (events.Whole p ∷ later)).stage ≡ true → count_by is_unshelve (orders (fetch_at f (stages.Exchanging e)) (events.Whole p ∷ later)) ≡ 1 }
+    ensures long { (f : Flight) (e : ServerExchange) (x : FailedAttempt) (later : List Event) → is_from_origin f.source ≡ true → f.is_shared ≡ true → is_too_long x.fault ≡ true → is_over (after (fetch_at f (stages.Exchanging e)) (events.Failed x ∷ later)).stage ≡ true → count_by is_unshelve (orders (fetch_at f (stages.Exchanging e)) (events.Failed x ∷ later)) ≡ 1 }
+    ensures put { (f : Flight) (e : ServerExchange) (p : WholePage) (later : List Event) → is_from_origin f.source ≡ true → f.is_shared ≡ true → p.status ≡ 200 → p.is_object ≡ true → p.may_keep ≡ true → p.hides_rules ≡ false → count_by is_shelve (orders (fetch_at f (stages.Exchanging e)) (events.Whole p ∷ events.Locked false ∷ later)) ≡ 1 }
+    ensures put_back { (f : Flight) (e : ServerExchange) (p : WholePage) (later : List Event) → is_from_origin f.source ≡ true → f.is_shared ≡ true → f.is_asking ≡ true → p.status ≡ 304 → p.is_about ≡ true → p.is_object ≡ true → p.may_keep ≡ true → p.hides_rules ≡ false → count_by is_shelve (orders (fetch_at f (stages.Exchanging e)) (events.Whole p ∷ events.Locked false ∷ later)) ≡ 1 }
+{}
+
+/// What was asked about is given up to be asked about once its origin answers with 412, or has not answered it as HTTP and is not tried once more;
+/// and a client's own reload that has found something else is noted: exactly once, whatever changes come between, by the time that it is over.
+pub fn what_is_noted()
+    ensures unmet { (f : Flight) (e : ServerExchange) (p : WholePage) (later : List Event) → f.is_asking ≡ true → p.status ≡ 412 → is_over (after (fetch_at f (stages.Exchanging e)) (events.Whole p ∷ later)).stage ≡ true → count_by is_ask_no_more (orders (fetch_at f (stages.Exchanging e)) (events.Whole p ∷ later)) ≡ 1 }
+    ensures unanswered { (f : Flight) (e : ServerExchange) (x : FailedAttempt) (later : List Event) → f.is_asking ≡ true → is_bad_answer x.fault ≡ true → count_by tries (turn f (stages.Exchanging e) (events.Failed x)).commands ≡ 0 → is_over (after (fetch_at f (stages.Exchanging e)) (events.Failed x ∷ later)).stage ≡ true → count_by is_ask_no_more (orders (fetch_at f (stages.Exchanging e)) (events.Failed x ∷ later)) ≡ 1 }
+    ensures changed { (f : Flight) (e : ServerExchange) (p : WholePage) (later : List Event) → f.is_asking ≡ true → f.is_shared ≡ false → finds_other p ≡ true → is_over (after (fetch_at f (stages.Exchanging e)) (events.Whole p ∷ later)).stage ≡ true → count_by is_note_changed (orders (fetch_at f (stages.Exchanging e)) (events.Whole p ∷ later)) ≡ 1 }
+{}
+
+/// What answers nobody's request is handed in to nobody, whatever comes after it: a 412 and a 304 about something else to conditions of this cache,
+/// a 304 that it did not ask for, where such are kept to be asked about, and a neighbour's 508, which would have asked this cache again.
+pub fn what_is_nothing()
+    ensures unmet { (f : Flight) (e : ServerExchange) (p : WholePage) (later : List Event) → f.is_asking ≡ true → p.status ≡ 412 → count_by (hands is_object_one) (orders (fetch_at f (stages.Exchanging e)) (events.Whole p ∷ later)) ≡ 0 }
+    ensures other { (f : Flight) (e : ServerExchange) (p : WholePage) (later : List Event) → f.is_asking ≡ true → p.status ≡ 304 → p.is_about ≡ false → count_by (hands is_object_one) (orders (fetch_at f (stages.Exchanging e)) (events.Whole p ∷ later)) ≡ 0 }
+    ensures unasked { (f : Flight) (e : ServerExchange) (p : WholePage) (later : List Event) → f.is_asking ≡ false → f.is_shared ≡ true → f.has_shelf ≡ true → p.status ≡ 304 → count_by (hands is_object_one) (orders (fetch_at f (stages.Exchanging e)) (events.Whole p ∷ later)) ≡ 0 }
+    ensures returned { (f : Flight) (e : ServerExchange) (p : WholePage) (later : List Event) → is_from_origin f.source ≡ false → p.status ≡ 508 → count_by (hands is_object_one) (orders (fetch_at f (stages.Exchanging e)) (events.Whole p ∷ later)) ≡ 0 }
 {}

@@ -8,7 +8,7 @@ use Rattle.request_life.specs.declared.stages.Life.{Life}
 use Rattle.request_life.specs.Runs.{turn_of, after, orders, moves_where}
 use Rattle.request_life.specs.Laws.{one}
 
-count_append : {A : Type 0} (p : A → Bool) (xs ys : List A) → count_by p (xs ++ ys) ≡ count_by p xs + count_by p ys
+pub count_append : {A : Type 0} (p : A → Bool) (xs ys : List A) → count_by p (xs ++ ys) ≡ count_by p xs + count_by p ys
 count_append p [] ys = omega arith
 count_append p (x ∷ xs) ys = let e = count_append p xs ys in grind (arith, common_steps)
 
@@ -61,7 +61,7 @@ counted : (b : Bool) → cond b 1 0 ≡ one b
 counted true = refl
 counted false = refl
 
-one_more : {A : Type 0} (p : A → Bool) (x : A) (xs : List A) → count_by p (x ∷ xs) ≡ one (p x) + count_by p xs
+pub one_more : {A : Type 0} (p : A → Bool) (x : A) (xs : List A) → count_by p (x ∷ xs) ≡ one (p x) + count_by p xs
 one_more p x xs =
     let a : count_by p (x ∷ xs) ≡ count_by p (x ∷ []) + count_by p xs = count_append p (x ∷ []) xs in
     let b : cond (p x) 1 0 ≡ one (p x) = counted (p x) in

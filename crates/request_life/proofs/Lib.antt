@@ -5,3 +5,5 @@ pub mod Steps
 pub mod Whole
 pub mod Causes
 pub mod Served
+pub mod Orders
+pub mod Due

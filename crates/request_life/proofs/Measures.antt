@@ -7,7 +7,7 @@ use Rattle.request_life.specs.declared.stages.Content.TheVariants as contents
 use Rattle.request_life.specs.declared.stages.Stage.{Stage}
 use Rattle.request_life.specs.declared.stages.Stage.TheVariants as stages
 use Rattle.request_life.specs.Table.{is_first, has_begun}
-use Rattle.request_life.specs.Laws.{one, wants_stored}
+use Rattle.request_life.specs.Laws.{one, wants_stored, AtNode, Absent, Submitted, Queued}
 
 -- an answer was given
 abbrev pub is_answered : Stage → Bool
@@ -145,3 +145,43 @@ abbrev pub sends_fields : RequestHead → Stage → ℕ
 sends_fields head stages.Receiving = 0
 sends_fields head stages.Left = 0
 sends_fields head stage = one (not head.has_many_options)
+
+-- whether what the node is asked may still be looked up
+abbrev pub may_look_up : Stage → Bool
+may_look_up (stages.LookingUp round) = true
+may_look_up (stages.Submitting s) = true
+may_look_up (stages.Waiting w) = true
+may_look_up stage = false
+
+-- whether a request may still go anywhere
+abbrev pub may_go : Stage → Bool
+may_go stages.Receiving = false
+may_go stages.Giving = false
+may_go stages.Ended = false
+may_go stages.Left = false
+may_go stage = true
+
+-- what the node has of a request
+abbrev pub node_at : Stage → AtNode
+node_at (stages.Submitting s) = Submitted
+node_at stages.Leaving = Submitted
+node_at (stages.Waiting w) = Queued
+node_at stage = Absent
+
+-- nothing of a request is at a server any more
+abbrev pub is_closed : Stage → Bool
+is_closed stages.Giving = true
+is_closed stages.Ended = true
+is_closed stages.Left = true
+is_closed stage = false
+
+-- whether an answer may leave its connection open: not amid a content, and none is given any more once that has broken or its client has gone
+abbrev pub amid : Stage → ℕ
+amid (stages.Passing contents.Coming) = 0
+amid (stages.Parting upload) = 0
+amid stages.Breaking = 0
+amid stages.BrokenOff = 0
+amid stages.Giving = 0
+amid stages.Ended = 0
+amid stages.Left = 0
+amid stage = 1

@@ -36,23 +36,23 @@ use Rattle.request_life.specs.Laws.{may_have_stale, answers_so, gives_one, is_be
 use Rattle.request_life.proofs.Walk.{split, both, not_true}
 use Rattle.request_life.proofs.Steps.{same_cached, same_node}
 
-on_true : {A : Type 0} (b : Bool) (x y : A) → b ≡ true → cond b x y ≡ x
+pub on_true : {A : Type 0} (b : Bool) (x y : A) → b ≡ true → cond b x y ≡ x
 on_true true x y e = refl
 on_true false x y e = absurd (cc)
 
-on_false : {A : Type 0} (b : Bool) (x y : A) → b ≡ false → cond b x y ≡ y
+pub on_false : {A : Type 0} (b : Bool) (x y : A) → b ≡ false → cond b x y ≡ y
 on_false false x y e = refl
 on_false true x y e = absurd (cc)
 
-and_none : (a b : Bool) → b ≡ false → (a && b) ≡ false
+pub and_none : (a b : Bool) → b ≡ false → (a && b) ≡ false
 and_none true b e = e
 and_none false b e = refl
 
-none_and : (a b : Bool) → a ≡ false → (a && b) ≡ false
+pub none_and : (a b : Bool) → a ≡ false → (a && b) ≡ false
 none_and true b e = absurd (cc)
 none_and false b e = refl
 
-both_true : (a b : Bool) → a ≡ true → b ≡ true → (a && b) ≡ true
+pub both_true : (a b : Bool) → a ≡ true → b ≡ true → (a && b) ≡ true
 both_true true b e g = g
 both_true false b e g = absurd (cc)
 
@@ -63,11 +63,11 @@ is_begun old head node short =
     let a : begins head ≡ _ = on_true (is_for_node head) _ _ (sym (same_node head head.method) ∙ node) ∙ on_false head.is_too_long _ _ short in
     ap (λ (t : Turn). count_by is_begin t.commands) a ∙ split (λ (t : Turn). count_by is_begin t.commands ≡ 1) head.has_content _ _ (λ _. refl) (λ _. refl)
 
-long_not : (g l x : Bool) → l ≡ false → ((g && l) && x) ≡ false
+pub long_not : (g l x : Bool) → l ≡ false → ((g && l) && x) ≡ false
 long_not true l x e = none_and l x e
 long_not false l x e = refl
 
-unbarred : (c b : Bool) → c ≡ false → b ≡ false → bar_of c b ≡ None
+pub unbarred : (c b : Bool) → c ≡ false → b ≡ false → bar_of c b ≡ None
 unbarred false false e g = refl
 unbarred c b e g = absurd (cc)
 
@@ -81,7 +81,7 @@ asked_under head lookup round mode is new free short few =
     ap (λ o. unless_barred head o (asks head lookup round mode)) (unbarred lookup.has_come_back lookup.is_barred new free) in
     ap (λ (t : Turn). count_by is_submit t.commands) (b ∙ ap (chosen head lookup round) is ∙ c ∙ d) ∙ split (λ (t : Turn). count_by is_submit t.commands ≡ 1) (is_private mode && (not lookup.is_stored && lookup.is_third_part)) _ _ (λ _. refl) (λ _. refl)
 
-url_is : (t : Target) → is_url t ≡ true → fault_of t ≡ None
+pub url_is : (t : Target) → is_url t ≡ true → fault_of t ≡ None
 url_is targets.Url e = refl
 url_is t e = absurd (cc)
 
@@ -93,7 +93,7 @@ is_submitted_so head lookup round mode is may =
     let d = both (not lookup.is_long) (not head.has_many_options) c.1 in
     ap (λ o. count_by is_submit (found_under head lookup round o).commands) (url_is lookup.target a.0) ∙ asked_under head lookup round mode is (not_true lookup.has_come_back b.0) (not_true lookup.is_barred c.0) (not_true lookup.is_long d.0) (not_true head.has_many_options d.1)
 
-unfaulted : (t : Target) (c b l m r : Bool) → (is_url t && (not c && (not b && (not l && (not m && r))))) ≡ true → first_of (fault_of t) (first_of (bar_of c b) (if l then Some 501 else if m then Some 400 else if r then None else Some 503)) ≡ None
+pub unfaulted : (t : Target) (c b l m r : Bool) → (is_url t && (not c && (not b && (not l && (not m && r))))) ≡ true → first_of (fault_of t) (first_of (bar_of c b) (if l then Some 501 else if m then Some 400 else if r then None else Some 503)) ≡ None
 unfaulted targets.Url false false false false true e = refl
 unfaulted t c b l m r e = absurd (cc)
 
@@ -149,7 +149,7 @@ fetched_is_given head w f may =
 pub early_is_given : (head : RequestHead) (w : Wait) → w.share ≡ shares.Began → (turn head (stages.Waiting w) (events.Answered outcomes.Early)).commands ≡ does.Withdraw ∷ gives_one head answers.Early
 early_is_given head w begun = ap (λ (t : Turn). t.commands) (on_true (has_begun w.share) _ _ (ap has_begun begun))
 
-same_stale : (head : RequestHead) (mode : Mode) → may_have_stale head mode ≡ takes_stale head mode
+pub same_stale : (head : RequestHead) (mode : Mode) → may_have_stale head mode ≡ takes_stale head mode
 same_stale head Shared = refl
 same_stale head Cached = refl
 same_stale head Private = refl

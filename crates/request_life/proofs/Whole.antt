@@ -25,7 +25,7 @@ use Rattle.request_life.proofs.Induction.{adds_up, is_used_up, is_filled_up, run
 use Rattle.request_life.proofs.Causes.{request_stays, asks_balance, opens_balance, shared_cause, stored_cause, whole_cause, stream_cause, marked_stays, by_answer_cause, last_ends, back_cause, forbidden_cause, long_cause, large_cause, late_cause, unserved_cause, error_cause}
 use Rattle.request_life.proofs.Steps.{give_adds, record_adds, submit_uses, all_submits_use, pass_uses, tunnel_uses, steps_run_down, wait_balances, unsafe_balances, take_out_cause, broken_stays, unsent_stays, whole_stays, is_quiet, is_silent, departs_by_leaving, hit_cause, stale_cause, tunnel_cause, open_cause, pass_cause, barred_stays, stored_stays, passed_stays, ends_only, options_stay, closes, early_cause, Agrees, others_stays, keeps_agreed}
 
-row_of : (life : Life) (event : Event) → Row life.head life.stage event (turn_of life event)
+pub row_of : (life : Life) (event : Event) → Row life.head life.stage event (turn_of life event)
 row_of life event = turn_row life.head life.stage event
 
 answers_are : (events : List Event) → times is_give events ≡ one (is_answered (after unborn events).stage)
@@ -33,7 +33,7 @@ answers_are events =
     let a = adds_up is_give (λ life. one (is_answered life.stage)) (λ life event. give_adds life.head life.stage event _ (row_of life event)) unborn events in
     omega arith
 
-one_at_most : (b : Bool) → one b ≤ 1
+pub one_at_most : (b : Bool) → one b ≤ 1
 one_at_most true = omega arith
 one_at_most false = omega arith
 
@@ -52,12 +52,12 @@ answers_exactly events over stayed =
     let b : one (has_departed (after unborn events).stage) ≡ 0 = omega arith in
     answers_are events ∙ stays_to_end (after unborn events).stage over b
 
-all_true : (events : List Event) → AllByRecursion (λ e. true ≡ true) events
+pub all_true : (events : List Event) → AllByRecursion (λ e. true ≡ true) events
 all_true [] = tt
 all_true (e ∷ rest) = (refl, all_true rest)
 
 -- what is answered is left alone
-quiet_from : (life : Life) (later : List Event) → one (is_answered life.stage) ≡ 1 → count_by goes_further (orders life later) ≡ 0
+pub quiet_from : (life : Life) (later : List Event) → one (is_answered life.stage) ≡ 1 → count_by goes_further (orders life later) ≡ 0
 quiet_from life later answered =
     is_never_done goes_further (λ l. 1 - one (is_answered l.stage)) (λ e. true)
     (λ l e. let a = is_quiet l.head l.stage e _ (row_of l e) in omega arith) life later (omega arith) (all_true later)
@@ -68,14 +68,14 @@ answers_last events later some =
     let b = one_at_most (is_answered (after unborn events).stage) in
     quiet_from (after unborn events) later (omega arith)
 
-done_unless_broken : (stage : Stage) → one (is_answered stage) ≡ 1 → has_broken stage ≡ false → one (is_done stage) ≡ 1
+pub done_unless_broken : (stage : Stage) → one (is_answered stage) ≡ 1 → has_broken stage ≡ false → one (is_done stage) ≡ 1
 done_unless_broken stages.Giving answered there = refl
 done_unless_broken stages.Ended answered there = refl
 done_unless_broken stages.Breaking answered there = absurd (cc)
 done_unless_broken stages.BrokenOff answered there = absurd (cc)
 done_unless_broken stage answered there = absurd (omega arith)
 
-silent_from : (life : Life) (later : List Event) → one (is_done life.stage) ≡ 1 → count_by is_more_than_record (orders life later) ≡ 0
+pub silent_from : (life : Life) (later : List Event) → one (is_done life.stage) ≡ 1 → count_by is_more_than_record (orders life later) ≡ 0
 silent_from life later done =
     is_never_done is_more_than_record (λ l. 1 - one (is_done l.stage)) (λ e. true)
     (λ l e. let a = is_silent l.head l.stage e _ (row_of l e) in omega arith) life later (omega arith) (all_true later)

@@ -1,5 +1,5 @@
 -- The words of the laws: what commands, events and stages are.
-use Rattle.std.specs.Prelude.{◌≡◌, ℕ, List, [], ◌∷◌, ◌+◌, ◌*◌, count_by, nat_le, nat_lt, ◌==◌, ◌&&◌, ◌||◌, not, Bool, true, false, Option, Some, None}
+use Rattle.std.specs.Prelude.{◌≡◌, ℕ, List, [], ◌∷◌, ◌+◌, ◌*◌, count_by, nat_le, nat_lt, ◌==◌, ◌&&◌, ◌||◌, not, if◌then◌else◌, Bool, true, false, Option, Some, None}
 use Rattle.fair_use.specs.declared.unanswered.Upload.{Upload}
 use Rattle.fair_use.specs.declared.unanswered.Upload.TheVariants as uploads
 use Rattle.node_terms.specs.declared.mode.Mode.{Mode}
@@ -130,6 +130,10 @@ is_own_success answer = false
 abbrev pub gives_one : RequestHead → Answer → List Command
 gives_one head answer = does.Give (record { answer = answer; is_last = head.is_last }) ∷ []
 
+-- all that is done: a status of the proxy's own is given, which ends its connection
+abbrev pub turns_down : ℕ → List Command
+turns_down status = does.Give (record { answer = answers.Own status; is_last = true }) ∷ []
+
 abbrev pub is_submit : Command → Bool
 is_submit (does.Submit mode) = true
 is_submit command = false
@@ -183,6 +187,14 @@ goes_out command = false
 abbrev pub is_cancel : Command → Bool
 is_cancel does.Cancel = true
 is_cancel command = false
+
+abbrev pub is_look_up : Command → Bool
+is_look_up does.LookUp = true
+is_look_up command = false
+
+abbrev pub is_route : Command → Bool
+is_route does.Route = true
+is_route command = false
 
 -- the content is collected, or what the node is asked is found out
 abbrev pub is_begin : Command → Bool
@@ -497,6 +509,76 @@ is_for_store_alone (events.Received head) = may_be_answered head head.method
 is_for_store_alone (events.Found lookup) = stays_with_store lookup.choice
 is_for_store_alone event = true
 
+-- an event of a request with content that is collected, not all of which has come
+abbrev pub is_uncollected : Event → Bool
+is_uncollected (events.Received head) = head.has_content
+is_uncollected (events.Collected ends.Whole) = false
+is_uncollected event = true
+
+-- a request for a tunnel, where these are opened
+abbrev pub may_tunnel : RequestHead → Method → Bool
+may_tunnel head methods.Connect = head.has_tunnels
+may_tunnel head methods.Get = false
+may_tunnel head methods.Head = false
+may_tunnel head methods.Other = false
+
+-- a request for which nothing is done here: the node may not answer it, no tunnel is opened for it, and it is not passed on, since its method is
+-- not, or since its content is coded as this cache doesn't know (RFC 9112, section 6.1)
+abbrev pub is_for_nobody : RequestHead → Bool
+is_for_nobody head =
+    not (may_be_answered head head.method) && (not (may_tunnel head head.method) && (not head.has_passage || head.has_foreign_coding))
+
+-- a request that is for its server alone
+abbrev pub is_for_server : RequestHead → Bool
+is_for_server head =
+    not (may_be_answered head head.method) && (not (may_tunnel head head.method) && (head.has_passage && not head.has_foreign_coding))
+
+abbrev pub comes_for_nobody : Event → Bool
+comes_for_nobody (events.Received head) = is_for_nobody head
+comes_for_nobody event = true
+
+abbrev pub is_get_one : Method → Bool
+is_get_one methods.Get = true
+is_get_one method = false
+
+abbrev pub is_head_one : Method → Bool
+is_head_one methods.Head = true
+is_head_one method = false
+
+-- a request that the node could answer is passed on: a GET whose answer is known to be too long, or a HEAD that nothing stored answers, where a HEAD
+-- is passed on
+abbrev pub goes_past : RequestHead → Event → Bool
+goes_past head (events.Found lookup) =
+    (is_get_one head.method && lookup.is_long) || (is_head_one head.method && head.has_passage)
+goes_past head event = false
+
+-- the node says that the request has joined a fetch whose answer can't be stored, as the last one could not
+abbrev pub is_kept_apart : Event → Bool
+is_kept_apart (events.Accepted a) = a.has_joined && a.is_kept_out
+is_kept_apart event = false
+
+-- the way that a request is to be submitted: as it was found, but alone where what it would join was changed
+abbrev pub is_due_as : Lookup → Mode → Mode → Bool
+is_due_as lookup Shared mode = if lookup.is_overtaken then wants_own mode else wants_shared mode
+is_due_as lookup Cached mode = wants_stored mode
+is_due_as lookup Private mode = wants_own mode
+
+-- its server has answered with what can be given on (RFC 9110, section 7.6.1)
+abbrev pub is_sendable : Event → Bool
+is_sendable (events.Passed (passages.Head p)) = not p.has_many_options
+is_sendable event = false
+
+-- its client doesn't break its content
+abbrev pub breaks_nothing : Event → Bool
+breaks_nothing events.UploadBroken = false
+breaks_nothing event = true
+
+-- an event of a request with content that is passed on, which tells that all of that has come, or was sent
+abbrev pub is_unread : Event → Bool
+is_unread events.Read = false
+is_unread events.Sent = false
+is_unread event = true
+
 -- an event of a request whose fields can't be sent on
 abbrev pub has_unsendable : Event → Bool
 has_unsendable (events.Received head) = head.has_many_options
@@ -538,6 +620,61 @@ heard said stage event = said
 abbrev pub said : Option Bool → Life → List Event → Option Bool
 said so_far life [] = so_far
 said so_far life (event ∷ rest) = said (heard so_far life.stage event) (turn_of life event).life rest
+
+-- IN WHICH ORDER
+
+-- how many of these are done behind the first of those
+abbrev pub behind : (Command → Bool) → (Command → Bool) → List Command → ℕ
+behind first is [] = 0
+behind first is (command ∷ rest) = if first command then count_by is rest else behind first is rest
+
+-- what the node has of a request: nothing; a submission that it has not said whether it takes; or one that it has taken, and not answered
+pub data AtNode : Type 0 where
+  Absent : AtNode
+  Submitted : AtNode
+  Queued : AtNode
+
+-- what the node says
+abbrev pub by_acceptance : Event → AtNode
+by_acceptance (events.Accepted a) = Queued
+by_acceptance (events.Declined has_one) = Absent
+by_acceptance event = Submitted
+
+abbrev pub by_answer : Event → AtNode
+by_answer (events.Answered outcome) = if leaves_waiting outcome then Queued else Absent
+by_answer event = Queued
+
+abbrev pub node_says : AtNode → Event → AtNode
+node_says Absent event = Absent
+node_says Submitted event = by_acceptance event
+node_says Queued event = by_answer event
+
+-- what it is told
+abbrev pub node_hears : AtNode → Command → AtNode
+node_hears so_far (does.Submit mode) = Submitted
+node_hears so_far does.Withdraw = Absent
+node_hears so_far command = so_far
+
+-- whether something is done in its turn: what was submitted is left alone until the node has said whether it takes it, but for the line in the log;
+-- what it has taken is withdrawn, or has its answer given while it is collected; and all else is done where it has nothing
+abbrev pub suits : AtNode → Command → Bool
+suits Absent command = not (is_withdraw command) && not (is_stream command)
+suits Submitted command = is_record command
+suits Queued command = is_withdraw command || is_stream command
+
+abbrev pub suit_all : AtNode → List Command → Bool
+suit_all so_far [] = true
+suit_all so_far (command ∷ rest) = suits so_far command && suit_all (node_hears so_far command) rest
+
+abbrev pub node_after : AtNode → List Command → AtNode
+node_after so_far [] = so_far
+node_after so_far (command ∷ rest) = node_after (node_hears so_far command) rest
+
+-- whether all that is done in a run is done in its turn
+abbrev pub is_in_turn : AtNode → Life → List Event → Bool
+is_in_turn so_far life [] = true
+is_in_turn so_far life (event ∷ rest) =
+    suit_all (node_says so_far event) (turn_of life event).commands && is_in_turn (node_after (node_says so_far event) (turn_of life event).commands) (turn_of life event).life rest
 
 -- WHAT IS AWAITED
 

@@ -1,7 +1,8 @@
 //! What holds of each run of the machine, whatever happens and in whatever order. The functions do nothing; their contracts are the laws.
-ghost use Rattle.std.specs.Prelude.{◌≡◌, [], ℕ, ◌+◌, ◌≤◌, ◌<◌, ◌&&◌, ◌||◌, not, List, ◌∷◌, count_by, nat_lt, ◌==◌, Some, None, true, false};
+ghost use Rattle.std.specs.Prelude.{◌≡◌, [], ℕ, ◌+◌, ◌≤◌, ◌<◌, ◌&&◌, ◌||◌, not, List, ◌∷◌, count_by, nat_lt, ◌==◌, if◌then◌else◌, Some, None, true, false};
 ghost use Rattle.std.specs.List.{AllByRecursion};
 ghost use Rattle.node_terms.specs.declared.mode.Mode.{Mode};
+ghost use Rattle.node_terms.specs.declared.mode.Mode.TheVariants.{Private};
 ghost use Rattle.request_life.specs.declared.facts.Choice.TheVariants.{Ask};
 ghost use Rattle.request_life.specs.declared.facts.Lookup.{Lookup as FoundLookup};
 ghost use Rattle.request_life.specs.declared.facts.Passage.{Passage as FoundPassage};
@@ -30,7 +31,7 @@ ghost use Rattle.request_life.specs.declared.stages.Stage.TheVariants as stages;
 ghost use Rattle.request_life.specs.Table.{turn};
 ghost use Rattle.request_life.specs.Rows.{Row};
 ghost use Rattle.request_life.specs.Runs.{unborn, life_at, turn_of, after, orders, times, moves_where, IsOnlyBy};
-ghost use Rattle.request_life.specs.Laws.{is_late, is_unserved, may_have_stale, is_passed_one, is_own, is_own_success, gives_one, wants_shared, wants_stored, is_submit_so, is_fetch_for_all, is_stream, is_cancel, is_begin, takes_by_answer, lets_join, lets_use_stored, is_for_part, may_stream, tells_so, came_back, is_forbidden, is_long_one, is_large, has_answered, says_done, may_have, shape_due, may_be_asked, may_be_answered, may_be_passed, may_be_tunnelled, is_receiving, is_submitted, is_asked, asked_in, told_in, is_open, opened_in, ended_in, one, is_submit_alone, has_unsendable, ends_connection_by, is_for_store_alone, is_to_send, answers_so, is_give, is_hit, is_fetched, is_stale, is_tunnel, is_early_one, is_submit, is_fetch, is_withdraw, is_pass_on, is_open_tunnel, is_sent, is_take_out, is_record, is_more_than_record, goes_further, is_again, ends_passage, says_nothing, says_nothing_unsent, says_nothing_in_time, has_broken, is_over, is_recorded, is_waiting, is_left, is_met_hit, has_stale, is_opened, aims_well, routes_well, bars, is_for_store, must_close, goes_on, said, sent_unsafe, pending_unsafe, unchanged_unsafe, taken_in, settled_in, awaited_in};
+ghost use Rattle.request_life.specs.Laws.{Absent, is_in_turn, behind, breaks_nothing, comes_for_nobody, goes_past, is_due_as, is_for_nobody, is_for_server, is_kept_apart, is_look_up, is_route, is_sendable, is_uncollected, is_unread, is_uploading, may_tunnel, turns_down, is_late, is_unserved, may_have_stale, is_passed_one, is_own, is_own_success, gives_one, wants_shared, wants_stored, is_submit_so, is_fetch_for_all, is_stream, is_cancel, is_begin, takes_by_answer, lets_join, lets_use_stored, is_for_part, may_stream, tells_so, came_back, is_forbidden, is_long_one, is_large, has_answered, says_done, may_have, shape_due, may_be_asked, may_be_answered, may_be_passed, may_be_tunnelled, is_receiving, is_submitted, is_asked, asked_in, told_in, is_open, opened_in, ended_in, one, is_submit_alone, has_unsendable, ends_connection_by, is_for_store_alone, is_to_send, answers_so, is_give, is_hit, is_fetched, is_stale, is_tunnel, is_early_one, is_submit, is_fetch, is_withdraw, is_pass_on, is_open_tunnel, is_sent, is_take_out, is_record, is_more_than_record, goes_further, is_again, ends_passage, says_nothing, says_nothing_unsent, says_nothing_in_time, has_broken, is_over, is_recorded, is_waiting, is_left, is_met_hit, has_stale, is_opened, aims_well, routes_well, bars, is_for_store, must_close, goes_on, said, sent_unsafe, pending_unsafe, unchanged_unsafe, taken_in, settled_in, awaited_in};
 
 /// Each turn of the table is one of its rows.
 pub fn each_turn_is_a_row()
@@ -186,4 +187,66 @@ pub fn refusals()
     ensures options { (events : List Event) → AllByRecursion (λ event. has_unsendable event ≡ true) events → times is_submit_alone events ≡ 0 }
     ensures passed { (events : List Event) → AllByRecursion (λ event. is_for_store_alone event ≡ true) events → times is_pass_on events ≡ 0 }
     ensures stored { (events : List Event) → AllByRecursion (λ event. is_for_store event ≡ true) events → times is_fetch events ≡ 0 }
+{}
+
+/// A request with content that the node may answer begins with that: it is collected first, and nothing is looked up before all of it has come,
+/// whatever else happens; one without is looked up at once. Content that is passed on comes as it is passed on, and until all of it has come, no
+/// answer leaves its connection open, since the rest of it is no request (RFC 9112, section 9.3); where there is none, none is waited for.
+pub fn its_content()
+    ensures begun { (old head : RequestHead) → may_be_answered head head.method ≡ true → head.is_too_long ≡ false → (turn old stages.Receiving (events.Received head)).commands ≡ (if head.has_content then does.Collect else does.LookUp) ∷ [] }
+    ensures collected { (events : List Event) → AllByRecursion (λ event. is_uncollected event ≡ true) events → times is_look_up events ≡ 0 }
+    ensures coming { (head : RequestHead) (p : FoundPassage) → may_be_passed p ≡ true → is_uploading (turn head stages.Routing (events.Routed p)).life.stage ≡ head.has_upload }
+    ensures amid { (head : RequestHead) (p : FoundPassage) (later : List Event) → head.has_upload ≡ true → AllByRecursion (λ event. is_unread event ≡ true) later → count_by goes_on (orders (life_at head stages.Routing) (events.Routed p ∷ later)) ≡ 0 }
+{}
+
+/// A request that the node may not answer, which wants no tunnel, and whose method is not passed on, or whose content has a coding that is not
+/// known here (RFC 9112, section 6.1), goes nowhere, whatever happens: it is told 501, and its connection ends. One that may be passed on is, and
+/// one for a tunnel is aimed there. Of what the node may answer, a GET is passed on only where its answer is known to be too long, and a HEAD
+/// only where a HEAD is passed on.
+pub fn where_it_goes()
+    ensures nowhere { (events : List Event) → AllByRecursion (λ event. comes_for_nobody event ≡ true) events → times is_sent events ≡ 0 }
+    ensures told { (old head : RequestHead) → is_for_nobody head ≡ true → (turn old stages.Receiving (events.Received head)).commands ≡ turns_down 501 }
+    ensures server { (old head : RequestHead) → is_for_server head ≡ true → (turn old stages.Receiving (events.Received head)).commands ≡ does.Route ∷ [] }
+    ensures tunnel { (old head : RequestHead) → may_tunnel head head.method ≡ true → head.is_too_long ≡ false → (turn old stages.Receiving (events.Received head)).commands ≡ does.Aim ∷ [] }
+    ensures past { (head : RequestHead) (round : Turn) (event : Event) → 0 < count_by is_route (turn head (stages.LookingUp round) event).commands → goes_past head event ≡ true }
+{}
+
+/// The node is told things in their order: a request is submitted, passed on, answered, or has the whole fetched for all, only where the node
+/// has nothing of it; from then on nothing but its line in the log is written until the node has said whether it takes it; and what it has taken,
+/// and not answered, is withdrawn before anything else is done, unless its answer is to be given while that is collected. So what is withdrawn
+/// was submitted before, and is not what is submitted next.
+pub fn in_turn()
+    ensures { (events : List Event) → is_in_turn Absent unborn events ≡ true }
+{}
+
+/// Behind its answer nothing is done for a request but to end what its client has broken: that is ended, what it has changed is taken out, and
+/// its line is written. Where its client breaks nothing, nothing but that line stands behind its answer: so what it has changed is taken out
+/// before its client is told so. What was passed on is never ended behind what it has changed was taken out.
+pub fn order_of_answers()
+    ensures further { (events : List Event) → behind is_give goes_further (orders unborn events) ≡ 0 }
+    ensures last { (events : List Event) → AllByRecursion (λ event. breaks_nothing event ≡ true) events → behind is_give is_more_than_record (orders unborn events) ≡ 0 }
+    ensures ended { (events : List Event) → behind is_take_out is_cancel (orders unborn events) ≡ 0 }
+{}
+
+/// A request is submitted the way that it was found to be: it joins a fetch for all unless that was overtaken by a change, is answered from the
+/// store alone, or is fetched for alone; the third for a part has the whole fetched for all before. Who has begun a fetch for all, and counts on no
+/// answer that has come by its origin, is given the answer while that is collected.
+pub fn what_is_submitted()
+    ensures due { (head : RequestHead) (lookup : FoundLookup) (round : Turn) (mode : Mode) → lookup.choice ≡ Ask mode → may_be_asked head lookup ≡ true → count_by (is_submit_so (is_due_as lookup mode)) (turn head (stages.LookingUp round) (events.Found lookup)).commands ≡ 1 }
+    ensures whole { (head : RequestHead) (lookup : FoundLookup) (round : Turn) → lookup.choice ≡ Ask Private → may_be_asked head lookup ≡ true → lookup.is_stored ≡ false → lookup.is_third_part ≡ true → (turn head (stages.LookingUp round) (events.Found lookup)).commands ≡ does.FetchForAll ∷ does.Submit Private ∷ [] }
+    ensures streamed { (head : RequestHead) (a : TakenRequest) (s : SubmittedRequest) → wants_shared s.mode ≡ true → may_stream head (events.Accepted a) ≡ true → a.has_stale ≡ false → (turn head (stages.Submitting s) (events.Accepted a)).commands ≡ does.Stream ∷ [] }
+{}
+
+/// Who has joined a fetch for all stays with it, unless its answer can't be stored, as the last one of its URL was not: only then it is withdrawn
+/// and fetched for alone, once, where its fields can be sent on and nothing stale may be given in place of that.
+pub fn who_stands_apart()
+    ensures only { (head : RequestHead) (stage : Stage) (event : Event) → is_submitted stage ≡ true → 0 < count_by is_submit (turn head stage event).commands → is_kept_apart event ≡ true }
+    ensures fetched { (head : RequestHead) (a : TakenRequest) (s : SubmittedRequest) → wants_shared s.mode ≡ true → s.is_second ≡ false → a.has_joined ≡ true → a.is_kept_out ≡ true → head.has_many_options ≡ false → (may_have_stale head s.mode && a.has_stale) ≡ false → (turn head (stages.Submitting s) (events.Accepted a)).commands ≡ does.Withdraw ∷ does.Submit Private ∷ [] }
+{}
+
+/// An answer whose Connection fields have too many options, so that what they name can't be left out (RFC 9110, section 7.6.1), is not given on:
+/// its client is told 502.
+pub fn what_is_given_on()
+    ensures only { IsOnlyBy (answers_so is_passed_one) is_sendable }
+    ensures told { (head : RequestHead) (content : Content) (p : AnswerHead) → p.has_many_options ≡ true → count_by (answers_so (is_own 502)) (turn head (stages.Passing content) (events.Passed (passages.Head p))).commands ≡ 1 }
 {}
