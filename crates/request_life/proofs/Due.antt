@@ -46,7 +46,9 @@ begun_with head false = refl
 
 pub content_is_first : (old head : RequestHead) → may_be_answered head head.method ≡ true → head.is_too_long ≡ false → (turn old stages.Receiving (events.Received head)).commands ≡ (if head.has_content then does.Collect else does.LookUp) ∷ []
 content_is_first old head node short =
-    ap (λ (t : Turn). t.commands) (on_true (is_for_node head) _ _ (sym (same_node head head.method) ∙ node) ∙ on_false head.is_too_long _ _ short) ∙ begun_with head head.has_content
+    let a : begins head ≡ cond head.has_content (goes head stages.Collecting (does.Collect ∷ [])) (goes head (stages.LookingUp First) (does.LookUp ∷ [])) =
+    on_true (is_for_node head) _ _ (sym (same_node head head.method) ∙ node) ∙ on_false head.is_too_long _ _ short in
+    ap (λ (t : Turn). t.commands) a ∙ begun_with head head.has_content
 
 pub collects_first : (head : RequestHead) (stage : Stage) (event : Event) (t : Turn) → Row head stage event t → count_by is_look_up t.commands + one (may_look_up t.life.stage) ≤ 4 * (one (may_look_up stage) + one (not (is_uncollected event)))
 collects_first head stage event t (rows.Unawaited h s e idle) = omega arith
@@ -240,15 +242,18 @@ submitted_as_due head lookup round mode is may =
 
 -- WHAT ITS SERVER HAS ANSWERED
 
-sends_on : (b : Bool) → 0 < cond {A = ℕ} (is_passed_one (if b then answers.Own 502 else answers.Passed)) 1 0 → not b ≡ true
-sends_on true some = absurd (omega arith)
-sends_on false some = refl
+sends_by : (b : Bool) → 0 < cond {A = ℕ} (is_passed_one (if b then answers.Own 502 else answers.Passed)) 1 0 → not b ≡ true
+sends_by true some = absurd (omega arith)
+sends_by false some = refl
+
+sends_on : (p : PassedHead) → 0 < cond {A = ℕ} (is_passed_one (answer_of p)) 1 0 → not p.has_many_options ≡ true
+sends_on p some = sends_by p.has_many_options some
 
 pub sendable_cause : (head : RequestHead) (stage : Stage) (event : Event) (t : Turn) → Row head stage event t → 0 < count_by (answers_so is_passed_one) t.commands → is_sendable event ≡ true
-sendable_cause head stage event t (rows.Passed_changed h content p dangerous says) some = sends_on p.has_many_options (omega arith)
-sendable_cause head stage event t (rows.Passed_open h content p dangerous unclear) some = sends_on p.has_many_options (omega arith)
-sendable_cause head stage event t (rows.Passed_safe h content p safe) some = sends_on p.has_many_options (omega arith)
-sendable_cause head stage event t (rows.Passed_unchanged h content p says unclear) some = sends_on p.has_many_options (omega arith)
+sendable_cause head stage event t (rows.Passed_changed h content p dangerous says) some = sends_on p (omega arith)
+sendable_cause head stage event t (rows.Passed_open h content p dangerous unclear) some = sends_on p (omega arith)
+sendable_cause head stage event t (rows.Passed_safe h content p safe) some = sends_on p (omega arith)
+sendable_cause head stage event t (rows.Passed_unchanged h content p says unclear) some = sends_on p (omega arith)
 sendable_cause head stage event t row some = absurd (omega arith)
 
 pub sendable_by : IsOnlyBy (answers_so is_passed_one) is_sendable

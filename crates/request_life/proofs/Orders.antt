@@ -183,13 +183,13 @@ amid_content contents.Sent = omega arith
 
 pub amid_gives : (head : RequestHead) (stage : Stage) (event : Event) (t : Turn) → Row head stage event t → count_by is_give t.commands ≤ amid stage + one (is_uploading stage)
 amid_gives head stage event t (rows.Unawaited h s e idle) = omega arith
-amid_gives head stage event t (rows.Passed_changed h content p dangerous says) = amid_content content
-amid_gives head stage event t (rows.Passed_open h content p dangerous unclear) = amid_content content
-amid_gives head stage event t (rows.Passed_safe h content p safe) = amid_content content
-amid_gives head stage event t (rows.Passed_unchanged h content p says unclear) = amid_content content
-amid_gives head stage event t (rows.Passed_refused h content) = amid_content content
-amid_gives head stage event t (rows.Unanswered_unsafe h content how unknown dangerous) = amid_content content
-amid_gives head stage event t (rows.Unanswered_safe h content how unknown safe) = amid_content content
+amid_gives head stage event t (rows.Passed_changed h content p dangerous says) = let a = amid_content content in omega arith
+amid_gives head stage event t (rows.Passed_open h content p dangerous unclear) = let a = amid_content content in omega arith
+amid_gives head stage event t (rows.Passed_safe h content p safe) = let a = amid_content content in omega arith
+amid_gives head stage event t (rows.Passed_unchanged h content p says unclear) = let a = amid_content content in omega arith
+amid_gives head stage event t (rows.Passed_refused h content) = let a = amid_content content in omega arith
+amid_gives head stage event t (rows.Unanswered_unsafe h content how unknown dangerous) = let a = amid_content content in omega arith
+amid_gives head stage event t (rows.Unanswered_safe h content how unknown safe) = let a = amid_content content in omega arith
 amid_gives head stage event t row = omega arith
 
 amid_small : (content : Content) → amid (stages.Passing content) ≤ 1
@@ -199,7 +199,7 @@ amid_small contents.Sent = omega arith
 
 pub amid_stays : (head : RequestHead) (stage : Stage) (event : Event) (t : Turn) → Row head stage event t → amid t.life.stage ≤ amid stage + one (not (is_unread event))
 amid_stays head stage event t (rows.Unawaited h s e idle) = omega arith
-amid_stays head stage event t (rows.Routed_on h p none) = amid_small (content_of h)
+amid_stays head stage event t (rows.Routed_on h p none) = let a = amid_small (content_of h) in omega arith
 amid_stays head stage event t row = omega arith
 
 closing : (head : RequestHead) (stage : Stage) (event : Event) → is_uploading stage ≡ true → count_by goes_on (turn head stage event).commands ≡ 0
@@ -219,7 +219,7 @@ amid_by head stage event false there =
 amid_from : (life : Life) (later : List Event) → amid life.stage ≡ 0 → AllByRecursion (λ event. is_unread event ≡ true) later → count_by goes_on (orders life later) ≡ 0
 amid_from life later none all =
     is_never_done goes_on (λ l. amid l.stage) is_unread
-    (λ l e. let a = amid_by l.head l.stage e (is_uploading l.stage) refl in
+    (λ l e. let a : count_by goes_on (turn_of l e).commands ≤ amid l.stage = amid_by l.head l.stage e (is_uploading l.stage) refl in
     let b = amid_stays l.head l.stage e _ (row_of l e) in
     omega arith) life later none all
 
@@ -229,8 +229,8 @@ routed_amid head None upload = ap (λ b. amid (stages.Passing (cond b contents.C
 
 pub unread_closes : (head : RequestHead) (p : Passage) (later : List Event) → head.has_upload ≡ true → AllByRecursion (λ event. is_unread event ≡ true) later → count_by goes_on (orders (life_at head stages.Routing) (events.Routed p ∷ later)) ≡ 0
 unread_closes head p later upload all =
-    let t = routed_by head (passage_fault p) in
-    let a : count_by (λ c. true && goes_on c) t.commands ≡ 0 =
+    let t = turn_of (life_at head stages.Routing) (events.Routed p) in
+    let a : count_by goes_on t.commands ≡ 0 =
     subst (λ b. count_by (λ c. b && goes_on c) t.commands ≡ 0) upload (closes_after head stages.Routing (events.Routed p)) in
     let b = amid_from t.life later (routed_amid head (passage_fault p) upload) all in
     let c = count_append goes_on t.commands (orders t.life later) in
