@@ -16,7 +16,7 @@ use Rattle.fetch_life.specs.declared.commands.Command.{Command}
 use Rattle.fetch_life.specs.declared.commands.Command.TheVariants as does
 use Rattle.fetch_life.specs.declared.stages.Flight.{Flight}
 use Rattle.fetch_life.specs.Table.{Turn, listed, brought, brings, is_replaced, is_for_all, is_origin, is_error, is_loss, stands_for, itself, object_of, object, is_kept, supplier_of, shelf_step, follows, is_own_supplier, is_superseded, is_gone, where_so, is_unanswered, is_changed, hands_in}
-use Rattle.fetch_life.specs.Laws.{one, may_be_stored, is_kept_object, comes_from, is_confirmed_one, is_stale_one, is_unwanted_one, is_server_error, is_outage, is_misnamed}
+use Rattle.fetch_life.specs.Laws.{one, is_kept_object, comes_from, is_confirmed_one, is_stale_one, is_unwanted_one, is_server_error, is_outage, is_misnamed}
 use Rattle.fetch_life.proofs.Measures.{is_confirming, is_down, is_odd, is_storable}
 use Rattle.fetch_life.specs.declared.facts.Fault.{Fault}
 use Rattle.fetch_life.specs.declared.facts.Fault.TheVariants as faults

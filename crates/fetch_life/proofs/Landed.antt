@@ -1,5 +1,5 @@
 -- What is done of a fetch that has landed, until it is over: what must not be lost, and what is nothing.
-use Rattle.std.proofs.Common.{◌≡◌, ◌==◌, ℕ, ◌+◌, ◌*◌, ◌≤◌, ◌<◌, List, [], ◌∷◌, ◌++◌, Option, Some, None, nat_le, nat_lt, Bool, true, false, not, ◌&&◌, ◌||◌, cond, arith, count_by, refl, sym, ◌∙◌, ap, subst}
+use Rattle.std.proofs.Common.{◌≡◌, ◌==◌, ℕ, ◌+◌, List, [], ◌∷◌, ◌++◌, Option, Bool, true, false, not, ◌&&◌, ◌||◌, cond, arith, count_by, refl, sym, ◌∙◌, ap, subst}
 use Rattle.std.proofs.lemmas.Bool.{eqb-true}
 use Rattle.fetch_life.specs.declared.facts.Failure.{Failure}
 use Rattle.fetch_life.specs.declared.facts.Fault.{Fault}
@@ -10,7 +10,7 @@ use Rattle.fetch_life.specs.declared.facts.Source.TheVariants.{Origin, Parent, S
 use Rattle.fetch_life.specs.declared.facts.End.{End}
 use Rattle.fetch_life.specs.declared.facts.End.TheVariants as ends
 use Rattle.fetch_life.specs.declared.commands.Brought.{Brought}
-use Rattle.fetch_life.specs.declared.commands.Brought.TheVariants.{Object, Nothing}
+use Rattle.fetch_life.specs.declared.commands.Brought.TheVariants.{Nothing}
 use Rattle.fetch_life.specs.declared.commands.Count.{Count}
 use Rattle.fetch_life.specs.declared.commands.Supplier.{Supplier}
 use Rattle.fetch_life.specs.declared.commands.Supplier.TheVariants as suppliers
@@ -22,14 +22,13 @@ use Rattle.fetch_life.specs.declared.stages.Exchange.{Exchange}
 use Rattle.fetch_life.specs.declared.stages.Fetch.{Fetch}
 use Rattle.fetch_life.specs.declared.stages.Flight.{Flight}
 use Rattle.fetch_life.specs.declared.stages.Landing.{Landing}
-use Rattle.fetch_life.specs.declared.stages.Reach.{Reach}
 use Rattle.fetch_life.specs.declared.stages.Stage.{Stage}
 use Rattle.fetch_life.specs.declared.stages.Stage.TheVariants as stages
-use Rattle.fetch_life.specs.Table.{Turn, turn, listed, lands, count_of, remakes, hands_in, brought, object, is_kept, is_replaced, is_for_all, is_origin, is_error, is_loss, is_lost, is_cut, is_connect, is_too_large, is_misanswer, is_gone, is_superseded, is_unanswered, is_changed, is_own_supplier, supersedes, follows, shelf_step, supplier_of, locked_at, broken_off, connects, opposite}
-use Rattle.fetch_life.specs.Runs.{fetch_at, turn_of, after, orders}
+use Rattle.fetch_life.specs.Table.{Turn, turn, listed, lands, count_of, remakes, hands_in, brought, object, is_kept, is_replaced, is_for_all, is_origin, is_error, is_loss, is_lost, is_cut, is_connect, is_too_large, is_misanswer, is_gone, is_superseded, is_own_supplier, supersedes, supplier_of, locked_at, broken_off}
+use Rattle.fetch_life.specs.Runs.{fetch_at, after, orders}
 use Rattle.fetch_life.specs.Laws.{one, hands, comes_from, is_object_one, is_stale_one, is_shelve, is_unshelve, is_on_shelf, is_ask_no_more, is_note_changed, is_over, is_in_flight, is_from_origin, is_outage, is_server_error, is_bad_answer, is_too_long, says_new, finds_other, tries}
 use Rattle.fetch_life.proofs.Measures.{due_at}
-use Rattle.fetch_life.proofs.Walk.{split, both, not_true}
+use Rattle.fetch_life.proofs.Walk.{split}
 use Rattle.fetch_life.proofs.Induction.{count_append}
 use Rattle.fetch_life.proofs.Handing.{on_shelf, hands_asked, hands_noted, hands_count, hands_over, shelves_other}
 use Rattle.fetch_life.proofs.Bringing.{same_outage}

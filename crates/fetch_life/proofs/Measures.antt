@@ -7,7 +7,7 @@ use Rattle.fetch_life.specs.declared.stages.Fetch.{Fetch}
 use Rattle.fetch_life.specs.declared.stages.Stage.{Stage}
 use Rattle.fetch_life.specs.declared.stages.Stage.TheVariants as stages
 use Rattle.fetch_life.specs.Table.{is_origin, is_too_large}
-use Rattle.fetch_life.specs.Laws.{one, is_first, is_other, is_server_error, is_outage, may_be_stored, Making, Unmade, Guarded, Delivered}
+use Rattle.fetch_life.specs.Laws.{one, is_first, is_other, is_server_error, is_outage, may_be_stored, Making, Unmade, Guarded, Delivered, Touch, Apart, Reaching, Asking}
 
 abbrev pub is_begun : Stage → Bool
 is_begun stages.Ordering = false
@@ -183,3 +183,9 @@ offers_due stage = 0
 abbrev pub due_at : ℕ → Stage → ℕ
 due_at n (stages.Landing l) = n
 due_at n stage = 0
+
+-- how far a fetch is with its server
+abbrev pub touch_at : Stage → Touch
+touch_at (stages.Connecting r) = Reaching
+touch_at (stages.Exchanging e) = Asking
+touch_at stage = Apart

@@ -1,5 +1,5 @@
 -- In which order things are done, how often a request is sent, and which fields it has.
-use Rattle.std.proofs.Common.{◌≡◌, ◌==◌, ℕ, ◌+◌, ◌*◌, ◌≤◌, ◌<◌, List, [], ◌∷◌, ◌++◌, Option, Some, None, Bool, true, false, not, ◌&&◌, ◌||◌, cond, arith, count_by, refl, sym, ◌∙◌, ap, subst}
+use Rattle.std.proofs.Common.{◌≡◌, ◌==◌, ℕ, ◌+◌, ◌*◌, ◌≤◌, List, [], ◌∷◌, ◌++◌, Bool, true, false, not, ◌&&◌, ◌||◌, cond, arith, count_by, refl, sym, ◌∙◌, ap, subst}
 use Rattle.std.specs.List.{AllByRecursion}
 use Rattle.fetch_life.specs.declared.facts.Failure.{Failure}
 use Rattle.fetch_life.specs.declared.facts.Order.{Order}
@@ -15,15 +15,15 @@ use Rattle.fetch_life.specs.declared.stages.Fetch.{Fetch}
 use Rattle.fetch_life.specs.declared.stages.Flight.{Flight}
 use Rattle.fetch_life.specs.declared.stages.Stage.{Stage}
 use Rattle.fetch_life.specs.declared.stages.Stage.TheVariants as stages
-use Rattle.fetch_life.specs.Table.{Turn, turn, listed, where_so, hands_in, shelf_step, brought, is_unanswered, is_changed, is_cut, may_first, may_other, asks, connects, opposite}
-use Rattle.fetch_life.specs.Rows.{Row}
+use Rattle.fetch_life.specs.Table.{Turn, turn, listed, where_so, hands_in, brought, is_unanswered, is_changed, is_cut, may_first, may_other, asks}
+use Rattle.fetch_life.specs.Rows.{Row, awaits}
 use Rattle.fetch_life.specs.Rows as rows
-use Rattle.fetch_life.specs.Runs.{unordered, turn_of, after, orders, times}
-use Rattle.fetch_life.specs.Laws.{one, Making, Unmade, Guarded, Delivered, made_of, is_its_turn, is_in_order, keeps, may_be_stored, lets_keep_nothing, is_send, is_offer, lets_send_again, renews, is_cut_short, sends_others, sends_both, leaves_out_codings, sends_unasked, same, goes_to, is_beside, is_unordered, is_from_origin, may_ask}
-use Rattle.fetch_life.proofs.Measures.{harm_storable, making_at, sends_due, sends_left, offers_due}
+use Rattle.fetch_life.specs.Runs.{unordered, turn_of, orders, times}
+use Rattle.fetch_life.specs.Laws.{one, Making, Unmade, Guarded, Delivered, made_of, is_its_turn, is_in_order, Apart, is_told_of, are_in_touch, touch_after, keeps_in_touch, keeps, may_be_stored, lets_keep_nothing, is_send, is_offer, lets_send_again, renews, is_cut_short, sends_others, sends_both, leaves_out_codings, sends_unasked, same, goes_to, is_beside, is_unordered, may_ask}
+use Rattle.fetch_life.proofs.Measures.{harm_storable, making_at, touch_at, sends_due, sends_left, offers_due}
 use Rattle.fetch_life.proofs.Walk.{both, turn_row}
 use Rattle.fetch_life.proofs.Induction.{is_never_done, is_fed, is_fed_thrice, is_matched}
-use Rattle.fetch_life.proofs.Handing.{shelf_case, shelves_kept, shelves_other, hands_count, hands_over}
+use Rattle.fetch_life.proofs.Handing.{shelf_case, shelves_kept, hands_count, hands_over}
 use Rattle.fetch_life.proofs.Bringing.{kept_is_storable}
 use Rattle.fetch_life.proofs.Steps.{Harmless, over_harm, small, twice, same_origin}
 use Rattle.fetch_life.proofs.Causes.{hands_none, same_cut, cut_so}
@@ -98,6 +98,57 @@ in_order_from fetch (event ∷ rest) =
 
 pub all_in_order : (events : List Event) → is_in_order Unmade (orders unordered events) ≡ true
 all_in_order events = in_order_from unordered events
+
+-- A SERVER IS REACHED, AND ASKED
+
+idle_touch : (f : Flight) (stage : Stage) (event : Event) → awaits f stage event ≡ false → is_told_of (touch_at stage) event ≡ touch_at stage
+idle_touch f (stages.Connecting r) events.Connected idle = absurd (cc)
+idle_touch f (stages.Connecting r) (events.Failed x) idle = absurd (cc)
+idle_touch f (stages.Connecting r) event idle = refl
+idle_touch f (stages.Exchanging e) (events.Failed x) idle = absurd (cc)
+idle_touch f (stages.Exchanging e) event idle = refl
+idle_touch f stage event idle = refl
+
+-- under the lock, what is done as a result is handed in has to do with no server
+abbrev KeepsApart : List Command → Type 0
+KeepsApart commands = (are_in_touch Apart commands ≡ true) × (touch_after Apart commands ≡ Apart)
+
+asked_apart : (b : Bool) (rest : List Command) → KeepsApart rest → KeepsApart (listed (where_so b does.AskNoMore) rest)
+asked_apart true rest e = e
+asked_apart false rest e = e
+
+noted_apart : (b : Bool) (rest : List Command) → KeepsApart rest → KeepsApart (listed (where_so b does.NoteChanged) rest)
+noted_apart true rest e = e
+noted_apart false rest e = e
+
+hands_apart : (f : Flight) (end : End) (b : Brought) → KeepsApart (hands_in f end b).commands
+unfolding hands_in
+hands_apart f end b =
+    let third : List Command = listed (where_so (is_changed f end) does.NoteChanged) (does.HandIn b ∷ []) in
+    let second : List Command = listed (where_so (is_unanswered f end) does.AskNoMore) third in
+    let a : KeepsApart third = noted_apart (is_changed f end) (does.HandIn b ∷ []) (refl, refl) in
+    let c : KeepsApart second = asked_apart (is_unanswered f end) third a in
+    shelf_case (λ o. KeepsApart (listed o second)) f end b c (λ _ _. c) c
+
+pub keeps_touch : (f : Flight) (stage : Stage) (event : Event) (t : Turn) → Row f stage event t → (are_in_touch (is_told_of (touch_at stage) event) t.commands ≡ true) × (touch_after (is_told_of (touch_at stage) event) t.commands ≡ touch_at t.fetch.stage)
+keeps_touch f stage event t (rows.Idle g s e idle) = (refl, idle_touch g s e idle)
+keeps_touch f stage event t (rows.Hands_in g o l) =
+    let b = brought g (o || l.is_remade) l.end in
+    let a = hands_apart g l.end b in
+    (a.0, a.1 ∙ ap (λ (x : Fetch). touch_at x.stage) (sym (hands_over g l.end b)))
+keeps_touch f stage event t row = (refl, refl)
+
+in_touch_from : (fetch : Fetch) (events : List Event) → keeps_in_touch (touch_at fetch.stage) fetch events ≡ true
+in_touch_from fetch [] = refl
+in_touch_from fetch (event ∷ rest) =
+    let next = turn_of fetch event in
+    let told = is_told_of (touch_at fetch.stage) event in
+    let a = keeps_touch fetch.flight fetch.stage event _ (row_of fetch event) in
+    both_true (are_in_touch told next.commands) (keeps_in_touch (touch_after told next.commands) next.fetch rest) a.0
+    (subst (λ m. keeps_in_touch m next.fetch rest ≡ true) (sym a.1) (in_touch_from next.fetch rest))
+
+pub all_in_touch : (events : List Event) → keeps_in_touch Apart unordered events ≡ true
+all_in_touch events = in_touch_from unordered events
 
 -- HOW OFTEN A REQUEST IS SENT
 

@@ -341,6 +341,61 @@ abbrev pub is_in_order : Making → List Command → Bool
 is_in_order so_far [] = true
 is_in_order so_far (command ∷ rest) = is_its_turn so_far command && is_in_order (made_of so_far command) rest
 
+-- how far it is with its server: apart from it, connecting, connected, or asking
+pub data Touch : Type 0 where
+  Apart : Touch
+  Reaching : Touch
+  Linked : Touch
+  Asking : Touch
+
+-- what an event tells of that
+abbrev pub by_connection : Event → Touch
+by_connection events.Connected = Linked
+by_connection (events.Failed x) = Apart
+by_connection event = Reaching
+
+abbrev pub by_exchange : Event → Touch
+by_exchange (events.Failed x) = Apart
+by_exchange event = Asking
+
+abbrev pub is_told_of : Touch → Event → Touch
+is_told_of Apart event = Apart
+is_told_of Reaching event = by_connection event
+is_told_of Linked event = Linked
+is_told_of Asking event = by_exchange event
+
+-- what a command makes of it: once a result is made or handed in, or it is begun anew, it is apart
+abbrev pub is_left_at : Touch → Command → Touch
+is_left_at so_far (does.Connect which) = Reaching
+is_left_at so_far (does.Reuse which) = Linked
+is_left_at so_far (does.Send request) = Asking
+is_left_at so_far (does.Make b) = Apart
+is_left_at so_far (does.HandIn b) = Apart
+is_left_at so_far does.Renew = Apart
+is_left_at so_far command = so_far
+
+-- whether a command may be done there: it is connected to a server, or takes a connection that was kept, where it is apart from any; it sends its
+-- request over a connection, once; and its answer is offered where it has sent it
+abbrev pub is_in_touch : Touch → Command → Bool
+is_in_touch Apart command = not (is_send command) && not (is_offer command)
+is_in_touch Reaching command = not (tries command) && not (is_offer command)
+is_in_touch Linked command = is_send command
+is_in_touch Asking command = not (tries command)
+
+abbrev pub are_in_touch : Touch → List Command → Bool
+are_in_touch so_far [] = true
+are_in_touch so_far (command ∷ rest) = is_in_touch so_far command && are_in_touch (is_left_at so_far command) rest
+
+abbrev pub touch_after : Touch → List Command → Touch
+touch_after so_far [] = so_far
+touch_after so_far (command ∷ rest) = touch_after (is_left_at so_far command) rest
+
+-- whether all that is done in a run is done there
+abbrev pub keeps_in_touch : Touch → Fetch → List Event → Bool
+keeps_in_touch so_far fetch [] = true
+keeps_in_touch so_far fetch (event ∷ rest) =
+    are_in_touch (is_told_of so_far event) (turn_of fetch event).commands && keeps_in_touch (touch_after (is_told_of so_far event) (turn_of fetch event).commands) (turn_of fetch event).fetch rest
+
 -- EVENTS
 
 -- a complete answer has come

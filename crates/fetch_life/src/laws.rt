@@ -20,7 +20,7 @@ ghost use Rattle.fetch_life.specs.declared.stages.Stage.TheVariants as stages;
 ghost use Rattle.fetch_life.specs.Rows.{Row};
 ghost use Rattle.fetch_life.specs.Runs.{after, fetch_at, orders, times, turn_of, unordered, IsOnlyBy};
 ghost use Rattle.fetch_life.specs.Table.{turn};
-ghost use Rattle.fetch_life.specs.Laws.{is_in_order, Unmade, lets_keep_nothing, may_ask, is_send, lets_send_again, sends_others, sends_both, leaves_out_codings, sends_unasked, says_new, finds_other, is_bad_answer, is_too_long, is_server_error, is_on_shelf, is_ask_no_more, is_note_changed, is_question, is_asked, told, made, FitsMade, counts_as, is_success, is_refusal, is_failure, is_want, is_answer, is_fault, is_denial, is_desertion, is_object_one, is_kept_object, is_misnamed, is_from_origin, is_outage, is_unshelve, is_not_telling, is_either, is_beside, is_unreached, is_unconnected, is_cut_short, is_connecting, is_in_flight, is_under_way, is_unordered, has_way, sends_unlike, tries, one, steps, is_landing, is_exchanging, is_renewing, keeps_or_confirms, is_any, is_count, is_hand_in, is_unwanted_one, renews, may_be_left, is_confirmed_one, is_stale_one, comes_from, hands, is_shelve, keeps, is_first, is_other, goes_to, is_offer, sends_clients, sends_conditions, is_not_for_all, is_not_private, is_not_of_origin, is_not_asking, confirms_nothing, is_not_down, is_not_unchanged, bars_first, bars_other, is_over};
+ghost use Rattle.fetch_life.specs.Laws.{is_in_order, Unmade, Apart, keeps_in_touch, lets_keep_nothing, may_ask, is_send, lets_send_again, sends_others, sends_both, leaves_out_codings, sends_unasked, says_new, finds_other, is_bad_answer, is_too_long, is_server_error, is_on_shelf, is_ask_no_more, is_note_changed, is_question, is_asked, told, made, FitsMade, counts_as, is_success, is_refusal, is_failure, is_want, is_answer, is_fault, is_denial, is_desertion, is_object_one, is_kept_object, is_misnamed, is_from_origin, is_outage, is_unshelve, is_not_telling, is_either, is_beside, is_unreached, is_unconnected, is_cut_short, is_connecting, is_in_flight, is_under_way, is_unordered, has_way, sends_unlike, tries, one, steps, is_landing, is_exchanging, is_renewing, keeps_or_confirms, is_any, is_count, is_hand_in, is_unwanted_one, renews, may_be_left, is_confirmed_one, is_stale_one, comes_from, hands, is_shelve, keeps, is_first, is_other, goes_to, is_offer, sends_clients, sends_conditions, is_not_for_all, is_not_private, is_not_of_origin, is_not_asking, confirms_nothing, is_not_down, is_not_unchanged, bars_first, bars_other, is_over};
 
 /// Each turn of the table is one of its rows.
 pub fn each_turn_is_a_row()
@@ -160,6 +160,12 @@ pub fn requests()
 /// noted, and an object is handed in, under that lock alone; and handing in is the last that is done.
 pub fn in_order()
     ensures { (events : List Event) → is_in_order Unmade (orders unordered events) ≡ true }
+{}
+
+/// A request is sent once a server is connected to, or a connection to it was taken that was kept, and once over each connection; none is connected
+/// to while there is one that has not failed; and an answer is offered only to a request that was sent.
+pub fn in_touch()
+    ensures { (events : List Event) → keeps_in_touch Apart unordered events ≡ true }
 {}
 
 /// A request is sent once more only where its connection ended before an octet of an answer came, or where its fetch is begun anew, and at most
