@@ -1,10 +1,9 @@
 -- What a request begins with, where it goes, and what must not be lost.
-use Rattle.std.proofs.Common.{◌≡◌, ◌==◌, ℕ, ◌+◌, ◌*◌, ◌≤◌, ◌<◌, List, [], ◌∷◌, Option, Some, None, if◌then◌else◌, Bool, true, false, not, ◌&&◌, ◌||◌, cond, arith, count_by, refl, sym, ◌∙◌, ap, subst}
+use Rattle.std.proofs.Common.{◌≡◌, ℕ, ◌+◌, ◌*◌, ◌≤◌, ◌<◌, List, [], ◌∷◌, None, if◌then◌else◌, Bool, true, false, not, ◌&&◌, ◌||◌, cond, arith, count_by, refl, sym, ◌∙◌, ap}
 use Rattle.std.specs.List.{AllByRecursion}
 use Rattle.node_terms.specs.declared.mode.Mode.{Mode}
 use Rattle.node_terms.specs.declared.mode.Mode.TheVariants.{Shared, Cached, Private}
 use Rattle.fair_use.specs.Unanswered.{is_carried_out}
-use Rattle.request_life.specs.declared.facts.Choice.{Choice}
 use Rattle.request_life.specs.declared.facts.Choice.TheVariants.{Ask}
 use Rattle.request_life.specs.declared.facts.Lookup.{Lookup}
 use Rattle.request_life.specs.declared.facts.Method.{Method}
@@ -12,7 +11,6 @@ use Rattle.request_life.specs.declared.facts.Method.TheVariants as methods
 use Rattle.request_life.specs.declared.facts.Passage.{Passage}
 use Rattle.request_life.specs.declared.facts.RequestHead.{RequestHead}
 use Rattle.request_life.specs.declared.commands.Answer.TheVariants as answers
-use Rattle.request_life.specs.declared.commands.Command.{Command}
 use Rattle.request_life.specs.declared.commands.Command.TheVariants as does
 use Rattle.request_life.specs.declared.events.Acceptance.{Acceptance}
 use Rattle.request_life.specs.declared.events.Event.{Event}
@@ -26,11 +24,11 @@ use Rattle.request_life.specs.declared.stages.Round.TheVariants.{First}
 use Rattle.request_life.specs.declared.stages.Stage.{Stage}
 use Rattle.request_life.specs.declared.stages.Stage.TheVariants as stages
 use Rattle.request_life.specs.declared.stages.Submission.{Submission}
-use Rattle.request_life.specs.Table.{Turn, turn, goes, turn_down, routed_by, answer_of, asks, bar_of, begins, beside, chosen, fault_of, found_under, goes_beside, is_first, is_for_node, is_get, is_head, is_connect, is_private, is_shared, is_unclear, opens_tunnel, passage_fault, stands_apart, submits, submits_part, taken, takes_stale, unless_barred}
+use Rattle.request_life.specs.Table.{Turn, turn, goes, turn_down, routed_by, answer_of, asks, bar_of, begins, beside, chosen, found_under, goes_beside, is_first, is_for_node, is_get, is_head, is_connect, is_private, is_shared, is_unclear, opens_tunnel, stands_apart, submits, submits_part, takes_stale, unless_barred}
 use Rattle.request_life.specs.Rows.{Row}
 use Rattle.request_life.specs.Rows as rows
-use Rattle.request_life.specs.Runs.{unborn, turn_of, after, orders, times, IsOnlyBy}
-use Rattle.request_life.specs.Laws.{one, answers_so, comes_for_nobody, goes_past, is_due_as, is_for_nobody, is_for_server, is_get_one, is_head_one, is_kept_apart, is_look_up, is_looking_up, is_own, is_passed_one, is_route, is_sendable, is_sent, is_submit, is_submit_so, is_submitted, is_uncollected, is_uploading, is_url, may_be_answered, may_be_asked, may_be_passed, may_have_stale, may_stream, may_tunnel, wants_own, wants_shared, wants_stored}
+use Rattle.request_life.specs.Runs.{unborn, times, IsOnlyBy}
+use Rattle.request_life.specs.Laws.{one, answers_so, comes_for_nobody, goes_past, is_due_as, is_for_nobody, is_for_server, is_get_one, is_head_one, is_kept_apart, is_look_up, is_looking_up, is_own, is_passed_one, is_route, is_sendable, is_sent, is_submit, is_submit_so, is_submitted, is_uncollected, is_uploading, is_url, may_be_answered, may_be_asked, may_be_passed, may_have_stale, may_stream, may_tunnel, wants_own, wants_shared}
 use Rattle.request_life.proofs.Measures.{may_go, may_look_up}
 use Rattle.request_life.proofs.Walk.{split, both, not_true, turn_row}
 use Rattle.request_life.proofs.Induction.{is_never_done}

@@ -1,5 +1,5 @@
 -- In which order things are done, and which answers leave a connection open.
-use Rattle.std.proofs.Common.{◌≡◌, ◌==◌, ℕ, ◌+◌, ◌-◌, ◌*◌, ◌≤◌, ◌<◌, List, [], ◌∷◌, ◌++◌, Option, Some, None, Bool, true, false, not, ◌&&◌, ◌||◌, cond, arith, count_by, refl, sym, ◌∙◌, ap, subst}
+use Rattle.std.proofs.Common.{◌≡◌, ℕ, ◌+◌, ◌-◌, ◌*◌, ◌≤◌, ◌<◌, List, [], ◌∷◌, ◌++◌, Option, Some, None, Bool, true, false, not, ◌&&◌, cond, arith, count_by, refl, sym, ◌∙◌, ap, subst}
 use Rattle.std.specs.List.{AllByRecursion}
 use Rattle.request_life.specs.declared.facts.RequestHead.{RequestHead}
 use Rattle.request_life.specs.declared.facts.Passage.{Passage}
@@ -17,10 +17,10 @@ use Rattle.request_life.specs.declared.stages.Stage.TheVariants as stages
 use Rattle.request_life.specs.Table.{Turn, turn, content_of, routed_by, passage_fault}
 use Rattle.request_life.specs.Rows.{Row, awaits, is_early}
 use Rattle.request_life.specs.Rows as rows
-use Rattle.request_life.specs.Runs.{unborn, life_at, turn_of, after, orders}
-use Rattle.request_life.specs.Laws.{one, AtNode, Absent, Submitted, Queued, node_says, node_hears, node_after, suits, suit_all, is_in_turn, behind, leaves_waiting, is_give, is_take_out, is_cancel, is_more_than_record, goes_further, goes_on, has_broken, is_uploading, is_unread, breaks_nothing, must_close}
-use Rattle.request_life.proofs.Measures.{node_at, is_answered, is_done, is_closed, amid}
-use Rattle.request_life.proofs.Walk.{both, turn_row}
+use Rattle.request_life.specs.Runs.{unborn, life_at, turn_of, orders}
+use Rattle.request_life.specs.Laws.{one, AtNode, Absent, Queued, node_says, node_after, suit_all, is_in_turn, behind, leaves_waiting, is_give, is_take_out, is_cancel, is_more_than_record, goes_further, goes_on, has_broken, is_uploading, is_unread, breaks_nothing}
+use Rattle.request_life.proofs.Measures.{node_at, is_answered, is_closed, amid}
+use Rattle.request_life.proofs.Walk.{turn_row}
 use Rattle.request_life.proofs.Induction.{count_append, one_more, is_never_done}
 use Rattle.request_life.proofs.Steps.{give_adds}
 use Rattle.request_life.proofs.Whole.{row_of, one_at_most, all_true, quiet_from, silent_from, done_unless_broken, closes_after}
