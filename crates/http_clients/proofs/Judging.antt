@@ -1,5 +1,5 @@
 -- Servers that are judged one by one, and those that are chosen of them.
-use Rattle.std.proofs.Common.{◌≡◌, ◌<◌, ◌+◌, ℕ, Bool, List, [], ◌∷◌, ◌++◌, Option, Some, None, IfSome, get_or, length, subst, sym, take}
+use Rattle.std.proofs.Common.{◌≡◌, ◌<◌, ◌+◌, ℕ, Bool, List, [], ◌∷◌, ◌++◌, Option, Some, None, get_or, length, subst, sym, take}
 use Rattle.std.specs.List.{AllZip}
 use Rattle.std.proofs.lemmas.Slice.Zip.{all_zipped_more}
 use Rattle.std.proofs.lemmas.List.{take_more}
@@ -8,14 +8,10 @@ use Rattle.origin_rules.specs.declared.admitted.Admitted.{Admitted}
 use Rattle.origin_rules.specs.Chosen.{chosen}
 use Rattle.http_clients.specs.Judged.{IsJudged, AreJudged, AllJudged}
 
-both : {A : Type 0} (P Q : A → Type 0) (one : Option A) → IfSome one P → IfSome one Q → IfSome one (λ it. P it × Q it)
-both P Q None p q = tt
-both P Q (Some it) p q = (p, q)
-
 -- one more is judged, the one at this place
-pub judged_at : (by_rules : Bool) (servers : List SocketAddr) (judged after : List (Option Admitted)) (i : ℕ) (one : Option Admitted) (other : SocketAddr) → i < length servers → after ≡ judged ++ one ∷ [] → AreJudged by_rules (take i servers) judged → IfSome one (λ it. it.server ≡ get_or servers i other) → IfSome one (λ it. it.is_judged ≡ by_rules) → AreJudged by_rules (take (i + 1) servers) after
-judged_at by_rules servers judged after i one other lt is before same judges =
-    let this = both (λ it. it.server ≡ get_or servers i other) (λ it. it.is_judged ≡ by_rules) one same judges in
+pub judged_at : (by_rules : Bool) (servers : List SocketAddr) (judged after : List (Option Admitted)) (i : ℕ) (one : Option Admitted) (other : SocketAddr) → i < length servers → after ≡ judged ++ one ∷ [] → AreJudged by_rules (take i servers) judged
+    → IsJudged by_rules (get_or servers i other) one → AreJudged by_rules (take (i + 1) servers) after
+judged_at by_rules servers judged after i one other lt is before this =
     let step : AreJudged by_rules (take i servers ++ get_or servers i other ∷ []) (judged ++ one ∷ []) =
     all_zipped_more (IsJudged by_rules) (take i servers) judged (get_or servers i other) one before this in
     subst (λ l. AreJudged by_rules (take (i + 1) servers) l) (sym is)

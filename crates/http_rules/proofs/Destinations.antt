@@ -78,6 +78,7 @@ unrooted key behind rest p left place r root = subst (λ text. is_nowhere text �
   where
     at : is_rooted (drop (authority_len behind) behind) ≡ false
     at = ap (λ n. is_rooted (drop n behind)) (sym place) ∙ ap is_rooted (sym r) ∙ root
+
     by_root : (text : List ℕ) → is_rooted (drop (authority_len text) text) ≡ false → is_nowhere text ≡ true
     by_root text e =
         ap (λ b. not b || is_none (port_behind (drop (name_len (take (authority_len text) text)) (take (authority_len text) text)))) e
@@ -93,10 +94,12 @@ unnumbered key behind host written p n left place h named after none = subst (λ
   where
     whole : host ≡ take (authority_len behind) behind
     whole = h ∙ ap (λ k. take k behind) place
+
     at : port_behind (drop (name_len (take (authority_len behind) behind)) (take (authority_len behind) behind)) ≡ None
     at =
         sym (ap (λ l. port_behind (drop (name_len l) l)) whole) ∙ ap (λ k. port_behind (drop k host)) (sym named)
         ∙ ap port_behind (sym after) ∙ none
+
     by_port : (text : List ℕ) → port_behind (drop (name_len (take (authority_len text) text)) (take (authority_len text) text)) ≡ None
         → is_nowhere text ≡ true
     by_port text e = ap (λ o. not (is_rooted (drop (authority_len text) text)) || is_none o) e ∙ or_true (not (is_rooted (drop (authority_len text) text)))

@@ -281,7 +281,7 @@ fn object_by(
     body: Vec<u8>,
     date: &[u8],
 ) -> Result<SharedObject, PassFault>
-    requires status { IfSome storable.entry (λ it. it.status ≡ received.entry.status) }
+    requires status { IfSome storable (λ it. it.status ≡ received.status) }
     ensures status { IfOk result (λ object. object.status ≡ received.entry.status) }
     ensures unkept { storable.entry ≡ None → IfOk result (λ object. object.life ≡ 0) }
 {
