@@ -1,22 +1,18 @@
 -- What is brought and handed in.
-use Rattle.std.proofs.Common.{◌≡◌, ◌==◌, ℕ, ◌+◌, ◌*◌, ◌≤◌, List, [], ◌∷◌, length, Option, Some, None, Bool, true, false, not, ◌&&◌, ◌||◌, cond, count_by, refl, sym, ◌∙◌, ap, subst, arith}
+use Rattle.std.proofs.Common.{◌≡◌, ◌==◌, ℕ, ◌≤◌, Bool, true, false, not, ◌&&◌, ◌||◌, refl, sym, ◌∙◌, ap, subst, arith}
 use Rattle.std.proofs.lemmas.Grind.{common_steps}
 use Rattle.fetch_life.specs.declared.facts.Page.{Page}
-use Rattle.fetch_life.specs.declared.facts.Failure.{Failure}
 use Rattle.fetch_life.specs.declared.facts.Source.{Source}
 use Rattle.fetch_life.specs.declared.facts.Source.TheVariants.{Origin, Parent, Sibling}
 use Rattle.fetch_life.specs.declared.facts.End.{End}
 use Rattle.fetch_life.specs.declared.facts.End.TheVariants as ends
 use Rattle.fetch_life.specs.declared.commands.Supplier.{Supplier}
 use Rattle.fetch_life.specs.declared.commands.Supplier.TheVariants as suppliers
-use Rattle.fetch_life.specs.declared.commands.BroughtObject.{BroughtObject}
 use Rattle.fetch_life.specs.declared.commands.Brought.{Brought}
-use Rattle.fetch_life.specs.declared.commands.Brought.TheVariants.{Object, Nothing}
-use Rattle.fetch_life.specs.declared.commands.Command.{Command}
-use Rattle.fetch_life.specs.declared.commands.Command.TheVariants as does
+use Rattle.fetch_life.specs.declared.commands.Brought.TheVariants.{Nothing}
 use Rattle.fetch_life.specs.declared.stages.Flight.{Flight}
-use Rattle.fetch_life.specs.Table.{Turn, listed, brought, brings, is_replaced, is_for_all, is_origin, is_error, is_loss, stands_for, itself, object_of, object, is_kept, supplier_of, shelf_step, follows, is_own_supplier, is_superseded, is_gone, where_so, is_unanswered, is_changed, hands_in}
-use Rattle.fetch_life.specs.Laws.{one, is_kept_object, comes_from, is_confirmed_one, is_stale_one, is_unwanted_one, is_server_error, is_outage, is_misnamed}
+use Rattle.fetch_life.specs.Table.{brought, brings, is_replaced, is_for_all, is_origin, is_error, is_loss, stands_for, itself, object_of, object, is_kept, supplier_of}
+use Rattle.fetch_life.specs.Laws.{one, is_kept_object, comes_from, is_confirmed_one, is_stale_one, is_unwanted_one, is_outage, is_misnamed}
 use Rattle.fetch_life.proofs.Measures.{is_confirming, is_down, is_odd, is_storable}
 use Rattle.fetch_life.specs.declared.facts.Fault.{Fault}
 use Rattle.fetch_life.specs.declared.facts.Fault.TheVariants as faults

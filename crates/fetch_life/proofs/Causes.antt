@@ -1,5 +1,5 @@
 -- What holds of each row: why something is counted, tried once more, or taken off the shelf, and what stays as it was.
-use Rattle.std.proofs.Common.{◌≡◌, ◌==◌, ℕ, ◌+◌, ◌*◌, ◌≤◌, ◌<◌, List, [], ◌∷◌, Bool, true, false, not, ◌&&◌, ◌||◌, cond, arith, count_by, refl, sym, ◌∙◌, ap, subst}
+use Rattle.std.proofs.Common.{◌≡◌, ℕ, ◌+◌, ◌*◌, ◌≤◌, ◌<◌, Bool, true, false, not, ◌&&◌, ◌||◌, cond, arith, count_by, refl, sym, ◌∙◌, ap}
 use Rattle.fetch_life.specs.declared.facts.Fault.{Fault}
 use Rattle.fetch_life.specs.declared.facts.Fault.TheVariants as faults
 use Rattle.fetch_life.specs.declared.facts.Source.{Source}

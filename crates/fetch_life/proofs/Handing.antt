@@ -1,16 +1,14 @@
 -- What is done when a result is handed in.
-use Rattle.std.proofs.Common.{◌≡◌, ◌==◌, ℕ, ◌+◌, ◌*◌, ◌≤◌, List, [], ◌∷◌, ◌++◌, Option, Some, None, Bool, true, false, not, ◌&&◌, ◌||◌, cond, count_by, refl, sym, ◌∙◌, ap, arith}
+use Rattle.std.proofs.Common.{◌≡◌, ℕ, ◌+◌, ◌≤◌, List, [], ◌∷◌, Option, Some, None, Bool, true, false, not, ◌&&◌, ◌||◌, cond, count_by, refl, ap, arith}
 use Rattle.fetch_life.specs.declared.facts.End.{End}
 use Rattle.fetch_life.specs.declared.facts.End.TheVariants as ends
-use Rattle.fetch_life.specs.declared.commands.BroughtObject.{BroughtObject}
 use Rattle.fetch_life.specs.declared.commands.Brought.{Brought}
 use Rattle.fetch_life.specs.declared.commands.Brought.TheVariants.{Object, Nothing, Unwanted}
 use Rattle.fetch_life.specs.declared.commands.Command.{Command}
 use Rattle.fetch_life.specs.declared.commands.Command.TheVariants as does
-use Rattle.fetch_life.specs.declared.stages.Fetch.{Fetch}
 use Rattle.fetch_life.specs.declared.stages.Flight.{Flight}
 use Rattle.fetch_life.specs.declared.stages.Stage.TheVariants as stages
-use Rattle.fetch_life.specs.Table.{Turn, listed, hands_in, shelf_step, follows, is_own_supplier, is_superseded, is_gone, is_origin, where_so, is_unanswered, is_changed, brought, is_replaced, is_for_all, is_too_large}
+use Rattle.fetch_life.specs.Table.{listed, hands_in, shelf_step, is_own_supplier, is_superseded, is_gone, is_origin, where_so, is_unanswered, is_changed, brought, is_replaced, is_for_all, is_too_large}
 use Rattle.fetch_life.specs.Laws.{one, is_ask_no_more, is_note_changed, is_kept_object, is_shelve, is_unshelve, keeps, keeps_or_confirms}
 use Rattle.fetch_life.proofs.Measures.{is_telling}
 use Rattle.fetch_life.proofs.Walk.{split, both}

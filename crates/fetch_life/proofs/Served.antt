@@ -1,18 +1,13 @@
 -- What is done where it may be, and what is handed in: by the table itself.
-use Rattle.std.proofs.Common.{◌≡◌, ◌==◌, ℕ, ◌+◌, ◌*◌, ◌≤◌, ◌<◌, List, [], ◌∷◌, ◌++◌, Option, Some, None, Bool, true, false, not, ◌&&◌, ◌||◌, cond, arith, count_by, refl, sym, ◌∙◌, ap, subst}
+use Rattle.std.proofs.Common.{◌≡◌, ◌==◌, ℕ, ◌+◌, List, [], ◌∷◌, ◌++◌, Option, Some, None, Bool, true, false, not, ◌&&◌, ◌||◌, cond, arith, count_by, refl, sym, ◌∙◌, ap, subst}
 use Rattle.std.specs.List.{AllByRecursion}
 use Rattle.fetch_life.specs.declared.facts.Addresses.{Addresses}
 use Rattle.fetch_life.specs.declared.facts.Failure.{Failure}
-use Rattle.fetch_life.specs.declared.facts.Fault.{Fault}
-use Rattle.fetch_life.specs.declared.facts.Fault.TheVariants as faults
-use Rattle.fetch_life.specs.declared.facts.Order.{Order}
 use Rattle.fetch_life.specs.declared.facts.Page.{Page}
-use Rattle.fetch_life.specs.declared.facts.Source.{Source}
-use Rattle.fetch_life.specs.declared.facts.Source.TheVariants.{Origin, Parent, Sibling}
 use Rattle.fetch_life.specs.declared.facts.End.{End}
 use Rattle.fetch_life.specs.declared.facts.End.TheVariants as ends
 use Rattle.fetch_life.specs.declared.commands.Brought.{Brought}
-use Rattle.fetch_life.specs.declared.commands.Brought.TheVariants.{Object, Nothing}
+use Rattle.fetch_life.specs.declared.commands.Brought.TheVariants.{Nothing}
 use Rattle.fetch_life.specs.declared.commands.Supplier.{Supplier}
 use Rattle.fetch_life.specs.declared.commands.Supplier.TheVariants as suppliers
 use Rattle.fetch_life.specs.declared.commands.Command.{Command}
@@ -28,12 +23,12 @@ use Rattle.fetch_life.specs.declared.stages.Landing.{Landing}
 use Rattle.fetch_life.specs.declared.stages.Reach.{Reach}
 use Rattle.fetch_life.specs.declared.stages.Stage.{Stage}
 use Rattle.fetch_life.specs.declared.stages.Stage.TheVariants as stages
-use Rattle.fetch_life.specs.Table.{Turn, turn, listed, lands, remakes, hands_in, brought, brings, stands_for, itself, object, object_of, is_kept, is_replaced, is_for_all, is_origin, is_error, is_loss, is_fragile, is_lost, is_stale, locked_at, shelf_step, supplier_of, where_so, is_unanswered, is_changed, may_first, may_other, reuses, connects, opposite, is_connect, not_connected}
+use Rattle.fetch_life.specs.Table.{Turn, turn, listed, lands, hands_in, brought, brings, stands_for, object, is_kept, is_replaced, is_for_all, is_origin, is_error, is_loss, is_fragile, is_lost, is_stale, locked_at, supplier_of, where_so, is_unanswered, is_changed, may_first, may_other, opposite, is_connect}
 use Rattle.fetch_life.specs.Rows.{Row}
 use Rattle.fetch_life.specs.Rows as rows
 use Rattle.fetch_life.specs.Runs.{unordered, fetch_at, turn_of, after, orders}
-use Rattle.fetch_life.specs.Laws.{one, made, made_by, FitsMade, hands, is_object_one, is_kept_object, is_stale_one, is_confirmed_one, comes_from, is_landing, is_unordered, is_outage, goes_to, is_either, is_beside, is_first, is_other, has_way, is_from_origin, is_unreached}
-use Rattle.fetch_life.proofs.Walk.{split, both, not_true, turn_row}
+use Rattle.fetch_life.specs.Laws.{one, made, made_by, FitsMade, hands, is_object_one, is_kept_object, is_stale_one, is_confirmed_one, comes_from, is_landing, is_outage, goes_to, is_either, is_beside, has_way, is_from_origin, is_unreached}
+use Rattle.fetch_life.proofs.Walk.{split, turn_row}
 use Rattle.fetch_life.proofs.Induction.{count_append}
 use Rattle.fetch_life.proofs.Handing.{shelf_case, hands_count, hands_over, shelves_other}
 use Rattle.fetch_life.proofs.Bringing.{same_outage}

@@ -1,5 +1,5 @@
 -- What holds of each row.
-use Rattle.std.proofs.Common.{◌≡◌, ◌==◌, ℕ, ◌+◌, ◌*◌, ◌≤◌, List, [], ◌∷◌, Bool, true, false, not, ◌&&◌, ◌||◌, cond, arith, count_by, refl, sym, ◌∙◌, ap}
+use Rattle.std.proofs.Common.{◌≡◌, ◌==◌, ℕ, ◌+◌, ◌*◌, ◌≤◌, Bool, true, false, not, ◌&&◌, ◌||◌, cond, arith, count_by, refl, ◌∙◌, ap}
 use Rattle.fetch_life.specs.declared.facts.Order.{Order}
 use Rattle.fetch_life.specs.declared.facts.Page.{Page}
 use Rattle.fetch_life.specs.declared.facts.Source.{Source}
@@ -8,22 +8,19 @@ use Rattle.fetch_life.specs.declared.facts.End.{End}
 use Rattle.fetch_life.specs.declared.facts.End.TheVariants as ends
 use Rattle.fetch_life.specs.declared.commands.Brought.{Brought}
 use Rattle.fetch_life.specs.declared.commands.Command.{Command}
-use Rattle.fetch_life.specs.declared.commands.Which.{Which}
-use Rattle.fetch_life.specs.declared.commands.Which.TheVariants.{First, Other}
 use Rattle.fetch_life.specs.declared.events.Event.{Event}
 use Rattle.fetch_life.specs.declared.events.Event.TheVariants as events
 use Rattle.fetch_life.specs.declared.stages.Fetch.{Fetch}
 use Rattle.fetch_life.specs.declared.stages.Flight.{Flight}
-use Rattle.fetch_life.specs.declared.stages.Landing.{Landing}
 use Rattle.fetch_life.specs.declared.stages.Stage.{Stage}
 use Rattle.fetch_life.specs.declared.stages.Stage.TheVariants as stages
 use Rattle.fetch_life.specs.Table.{Turn, brought, hands_in, is_origin, asks, may_first, may_other, opposite}
 use Rattle.fetch_life.specs.Rows.{Row, awaits}
 use Rattle.fetch_life.specs.Rows as rows
-use Rattle.fetch_life.specs.Laws.{one, is_any, is_hand_in, is_kept_object, is_confirmed_one, is_stale_one, comes_from, hands, is_shelve, keeps, is_first, is_other, goes_to, is_offer, sends_clients, sends_conditions, is_not_for_all, is_not_private, is_not_of_origin, is_not_asking, confirms_nothing, is_not_down, is_not_unchanged, bars_first, bars_other, is_over, is_count, is_unwanted_one, renews, is_from_origin, may_ask, keeps_or_confirms, is_awaited, is_landing, is_exchanging, is_in_flight}
-use Rattle.fetch_life.proofs.Measures.{is_begun, counts_left, may_go_first, may_go_other, commands_left, is_confirming, is_down, harm_shared, harm_private, harm_origin, harm_asking, harm_confirming, harm_down, harm_first, harm_other, harm_none, steps_left, harm_odd, harm_current, is_odd}
+use Rattle.fetch_life.specs.Laws.{one, is_any, is_hand_in, is_kept_object, is_confirmed_one, is_stale_one, comes_from, hands, is_shelve, keeps, is_first, is_other, goes_to, is_offer, sends_clients, sends_conditions, is_not_for_all, is_not_private, is_not_of_origin, is_not_asking, confirms_nothing, is_not_down, is_not_unchanged, bars_first, bars_other, is_over, is_count, is_unwanted_one, renews, is_from_origin, may_ask, keeps_or_confirms, is_awaited, is_landing, is_exchanging}
+use Rattle.fetch_life.proofs.Measures.{counts_left, commands_left, is_down, harm_shared, harm_private, harm_origin, harm_asking, harm_confirming, harm_down, harm_first, harm_other, harm_none, steps_left, harm_odd, harm_current, is_odd}
 use Rattle.fetch_life.proofs.Bringing.{kept_is_shared, kept_is_current, confirmed_is_asked, confirmed_is_about, stale_is_shared, stale_is_of_origin, stale_is_current, stale_is_down, brought_is_wanted, odd_is_unkept, odd_is_unconfirmed}
-use Rattle.fetch_life.proofs.Handing.{on_shelf, shelves_kept, shelves_confirmed, shelves_of_origin, shelves_other, hands_count, hands_over, hands_four}
+use Rattle.fetch_life.proofs.Handing.{shelves_kept, shelves_confirmed, shelves_of_origin, shelves_other, hands_count, hands_over, hands_four}
 
 abbrev pub at : Flight → Stage → Fetch
 at f stage = record { flight = f; stage = stage }

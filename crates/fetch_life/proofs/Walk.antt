@@ -1,5 +1,5 @@
 -- Each turn of the table is one of its rows.
-use Rattle.std.proofs.Common.{◌≡◌, ◌==◌, ℕ, List, Bool, true, false, not, ◌&&◌, ◌||◌, cond, refl, sym, ◌∙◌, ap}
+use Rattle.std.proofs.Common.{◌≡◌, ◌==◌, Bool, true, false, not, ◌&&◌, cond, refl, sym}
 use Rattle.fetch_life.specs.declared.facts.Order.{Order}
 use Rattle.fetch_life.specs.declared.facts.Addresses.{Addresses}
 use Rattle.fetch_life.specs.declared.facts.Failure.{Failure}
@@ -8,11 +8,10 @@ use Rattle.fetch_life.specs.declared.events.Head.{Head}
 use Rattle.fetch_life.specs.declared.events.Event.{Event}
 use Rattle.fetch_life.specs.declared.events.Event.TheVariants as events
 use Rattle.fetch_life.specs.declared.stages.Flight.{Flight}
-use Rattle.fetch_life.specs.declared.stages.Exchange.{Exchange}
 use Rattle.fetch_life.specs.declared.stages.Landing.{Landing}
 use Rattle.fetch_life.specs.declared.stages.Stage.{Stage}
 use Rattle.fetch_life.specs.declared.stages.Stage.TheVariants as stages
-use Rattle.fetch_life.specs.Table.{Turn, turn, ordered, addressed, addressed_so, connected, began, began_so, whole, failed, not_connected, broken_off, locked, locked_at, is_lost, is_fragile, brought, may_first, may_other, is_connect, is_cut, unwanted}
+use Rattle.fetch_life.specs.Table.{Turn, turn, ordered, addressed, connected, began, whole, failed, locked, is_lost, is_fragile, brought, may_first, may_other, is_connect, is_cut, unwanted}
 use Rattle.fetch_life.specs.Rows.{Row}
 use Rattle.fetch_life.specs.Rows as rows
 

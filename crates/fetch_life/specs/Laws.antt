@@ -1,5 +1,5 @@
 -- The words of the laws: what commands, events and stages are.
-use Rattle.std.specs.Prelude.{◌≡◌, ℕ, ◌+◌, List, [], ◌∷◌, ◌&&◌, ◌||◌, ◌==◌, nat_le, nat_lt, not, Bool, true, false, Option, Some, None}
+use Rattle.std.specs.Prelude.{◌≡◌, ℕ, ◌+◌, List, [], ◌∷◌, ◌&&◌, ◌||◌, ◌==◌, nat_le, nat_lt, not, Bool, true, false, Option, Some}
 use Rattle.fetch_life.specs.declared.facts.Order.{Order}
 use Rattle.fetch_life.specs.declared.facts.Addresses.{Addresses}
 use Rattle.fetch_life.specs.declared.facts.Fault.{Fault}
@@ -9,12 +9,10 @@ use Rattle.fetch_life.specs.declared.facts.Source.{Source}
 use Rattle.fetch_life.specs.declared.facts.Source.TheVariants.{Origin, Parent, Sibling}
 use Rattle.fetch_life.specs.declared.commands.Count.{Count}
 use Rattle.fetch_life.specs.declared.commands.Count.TheVariants as counts
-use Rattle.fetch_life.specs.declared.commands.Request.{Request}
 use Rattle.fetch_life.specs.declared.commands.Which.{Which}
 use Rattle.fetch_life.specs.declared.commands.Which.TheVariants.{First, Other}
 use Rattle.fetch_life.specs.declared.commands.Supplier.{Supplier}
 use Rattle.fetch_life.specs.declared.commands.Supplier.TheVariants as suppliers
-use Rattle.fetch_life.specs.declared.commands.BroughtObject.{BroughtObject}
 use Rattle.fetch_life.specs.declared.commands.Brought.{Brought}
 use Rattle.fetch_life.specs.declared.commands.Brought.TheVariants.{Object, Nothing, Unwanted}
 use Rattle.fetch_life.specs.declared.commands.Command.{Command}

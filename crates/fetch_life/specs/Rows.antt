@@ -1,5 +1,5 @@
 -- The table, row by row: how far a fetch has come, what happens, and under which conditions; what comes then, and what is done.
-use Rattle.std.specs.Prelude.{◌≡◌, ℕ, List, [], ◌∷◌, ◌||◌, ◌&&◌, ◌==◌, not, Bool, true, false}
+use Rattle.std.specs.Prelude.{◌≡◌, [], ◌∷◌, ◌||◌, ◌&&◌, ◌==◌, not, Bool, true, false}
 use Rattle.fetch_life.specs.declared.facts.Order.{Order}
 use Rattle.fetch_life.specs.declared.facts.Addresses.{Addresses}
 use Rattle.fetch_life.specs.declared.facts.Failure.{Failure}

@@ -1,7 +1,7 @@
 -- One attempt of a fetch as a table: what comes and what is done, by what happens and how far the fetch has come.
 use Rattle.std.specs.Prelude.{ℕ, List, [], ◌∷◌, ◌==◌, ◌&&◌, ◌||◌, not, nat_lt, nat_le, Bool, true, false, Option, Some, None, if◌then◌else◌}
 use Rattle.fetch_life.specs.declared.facts.Source.{Source}
-use Rattle.fetch_life.specs.declared.facts.Source.TheVariants.{Origin, Parent, Sibling}
+use Rattle.fetch_life.specs.declared.facts.Source.TheVariants.{Origin, Sibling}
 use Rattle.fetch_life.specs.declared.facts.Order.{Order}
 use Rattle.fetch_life.specs.declared.facts.Addresses.{Addresses}
 use Rattle.fetch_life.specs.declared.facts.Fault.{Fault}

@@ -1,14 +1,10 @@
 -- What holds of each row: why something is asked for, given or taken out, and what stays as it was.
-use Rattle.std.proofs.Common.{◌≡◌, ◌==◌, ℕ, ◌+◌, ◌*◌, ◌≤◌, ◌<◌, List, [], ◌∷◌, Option, Some, None, Bool, true, false, not, ◌&&◌, ◌||◌, nat_lt, cond, arith, count_by, refl, sym, ◌∙◌, ap}
+use Rattle.std.proofs.Common.{◌≡◌, ◌==◌, ℕ, ◌+◌, ◌<◌, Bool, true, false, not, ◌&&◌, ◌||◌, nat_lt, cond, arith, count_by, refl, sym, ◌∙◌, ap}
 use Rattle.node_terms.specs.declared.mode.Mode.{Mode}
 use Rattle.node_terms.specs.declared.mode.Mode.TheVariants.{Shared, Cached, Private}
-use Rattle.request_life.specs.declared.facts.Choice.{Choice}
-use Rattle.request_life.specs.declared.facts.Lookup.{Lookup}
 use Rattle.request_life.specs.declared.facts.RequestHead.{RequestHead}
-use Rattle.request_life.specs.declared.facts.Target.TheVariants as targets
 use Rattle.request_life.specs.declared.commands.Answer.{Answer}
 use Rattle.request_life.specs.declared.commands.Answer.TheVariants as answers
-use Rattle.request_life.specs.declared.commands.Command.{Command}
 use Rattle.request_life.specs.declared.events.Event.{Event}
 use Rattle.request_life.specs.declared.events.Event.TheVariants as events
 use Rattle.request_life.specs.declared.events.PassedHead.{PassedHead}

@@ -1,8 +1,7 @@
 -- What is done where it may be: by the table itself.
-use Rattle.std.proofs.Common.{◌≡◌, ◌==◌, ℕ, ◌+◌, List, [], ◌∷◌, Option, Some, None, if◌then◌else◌, Bool, true, false, not, ◌&&◌, ◌||◌, cond, arith, count_by, refl, sym, ◌∙◌, ap}
+use Rattle.std.proofs.Common.{◌≡◌, ◌==◌, ℕ, [], ◌∷◌, Some, None, if◌then◌else◌, Bool, true, false, not, ◌&&◌, ◌||◌, cond, arith, count_by, refl, sym, ◌∙◌, ap}
 use Rattle.node_terms.specs.declared.mode.Mode.{Mode}
 use Rattle.node_terms.specs.declared.mode.Mode.TheVariants.{Shared, Cached, Private}
-use Rattle.request_life.specs.declared.facts.Choice.{Choice}
 use Rattle.request_life.specs.declared.facts.Choice.TheVariants.{Ask}
 use Rattle.request_life.specs.declared.facts.Lookup.{Lookup}
 use Rattle.request_life.specs.declared.facts.Passage.{Passage}
@@ -11,7 +10,6 @@ use Rattle.request_life.specs.declared.facts.Target.{Target}
 use Rattle.request_life.specs.declared.facts.Target.TheVariants as targets
 use Rattle.request_life.specs.declared.facts.TunnelTarget.{TunnelTarget}
 use Rattle.request_life.specs.declared.commands.Answer.TheVariants as answers
-use Rattle.request_life.specs.declared.commands.Command.{Command}
 use Rattle.request_life.specs.declared.commands.Command.TheVariants as does
 use Rattle.request_life.specs.declared.commands.Shape.{Shape}
 use Rattle.request_life.specs.declared.events.Acceptance.{Acceptance}
@@ -31,7 +29,7 @@ use Rattle.request_life.specs.declared.stages.Stage.TheVariants as stages
 use Rattle.request_life.specs.declared.stages.Submission.{Submission}
 use Rattle.request_life.specs.declared.stages.Wait.{Wait}
 use Rattle.fair_use.specs.Unanswered.{is_carried_out}
-use Rattle.request_life.specs.Table.{Turn, turn, aimed_by, answer_of, asks, bar_of, begins, beside, chosen, fault_of, first_of, found_under, goes_beside, has_begun, is_cached, is_first, is_for_another, is_for_node, is_private, is_unclear, passage_fault, routed_by, shape_for, takes_stale, tunnel_fault, unless_barred}
+use Rattle.request_life.specs.Table.{Turn, turn, aimed_by, answer_of, asks, bar_of, begins, beside, chosen, fault_of, first_of, found_under, goes_beside, has_begun, is_cached, is_first, is_for_another, is_for_node, is_private, is_unclear, routed_by, shape_for, takes_stale, unless_barred}
 use Rattle.request_life.specs.Laws.{may_have_stale, answers_so, gives_one, is_begin, is_passed_one, is_submit, is_submit_alone, is_url, may_be_answered, may_be_asked, may_be_passed, may_be_tunnelled, may_have, says_done, shape_due, takes_by_answer, wants_stored}
 use Rattle.request_life.proofs.Walk.{split, both, not_true}
 use Rattle.request_life.proofs.Steps.{same_cached, same_node}

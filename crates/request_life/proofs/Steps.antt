@@ -1,13 +1,10 @@
 -- What holds of each row.
-use Rattle.std.proofs.Common.{◌≡◌, ◌≢◌, ◌==◌, ℕ, ◌+◌, ◌-◌, ◌*◌, ◌≤◌, ◌<◌, List, [], ◌∷◌, Option, Some, None, if◌then◌else◌, Bool, true, false, not, ◌&&◌, ◌||◌, cond, arith, count_by, refl, sym, ◌∙◌, ap}
-use Rattle.std.proofs.lemmas.Grind.{common_steps}
+use Rattle.std.proofs.Common.{◌≡◌, ◌==◌, ℕ, ◌+◌, ◌-◌, ◌*◌, ◌≤◌, ◌<◌, Option, Some, None, if◌then◌else◌, Bool, true, false, not, ◌&&◌, ◌||◌, cond, arith, count_by, refl, ◌∙◌, ap}
 use Rattle.node_terms.specs.declared.mode.Mode.{Mode}
 use Rattle.node_terms.specs.declared.mode.Mode.TheVariants.{Shared, Cached, Private}
 use Rattle.fair_use.specs.declared.unanswered.Upload.{Upload}
 use Rattle.fair_use.specs.declared.unanswered.Upload.TheVariants as uploads
-use Rattle.fair_use.specs.Unanswered.{is_carried_out, may_have_changed}
-use Rattle.request_life.specs.declared.facts.Choice.{Choice}
-use Rattle.request_life.specs.declared.facts.Choice.TheVariants.{Ask}
+use Rattle.fair_use.specs.Unanswered.{may_have_changed}
 use Rattle.request_life.specs.declared.facts.RequestHead.{RequestHead}
 use Rattle.request_life.specs.declared.facts.Target.{Target}
 use Rattle.request_life.specs.declared.facts.Target.TheVariants as targets
@@ -15,29 +12,24 @@ use Rattle.request_life.specs.declared.facts.Passage.{Passage}
 use Rattle.request_life.specs.declared.facts.TunnelTarget.{TunnelTarget}
 use Rattle.request_life.specs.declared.events.Event.{Event}
 use Rattle.request_life.specs.declared.events.Event.TheVariants as events
-use Rattle.request_life.specs.declared.events.Outcome.{Outcome}
 use Rattle.request_life.specs.declared.commands.Answer.{Answer}
 use Rattle.request_life.specs.declared.commands.Answer.TheVariants as answers
-use Rattle.request_life.specs.declared.stages.Round.{Round}
-use Rattle.request_life.specs.declared.stages.Round.TheVariants.{First, Anew}
 use Rattle.request_life.specs.declared.facts.Method.{Method}
 use Rattle.request_life.specs.declared.facts.Method.TheVariants as methods
 use Rattle.request_life.specs.declared.stages.Content.{Content}
 use Rattle.request_life.specs.declared.stages.Content.TheVariants as contents
 use Rattle.request_life.specs.declared.stages.Stage.{Stage}
 use Rattle.request_life.specs.declared.stages.Stage.TheVariants as stages
-use Rattle.request_life.specs.declared.stages.Life.{Life}
-use Rattle.request_life.specs.Table.{Turn, is_private, is_get, is_head, content_of, upload_of, has_joined, share_of, bar_of, beside, is_shared, is_cached, is_first, fault_of, first_of, passage_fault, tunnel_fault, is_unclear, ends_connection, answer_of, is_for_another}
+use Rattle.request_life.specs.Table.{Turn, is_private, is_get, is_head, content_of, upload_of, has_joined, share_of, bar_of, beside, is_shared, is_cached, is_first, fault_of, first_of, passage_fault, tunnel_fault, answer_of, is_for_another}
 use Rattle.request_life.specs.declared.events.Fetched.{Fetched}
 use Rattle.request_life.specs.declared.events.Outcome.TheVariants as outcomes
-use Rattle.request_life.specs.declared.stages.Share.{Share}
 use Rattle.request_life.specs.declared.events.PassedHead.{PassedHead}
 use Rattle.request_life.specs.declared.events.PassedEnd.{PassedEnd}
 use Rattle.request_life.specs.declared.events.PassedEnd.TheVariants as passages
 use Rattle.request_life.specs.Rows.{Row, awaits, changes_nothing, is_early, is_unknown, is_unsent}
 use Rattle.request_life.specs.Rows as rows
-use Rattle.request_life.specs.Laws.{one, wants_own, is_submit_alone, has_unsendable, ends_connection_by, may_be_answered, is_for_store_alone, stays_with_store, says_done, says_unclear, is_silence, is_all_sent, leaves_unchanged, wants_stored, is_uploading, is_being_sent, is_awaited, is_give, is_submit, is_fetch, is_withdraw, is_pass_on, is_open_tunnel, is_sent, is_take_out, is_record, is_more_than_record, is_recorded, is_waiting, is_taken, is_settled, is_left, is_again, goes_further, ends_passage, says_nothing, says_nothing_unsent, says_nothing_in_time, leaves_time, is_not_sent, pending_at, unchanged_at, answers_so, is_early_one, is_fetched, must_close, goes_on, heard, is_hit, is_stale, is_tunnel, is_met_hit, has_stale, is_opened, is_url, aims_well, routes_well, leaves_all, passes_unsafe, bars, is_for_store, asks_store}
-use Rattle.request_life.proofs.Measures.{is_answered, is_done, may_break, may_part_unsent, may_part_whole, submits_after, all_submits_left, steps_after, is_beginner, has_departed, has_gone_on, may_fetch, submits_left, passes_left, tunnels_left, steps_left, may_pass, sends_fields}
+use Rattle.request_life.specs.Laws.{one, wants_own, is_submit_alone, has_unsendable, ends_connection_by, may_be_answered, is_for_store_alone, stays_with_store, says_done, says_unclear, is_silence, is_all_sent, leaves_unchanged, wants_stored, is_awaited, is_give, is_submit, is_fetch, is_withdraw, is_pass_on, is_open_tunnel, is_sent, is_take_out, is_record, is_more_than_record, is_recorded, is_waiting, is_taken, is_settled, is_left, is_again, goes_further, ends_passage, says_nothing, says_nothing_unsent, says_nothing_in_time, leaves_time, pending_at, unchanged_at, answers_so, is_early_one, is_fetched, must_close, goes_on, heard, is_hit, is_stale, is_tunnel, is_met_hit, has_stale, is_opened, is_url, aims_well, routes_well, leaves_all, passes_unsafe, bars, is_for_store, asks_store}
+use Rattle.request_life.proofs.Measures.{is_answered, is_done, may_break, may_part_unsent, may_part_whole, all_submits_left, is_beginner, has_departed, has_gone_on, may_fetch, submits_left, passes_left, tunnels_left, steps_left, may_pass, sends_fields}
 
 pub give_adds : (head : RequestHead) (stage : Stage) (event : Event) (t : Turn) → Row head stage event t → count_by is_give t.commands + one (is_answered stage) ≡ one (is_answered t.life.stage)
 give_adds head stage event t (rows.Unawaited h s e idle) = omega arith

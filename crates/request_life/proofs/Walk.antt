@@ -1,6 +1,5 @@
 -- Each turn of the table is one of its rows.
-use Rattle.std.proofs.Common.{◌≡◌, ◌==◌, ◌≢◌, ℕ, List, Bool, true, false, not, ◌&&◌, ◌||◌, cond, if◌then◌else◌, Option, Some, None, [], ◌∷◌, refl, sym, ◌∙◌, ap, arith}
-use Rattle.std.proofs.lemmas.Grind.{common_steps}
+use Rattle.std.proofs.Common.{◌≡◌, ◌==◌, ℕ, Bool, true, false, not, ◌&&◌, cond, if◌then◌else◌, Option, Some, None, [], ◌∷◌, refl, sym, ◌∙◌, ap}
 use Rattle.node_terms.specs.declared.mode.Mode.{Mode}
 use Rattle.node_terms.specs.declared.mode.Mode.TheVariants.{Shared, Cached, Private}
 use Rattle.fair_use.specs.declared.unanswered.Upload.{Upload}
@@ -25,9 +24,7 @@ use Rattle.request_life.specs.declared.events.TunnelEnd.{TunnelEnd}
 use Rattle.request_life.specs.declared.events.TunnelEnd.TheVariants as tunnels
 use Rattle.request_life.specs.declared.events.Event.{Event}
 use Rattle.request_life.specs.declared.events.Event.TheVariants as events
-use Rattle.request_life.specs.declared.commands.Changed.TheVariants as takes
 use Rattle.request_life.specs.declared.stages.Round.{Round}
-use Rattle.request_life.specs.declared.stages.Submission.{Submission}
 use Rattle.request_life.specs.declared.stages.Wait.{Wait}
 use Rattle.request_life.specs.declared.facts.Target.{Target}
 use Rattle.request_life.specs.declared.facts.Target.TheVariants as targets
@@ -37,7 +34,7 @@ use Rattle.request_life.specs.declared.stages.Stage.{Stage}
 use Rattle.request_life.specs.declared.stages.Stage.TheVariants as stages
 use Rattle.request_life.specs.declared.commands.Answer.TheVariants as answers
 use Rattle.request_life.specs.declared.commands.Command.TheVariants as does
-use Rattle.request_life.specs.Table.{Turn, turn, stay, goes, begins, received, collected, collected_so, found, found_under, fault_of, chosen, asks, unless_barred, bar_of, beside, accepted, taken, stands_apart, submits_alone, declined, again, anew, is_first, answered, answered_so, failed, routed, routed_by, passage_fault, passed, passed_head, passed_so, unanswered, parted, settles, expired, sent, upload_broken, breaks_off, aimed, aimed_by, tunnel_fault, tunnelled, tunnelled_so, left, leaves_passing, finished, is_private, is_shared, is_cached, is_for_another, goes_beside, first_of, is_get, is_head, declined_so, read, is_for_node, opens_tunnel, takes_stale, has_begun, is_unclear, gives, gives_passed, answer_of}
+use Rattle.request_life.specs.Table.{Turn, turn, goes, begins, received, collected, found, found_under, fault_of, chosen, asks, unless_barred, bar_of, beside, accepted, stands_apart, declined, again, is_first, answered, answered_so, failed, routed, routed_by, passed, passed_head, passed_so, parted, expired, sent, upload_broken, aimed, aimed_by, tunnelled, left, finished, is_private, is_shared, is_cached, is_for_another, goes_beside, first_of, is_get, is_head, read, is_for_node, opens_tunnel, takes_stale, has_begun, is_unclear, gives, gives_passed, answer_of}
 use Rattle.request_life.specs.Rows.{Row, awaits, is_no_answer, is_early, changes_nothing, is_unknown}
 use Rattle.request_life.specs.Rows as rows
 

@@ -1,5 +1,5 @@
 -- What holds of each run.
-use Rattle.std.proofs.Common.{◌≡◌, ◌==◌, nat_lt, ℕ, ◌+◌, ◌-◌, ◌*◌, ◌≤◌, ◌<◌, List, [], ◌∷◌, ◌++◌, cond, Option, Some, None, Bool, true, false, not, ◌&&◌, ◌||◌, arith, count_by, refl, sym, ◌∙◌, ap, subst}
+use Rattle.std.proofs.Common.{◌≡◌, ◌==◌, nat_lt, ◌+◌, ◌-◌, ◌≤◌, ◌<◌, List, [], ◌∷◌, ◌++◌, cond, Option, Some, None, Bool, true, false, not, ◌&&◌, ◌||◌, arith, count_by, refl, ◌∙◌, ap, subst}
 use Rattle.std.specs.List.{AllByRecursion}
 use Rattle.request_life.specs.declared.facts.RequestHead.{RequestHead}
 use Rattle.request_life.specs.declared.commands.Command.{Command}

@@ -1,5 +1,5 @@
 -- The words of the laws: what commands, events and stages are.
-use Rattle.std.specs.Prelude.{◌≡◌, ℕ, List, [], ◌∷◌, ◌+◌, ◌*◌, count_by, nat_le, nat_lt, ◌==◌, ◌&&◌, ◌||◌, not, if◌then◌else◌, Bool, true, false, Option, Some, None}
+use Rattle.std.specs.Prelude.{ℕ, List, [], ◌∷◌, count_by, nat_le, nat_lt, ◌==◌, ◌&&◌, ◌||◌, not, if◌then◌else◌, Bool, true, false, Option, Some}
 use Rattle.fair_use.specs.declared.unanswered.Upload.{Upload}
 use Rattle.fair_use.specs.declared.unanswered.Upload.TheVariants as uploads
 use Rattle.node_terms.specs.declared.mode.Mode.{Mode}

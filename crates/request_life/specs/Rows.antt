@@ -1,5 +1,5 @@
 -- The table, row by row: how far a request has come, what happens, and under which conditions; what comes then, and what is done.
-use Rattle.std.specs.Prelude.{◌≡◌, ℕ, List, [], ◌∷◌, ◌||◌, ◌&&◌, ◌==◌, not, Bool, true, false, Option, Some, None}
+use Rattle.std.specs.Prelude.{◌≡◌, ℕ, [], ◌∷◌, ◌||◌, ◌&&◌, ◌==◌, not, Bool, true, false, Some, None}
 use Rattle.node_terms.specs.declared.mode.Mode.{Mode}
 use Rattle.node_terms.specs.declared.mode.Mode.TheVariants.{Private}
 use Rattle.fair_use.specs.declared.unanswered.Upload.{Upload}
@@ -11,7 +11,6 @@ use Rattle.request_life.specs.declared.facts.Lookup.{Lookup}
 use Rattle.request_life.specs.declared.facts.Target.TheVariants as targets
 use Rattle.request_life.specs.declared.facts.Passage.{Passage}
 use Rattle.request_life.specs.declared.facts.TunnelTarget.{TunnelTarget}
-use Rattle.request_life.specs.declared.events.ContentEnd.{ContentEnd}
 use Rattle.request_life.specs.declared.events.ContentEnd.TheVariants as ends
 use Rattle.request_life.specs.declared.events.Acceptance.{Acceptance}
 use Rattle.request_life.specs.declared.events.Hit.{Hit}

@@ -1,5 +1,5 @@
 -- The life of a request as a table: what comes and what is done, by what happens and how far the request has come.
-use Rattle.std.specs.Prelude.{ℕ, List, [], ◌∷◌, ◌++◌, ◌==◌, ◌&&◌, ◌||◌, ◌<◌, ◌≤◌, not, nat_lt, nat_le, Bool, true, false, Option, Some, None, if◌then◌else◌}
+use Rattle.std.specs.Prelude.{ℕ, List, [], ◌∷◌, ◌==◌, ◌&&◌, ◌||◌, not, Bool, true, false, Option, Some, None, if◌then◌else◌}
 use Rattle.request_life.specs.declared.facts.Method.{Method}
 use Rattle.request_life.specs.declared.facts.Method.TheVariants as methods
 use Rattle.node_terms.specs.declared.mode.Mode.{Mode}
@@ -18,7 +18,6 @@ use Rattle.request_life.specs.declared.facts.TunnelTarget.{TunnelTarget}
 use Rattle.request_life.specs.declared.events.ContentEnd.{ContentEnd}
 use Rattle.request_life.specs.declared.events.ContentEnd.TheVariants as ends
 use Rattle.request_life.specs.declared.events.Acceptance.{Acceptance}
-use Rattle.request_life.specs.declared.events.Hit.{Hit}
 use Rattle.request_life.specs.declared.events.Fetched.{Fetched}
 use Rattle.request_life.specs.declared.events.Failure.{Failure}
 use Rattle.request_life.specs.declared.events.Outcome.{Outcome}
