@@ -319,7 +319,7 @@ where
     R::Listener: Send + 'static,
 {
     let limits = NameLimits::usual(threads);
-    match open_names(alloc, limits, passes.has_six, &passes.servers) {
+    match open_names(alloc, limits, passes.has_six) {
         Ok((desk, watch)) => after(begin_look_ups(rt, watch), desk),
         Err(_) => Err(ServeFault::NoMemory),
     }

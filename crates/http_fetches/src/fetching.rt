@@ -20,8 +20,8 @@ use futures::channel::oneshot;
 use futures::future::Either;
 use futures::task::{Context, Poll};
 use http_traffic::{
-    Admit, Ended, FetchEnd, FetchFault, Fetched, Job, LeftChange, Order, Passage, Progress, Server,
-    Work,
+    Admit, Ended, FetchEnd, FetchFault, Fetched, Job, LeftChange, Order, OrderParts, Passage,
+    Progress, Server, Work,
 };
 use hyper::Request;
 use hyper::client::conn::http1;
@@ -188,7 +188,7 @@ impl<M: Means> Begin for Starter<M> {
     type Running = Doing<M::Watch, M::Dialer, M::Get, M::Post>;
 
     fn begin(&mut self, job: Job) -> Doing<M::Watch, M::Dialer, M::Get, M::Post> {
-        let Job { server, work } = job;
+        let (server, work) = job.into_parts();
         match work {
             Work::Fetch(order) => Doing {
                 doing: Either::Left(self.fetch(server, order)),
@@ -205,7 +205,7 @@ impl<M: Means> Starter<M> {
     fn fetch(&self, server: Server, order: Order) -> Fetch<M::Dialer, M::Get>
         ensures { IfSome result.visit (λ t. IfSome (timeout_future (box_value t)).call (λ c. IfSome c.talking M.Get.Talking.can_poll)) }
     {
-        let Order {
+        let OrderParts {
             fetch,
             attempt,
             host,
@@ -217,7 +217,7 @@ impl<M: Means> Starter<M> {
             deadline,
             wanted,
             progress,
-        } = order;
+        } = order.into_parts();
         let (delay, told) = delays(self.alloc);
         let begun = Begun {
             fetch,

@@ -5,7 +5,6 @@ use http_traffic::Found;
 use std::alloc::{AllocError, Global};
 
 // Those who wait for a name.
-#[derive(Drop)]
 struct Sought {
     // Since when it is sought.
     asked: u64,
@@ -16,14 +15,37 @@ struct Sought {
     waiting: Vec<Waiter>,
 }
 
+// Written by hand, so that what lets it go is one call for the prover (docs/GATE.md).
+impl Drop for Sought {
+    fn drop(self) {
+        let Self {
+            asked: _,
+            since: _,
+            look_up: _,
+            waiting: _,
+        } = self;
+    }
+}
+
 /// What is known of a name, and who waits for it.
-#[derive(Drop)]
 pub(crate) struct Entry {
     alloc: Global,
     // What was found last, of which `known` says how old it is.
     addresses: Option<Found>,
     known: Known,
     sought: Option<Sought>,
+}
+
+// Written by hand, so that what lets it go is one call for the prover (docs/GATE.md).
+impl Drop for Entry {
+    fn drop(self) {
+        let Self {
+            alloc: _,
+            addresses: _,
+            known: _,
+            sought: _,
+        } = self;
+    }
 }
 
 /// What becomes of one who seeks a name of which there is an entry.

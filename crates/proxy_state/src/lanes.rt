@@ -2,6 +2,7 @@
 use futures::channel::mpsc::UnboundedSender;
 use http_traffic::{Job, Order, Passage, Server};
 use name_lookup::{NameCounts, NameDesk, NotTaken, hand_over, pass_over, server_of};
+use server_connections::Attempts;
 use std::alloc::Global;
 use std::net::IpAddr;
 use std::sync::{Mutex, Wait};
@@ -107,19 +108,15 @@ impl Fetchers {
     }
 
     /// What is counted of the attempts to connect that go beside others. `None` before these threads start and after `close`.
-    pub fn attempts<R: Wait>(&self, rt: &R) -> Option<AttemptFigures> {
-        let lanes = self.lanes.lock(rt);
-        match &*lanes {
-            Some(lanes) => {
-                let beside = lanes.names.beside();
-                Some(AttemptFigures {
-                    under_way: beside.under_way(),
-                    begun: beside.begun(),
-                    held: beside.refused(),
-                })
-            }
-            None => None,
+    pub fn attempts<R: Wait>(&self, rt: &R, attempts: &Attempts) -> Option<AttemptFigures> {
+        if self.lanes.lock(rt).is_none() {
+            return None;
         }
+        Some(AttemptFigures {
+            under_way: attempts.under_way(),
+            begun: attempts.begun(),
+            held: attempts.refused(),
+        })
     }
 
     /// The server of this name, for this client. Errors: there is no way to it.
