@@ -332,12 +332,12 @@ impl<R: Clock + Copy, H: Answers, B, K: KeepTunnel, I: OfClient<R>, W> Http<R, H
 }
 
 // What HTTP connections are made with, and a handle to their event loop. Errors: there are no random numbers, or out of memory.
-fn means_of<R>(rt: R, runtime: &LocalRuntime) -> io::Result<(http1::Builder<TokioTimer<R>>, Handle)>
+fn means_of<R>(rt: R, handle: &Handle) -> io::Result<(http1::Builder<TokioTimer<R>>, Handle)>
 where
     R: Net + Clock + RandomSource + AllocGlobal + Copy,
 {
-    let builder = builder_of(rt, runtime)?;
-    match runtime.handle().clone() {
+    let builder = builder_of(rt, handle)?;
+    match handle.clone() {
         Ok(handle) => Ok((builder, handle)),
         Err(fault) => {
             drop(builder);
@@ -347,11 +347,11 @@ where
 }
 
 // What HTTP connections are made with. Errors: there are no random numbers, or out of memory.
-fn builder_of<R>(rt: R, runtime: &LocalRuntime) -> io::Result<http1::Builder<TokioTimer<R>>>
+fn builder_of<R>(rt: R, handle: &Handle) -> io::Result<http1::Builder<TokioTimer<R>>>
 where
     R: Net + Clock + RandomSource + AllocGlobal + Copy,
 {
-    let timers = runtime.handle().time().clone()?;
+    let timers = handle.time().clone()?;
     let state = RandomState::new(&rt)?;
     Ok(builder_with(rt.alloc(), state, TokioTimer::new(rt, timers)))
 }
@@ -398,7 +398,7 @@ fn place_on(runtime: LocalRuntime, socket: ClientSocket) -> io::Result<Place> {
         six,
         seats,
     } = socket;
-    match listeners_on(&runtime, listener, six) {
+    match listeners_on(runtime.handle(), listener, six) {
         Ok((listeners, address)) => Ok(Place {
             listeners,
             seats,
@@ -415,12 +415,12 @@ fn place_on(runtime: LocalRuntime, socket: ClientSocket) -> io::Result<Place> {
 
 // These sockets on this event loop, and the address of the first. Errors: a socket or the event loop failed.
 fn listeners_on(
-    runtime: &LocalRuntime,
+    handle: &Handle,
     listener: net::TcpListener,
     six: Option<net::TcpListener>,
 ) -> io::Result<(Listeners, SocketAddr)> {
-    match TcpListener::from_std(listener, runtime.handle().reactor()) {
-        Ok(first) => listeners_with(runtime, first, six),
+    match TcpListener::from_std(listener, handle.reactor()) {
+        Ok(first) => listeners_with(handle, first, six),
         Err(fault) => {
             drop(six);
             Err(fault)
@@ -430,11 +430,11 @@ fn listeners_on(
 
 // As `listeners_on`, where the first socket is on the event loop already.
 fn listeners_with(
-    runtime: &LocalRuntime,
+    handle: &Handle,
     first: TcpListener,
     six: Option<net::TcpListener>,
 ) -> io::Result<(Listeners, SocketAddr)> {
-    match second_on(runtime, six) {
+    match second_on(handle, six) {
         Ok(second) => listeners_of(first, second),
         Err(fault) => {
             drop(first);
@@ -445,13 +445,13 @@ fn listeners_with(
 
 // The second socket on this event loop, if there is one. Errors: the socket or the event loop failed.
 fn second_on(
-    runtime: &LocalRuntime,
+    handle: &Handle,
     six: Option<net::TcpListener>,
 ) -> io::Result<Option<TcpListener>> {
     let Some(six) = six else {
         return Ok(None);
     };
-    let second = TcpListener::from_std(six, runtime.handle().reactor())?;
+    let second = TcpListener::from_std(six, handle.reactor())?;
     Ok(Some(second))
 }
 
@@ -479,7 +479,7 @@ where
     R: Net + Clock + RandomSource + AllocGlobal + Copy,
 {
     let place = place_of(&rt, socket)?;
-    match means_of(rt, &place.runtime) {
+    match means_of(rt, place.runtime.handle()) {
         Ok((builder, handle)) => Ok((place, builder, handle)),
         Err(fault) => {
             drop(place);
@@ -646,7 +646,8 @@ where
         runtime,
     } = place;
     let alloc = rt.alloc();
-    let clients = clients_of(rt, alloc, &runtime, listeners, seats, stops, accept, limits);
+    let handle = runtime.handle();
+    let clients = clients_of(rt, alloc, handle, listeners, seats, stops, accept, limits);
     run_clients(rt, runtime, clients)
 }
 
@@ -654,7 +655,7 @@ where
 fn clients_of<R, A>(
     rt: R,
     alloc: Global,
-    runtime: &LocalRuntime,
+    handle: &Handle,
     listeners: Listeners,
     seats: SeatShare,
     stops: Stops,
@@ -666,7 +667,7 @@ where
     A: Accept,
 {
     let (most, grace) = (limits.connections, limits.grace);
-    match runtime.handle().time().clone() {
+    match handle.time().clone() {
         Ok(timers) => AcceptedClients::new(
             rt, alloc, timers, listeners, stops, grace, accept, most, seats,
         ),
