@@ -205,7 +205,7 @@ impl Entry {
     fn tell_all(&mut self) {
         let alloc = self.alloc;
         if let Some(sought) = self.sought.take() {
-            for waiter in sought.waiting {
+            for waiter in sought.into_waiting() {
                 waiter.tell(alloc, &self.addresses);
             }
         }
@@ -301,6 +301,17 @@ impl Entry {
 }
 
 impl Sought {
+    // Those who wait.
+    fn into_waiting(self) -> Vec<Waiter> {
+        let Self {
+            asked: _,
+            since: _,
+            look_up: _,
+            waiting,
+        } = self;
+        waiting
+    }
+
     // For how long who seeks it has waited, where something old is kept; otherwise for how long its turn, or its look-up, has taken.
     fn waited(&self, now: u64, has_old: bool) -> u64 {
         if has_old {
