@@ -444,10 +444,7 @@ fn listeners_with(
 }
 
 // The second socket on this event loop, if there is one. Errors: the socket or the event loop failed.
-fn second_on(
-    handle: &Handle,
-    six: Option<net::TcpListener>,
-) -> io::Result<Option<TcpListener>> {
+fn second_on(handle: &Handle, six: Option<net::TcpListener>) -> io::Result<Option<TcpListener>> {
     let Some(six) = six else {
         return Ok(None);
     };

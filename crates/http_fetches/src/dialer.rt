@@ -115,6 +115,13 @@ impl<R: Net + Wait + Clock + Copy, A: Admit> Dial for Dialer<R, A> {
         let places = self.rules.kept.servers().ok()?;
         let servers = servers.share(self.alloc).ok()?;
         let handle = self.handle.clone().ok()?;
-        Some(Dialing::new(self.rt, self.alloc, handle, servers, places, self.connecting))
+        Some(Dialing::new(
+            self.rt,
+            self.alloc,
+            handle,
+            servers,
+            places,
+            self.connecting,
+        ))
     }
 }

@@ -17,7 +17,9 @@ use futures::task::{Context, Poll};
 use futures::{Future, ready};
 use http_content::Relayed;
 use http_rules::Admitted;
-use http_traffic::{Change, FetchFault, LeftChange, PassFault, Passage, PassageParts, Piece, Server, Ticket};
+use http_traffic::{
+    Change, FetchFault, LeftChange, PassFault, Passage, PassageParts, Piece, Server, Ticket,
+};
 use hyper::Request;
 use hyper::client::conn::http1;
 use shared_thread::Paced;

@@ -40,7 +40,10 @@ struct Known {
 // Written by hand, so that what lets it go is one call for the prover (docs/GATE.md).
 impl Drop for Known {
     fn drop(self) {
-        let Self { addresses: _, last: _ } = self;
+        let Self {
+            addresses: _,
+            last: _,
+        } = self;
     }
 }
 

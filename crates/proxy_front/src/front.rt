@@ -274,7 +274,11 @@ impl<R: Wait + Clock + Drop, S: Shared, N: TakeEvents> NodeFront<R, S, N> {
     }
 
     /// Adds a waiting client.
-    fn add(&self, client: u64, waiting: Waiting<oneshot::Sender<Outcome>>) -> Result<(), AllocError> {
+    fn add(
+        &self,
+        client: u64,
+        waiting: Waiting<oneshot::Sender<Outcome>>,
+    ) -> Result<(), AllocError> {
         let mut mailbox = self.proxy.mail().mailbox.lock(&self.rt);
         mailbox.add(client, waiting)
     }

@@ -5,7 +5,7 @@ ghost use Rattle.node_book.specs.Book.{count_of};
 use crate::fault::{ServeFault, no_memory};
 use crate::limits::SEATS;
 use crate::passing::passes_of;
-use crate::site::{Site, ends_of};
+use crate::site::{Site, SiteOf, ends_of};
 use crossbeam_channel::Sender;
 use futures::channel::oneshot;
 use http_rules::{
@@ -123,7 +123,7 @@ pub fn site_of<R: RandomSource + Clock, L: Ledger>(
             let opened = open_desk(alloc, blank, config_in(settings), hashes, sizes);
             let stopping = Stopping::new(hurries, sender);
             let made = state_around(opened, around, Fetchers::none(), Tap::new(), stopping);
-            Site::around(alloc, made, ends)
+            SiteOf::around(alloc, made, ends)
         }
         Err(fault) => {
             drop(settings);

@@ -42,8 +42,12 @@ pub struct Letters<A, O, W, D> {
 }
 
 /// The same with the channels of this program.
-pub type Mail =
-    Letters<oneshot::Sender<Outcome>, SharedObject, oneshot::Sender<()>, oneshot::Receiver<()>>;
+pub type Mail = Letters<
+    oneshot::Sender<Outcome>,
+    SharedObject,
+    oneshot::Sender<()>,
+    oneshot::Receiver<()>,
+>;
 
 // Written by hand, so that what lets it go is one call for the prover (docs/GATE.md).
 impl<A: Drop, O: Drop, W: Drop, D: Drop> Drop for Letters<A, O, W, D> {

@@ -71,7 +71,10 @@ pub(crate) struct Post {
 // Written by hand, so that what lets it go is one call for the prover (docs/GATE.md).
 impl Drop for Post {
     fn drop(self) {
-        let Self { is_asked: _, bell: _ } = self;
+        let Self {
+            is_asked: _,
+            bell: _,
+        } = self;
     }
 }
 
