@@ -521,7 +521,7 @@ where
 {
     match opened(rt, socket) {
         Ok((place, builder, handle)) => {
-            serve_timed::<R, H, K, I, TokioTimer<R>>(
+            serve_timed::<R, H, K, I, TokioTimer<R>, Place>(
                 rt, place, builder, handle, answers, bound, stops, open, limits,
             )
         }
@@ -536,9 +536,9 @@ where
 }
 
 // Serves at this place by the connections that `builder` makes, of whose timer nothing more is known here.
-fn serve_timed<R, H, K, I, T>(
+fn serve_timed<R, H, K, I, T, G>(
     rt: R,
-    place: Place,
+    place: G,
     builder: http1::Builder<T>,
     handle: Handle,
     answers: H,
@@ -553,16 +553,17 @@ where
     K: KeepTunnel,
     I: OfClient<R>,
     T: Timer,
+    G: Ground,
 {
-    serve_at::<R, H, K, I, http1::Builder<T>>(
+    serve_at::<R, H, K, I, http1::Builder<T>, G>(
         rt, place, builder, handle, answers, bound, stops, open, limits,
     )
 }
 
 // Serves at this place by the connections that `builder` makes, of whose type nothing more is known here.
-fn serve_at<R, H, K, I, B>(
+fn serve_at<R, H, K, I, B, G>(
     rt: R,
-    place: Place,
+    place: G,
     builder: B,
     handle: Handle,
     answers: H,
@@ -577,16 +578,17 @@ where
     K: KeepTunnel,
     I: OfClient<R>,
     B: Connections<I, H, K>,
+    G: Ground,
 {
-    serve_beside::<R, H, K, I, B, Beside<B::Connection, R, H, K>>(
+    serve_beside::<R, H, K, I, B, Beside<B::Connection, R, H, K>, G>(
         rt, place, builder, handle, answers, bound, stops, open, limits,
     )
 }
 
 // Serves as `serve_at` does, where `W` goes on beside the connections, of which nothing more is known here.
-fn serve_beside<R, H, K, I, B, W>(
+fn serve_beside<R, H, K, I, B, W, G>(
     rt: R,
-    place: Place,
+    place: G,
     builder: B,
     handle: Handle,
     answers: H,
@@ -602,9 +604,10 @@ where
     I: OfClient<R>,
     B: Connections<I, H, K>,
     W: Watch<B::Connection> + OfWatching<Watching<R, H, K>>,
+    G: Ground,
 {
     let bound = Bound {
-        address: place.address,
+        address: place.address(),
         to: bound,
     };
     let http: Http<R, H, B, K, I, W> = Http {
@@ -620,32 +623,55 @@ where
         socket: PhantomData,
         watch: PhantomData,
     };
-    run_accepted(rt, place, stops, http, limits)
+    place.run_accepted(rt, stops, http, limits)
 }
 
-// Runs a server that accepts by `accept`. A function of its own, since of a type that is named little is known here, and much has to be
-// elaborated anew of one that is.
-fn run_accepted<R, A>(
-    rt: R,
-    place: Place,
-    stops: Stops,
-    accept: A,
-    limits: ServeLimits,
-) -> io::Result<()>
-where
-    R: Wait + Clock + RandomSource + AllocGlobal + Net + Copy,
-    A: Accept,
-{
-    let Place {
-        listeners,
-        seats,
-        address: _,
-        runtime,
-    } = place;
-    let alloc = rt.alloc();
-    let handle = runtime.handle();
-    let clients = clients_of(rt, alloc, handle, listeners, seats, stops, accept, limits);
-    run_clients(rt, runtime, clients)
+// Where a server listens and runs. What hands it on is generic over it, since the prover does not look behind a type parameter (docs/GATE.md).
+trait Ground: Drop {
+    // The address that it listens on.
+    fn address(&self) -> SocketAddr;
+
+    // Runs a server that accepts by `accept`. A function of its own, since of a type that is named little is known here, and much has to be
+    // elaborated anew of one that is.
+    fn run_accepted<R, A>(
+        self,
+        rt: R,
+        stops: Stops,
+        accept: A,
+        limits: ServeLimits,
+    ) -> io::Result<()>
+    where
+        R: Wait + Clock + RandomSource + AllocGlobal + Net + Copy,
+        A: Accept;
+}
+
+impl Ground for Place {
+    fn address(&self) -> SocketAddr {
+        self.address
+    }
+
+    fn run_accepted<R, A>(
+        self,
+        rt: R,
+        stops: Stops,
+        accept: A,
+        limits: ServeLimits,
+    ) -> io::Result<()>
+    where
+        R: Wait + Clock + RandomSource + AllocGlobal + Net + Copy,
+        A: Accept,
+    {
+        let Place {
+            listeners,
+            seats,
+            address: _,
+            runtime,
+        } = self;
+        let alloc = rt.alloc();
+        let handle = runtime.handle();
+        let clients = clients_of(rt, alloc, handle, listeners, seats, stops, accept, limits);
+        run_clients(rt, runtime, clients)
+    }
 }
 
 // The clients that are accepted by `accept`. Errors: out of memory.
