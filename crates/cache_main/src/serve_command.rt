@@ -49,7 +49,7 @@ where
     let facts = StartFacts::of(&settings, VERSION, few);
     match start::<L, R>(rt, blank, settings, equipment, ProxyLimits::usual()) {
         Ok(site) => {
-            tell_listening(rt, &facts, site.addresses(), site.clients.len());
+            tell_listening(rt, &facts, site.addresses(), site.held.clients.len());
             let _ = println!(rt; "ready");
             site.begin_logs(&rt);
             match site.finish(rt) {

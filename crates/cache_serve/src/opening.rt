@@ -14,7 +14,7 @@ use http_rules::SixEnd;
 use name_lookup::NameDesk;
 use node_words::Event;
 use proxy_node::{AtDesk, NodeHandle, Overseen, ThreadSeat};
-use proxy_setup::{Ending, Orders, ServeFault, ServerOrders, Site, no_memory};
+use proxy_setup::{Ending, Orders, ServeFault, ServerOrders, Site, SiteOf, no_memory};
 use proxy_state::{Shared, TakeEvents, add_own, note_own_six};
 use std::alloc::{AllocError, AllocGlobal, Global};
 use std::fs::Files;
@@ -28,16 +28,20 @@ use std::time::Clock;
 /// The handle of a thread that was started.
 pub(crate) type Begun<L> = Result<JoinHandle<Ending<L>>, ServeFault>;
 
-/// A proxy whose threads are being started. `S` is the state that they share.
-pub(crate) struct Opening<R, S, L: Ledger> {
+/// A proxy whose threads are being started. `I` is its site: what has no need of that, or of what the site holds of its threads, is generic over
+/// it, since the prover does not look behind a type parameter (docs/GATE.md).
+pub(crate) struct OpeningOf<R, I> {
     rt: R,
     pub(crate) alloc: Global,
     pub(crate) config: ThreadConfig,
-    pub(crate) site: Site<S, L>,
+    pub(crate) site: I,
 }
 
+/// A proxy whose threads are being started, and share the state `S`.
+pub(crate) type Opening<R, S, L> = OpeningOf<R, Site<S, L>>;
+
 // Written by hand, so that what lets it go is one call for the prover (docs/GATE.md).
-impl<R: Drop, S: Drop, L: Ledger> Drop for Opening<R, S, L> {
+impl<R: Drop, I: Drop> Drop for OpeningOf<R, I> {
     fn drop(self) {
         let Self {
             rt: _,
@@ -77,7 +81,7 @@ struct ServerLine {
     stop: oneshot::Sender<()>,
 }
 
-impl<R: Drop, S: AtDesk<L>, L: Ledger + Send + Sync + 'static> Opening<R, S, L> {
+impl<R: Drop, S: AtDesk<L>, L: Ledger + Send + Sync + 'static> OpeningOf<R, Site<S, L>> {
     /// The proxy, if its threads were started. Else they are ended.
     pub(crate) fn into_site(self, opened: Result<(), ServeFault>) -> Result<Site<S, L>, ServeFault>
     where
@@ -96,7 +100,7 @@ impl<R: Drop, S: AtDesk<L>, L: Ledger + Send + Sync + 'static> Opening<R, S, L> 
     }
 }
 
-impl<R, S: Drop, L: Ledger + Send + Sync + 'static> Opening<R, S, L> {
+impl<R, S: Drop, L: Ledger + Send + Sync + 'static> OpeningOf<R, Site<S, L>> {
     /// Keeps the handle of a thread, if it was started.
     fn keep(&mut self, begun: Begun<L>) -> Result<(), ServeFault> {
         match begun {
@@ -106,13 +110,15 @@ impl<R, S: Drop, L: Ledger + Send + Sync + 'static> Opening<R, S, L> {
     }
 }
 
-impl<R, S: Shared, L: Ledger> Opening<R, S, L> {
+impl<R, S, H> OpeningOf<R, SiteOf<S, H>> {
     /// How a server's thread and this one hear of each other.
     fn server_line(&self) -> Result<(ServerEnd, ServerLine), ServeFault> {
         let end = self.site.ender()?;
         line_to(self.alloc, end).map_err(no_memory)
     }
+}
 
+impl<R, S: Shared, L: Ledger> OpeningOf<R, Site<S, L>> {
     /// The shared state for one more thread, and a seat for it.
     fn share_and_seat(&mut self) -> Result<(Arc<S>, ThreadSeat<S, L>), ServeFault> {
         let proxy = self.site.share()?;
@@ -126,7 +132,32 @@ impl<R, S: Shared, L: Ledger> Opening<R, S, L> {
     }
 }
 
-impl<R: Wait + Clock + Copy, S: AtDesk<L>, L: Ledger> Opening<R, S, L> {
+impl<R: Wait, S: Shared, H> OpeningOf<R, SiteOf<S, H>> {
+    /// Has a bound socket never fetched from.
+    fn add_own(&self, bound: SocketAddr) -> Result<(), ServeFault> {
+        let IpAddr::V4(address) = bound.ip() else {
+            return Ok(());
+        };
+        let end = End {
+            addr: address.octets(),
+            port: bound.port(),
+        };
+        add_own(&self.rt, &*self.site.proxy, end).map_err(no_memory)
+    }
+
+    /// Has the socket for clients at an address of IPv6, which has the same port as the one that is bound here, never fetched from.
+    fn note_own_six(&self, bound: SocketAddr) {
+        if let Some(address) = self.config.six {
+            let end = SixEnd {
+                address: address.to_bits(),
+                port: bound.port(),
+            };
+            note_own_six(&self.rt, &*self.site.proxy, end);
+        }
+    }
+}
+
+impl<R: Wait + Clock + Copy, S: AtDesk<L>, L: Ledger> OpeningOf<R, Site<S, L>> {
     /// Installs the filters, if the threads that come before are started. Returns what has names looked up.
     fn installed(
         &mut self,
@@ -167,7 +198,7 @@ impl<R: Wait + Clock + Copy, S: AtDesk<L>, L: Ledger> Opening<R, S, L> {
     ) -> Result<(), ServeFault> {
         let mut node = NodeHandle::new(self.rt, self.alloc, seat, None);
         let installed = install_all(&mut node, filters);
-        let kept = self.site.spare.push(node.into_seat());
+        let kept = self.site.held.spare.push(node.into_seat());
         let is_kept = kept.is_ok();
         drop(kept);
         if is_kept {
@@ -176,32 +207,9 @@ impl<R: Wait + Clock + Copy, S: AtDesk<L>, L: Ledger> Opening<R, S, L> {
             Err(ServeFault::NoMemory)
         }
     }
-
-    /// Has a bound socket never fetched from.
-    fn add_own(&self, bound: SocketAddr) -> Result<(), ServeFault> {
-        let IpAddr::V4(address) = bound.ip() else {
-            return Ok(());
-        };
-        let end = End {
-            addr: address.octets(),
-            port: bound.port(),
-        };
-        add_own(&self.rt, &*self.site.proxy, end).map_err(no_memory)
-    }
-
-    /// Has the socket for clients at an address of IPv6, which has the same port as the one that is bound here, never fetched from.
-    fn note_own_six(&self, bound: SocketAddr) {
-        if let Some(address) = self.config.six {
-            let end = SixEnd {
-                address: address.to_bits(),
-                port: bound.port(),
-            };
-            note_own_six(&self.rt, &*self.site.proxy, end);
-        }
-    }
 }
 
-impl<R, S, L> Opening<R, S, L>
+impl<R, S, L> OpeningOf<R, Site<S, L>>
 where
     L: Ledger + Send + Sync + 'static,
     S: AtDesk<L> + Overseen + Send + Sync + 'static,
@@ -234,16 +242,16 @@ where
 }
 
 /// A proxy around the site that was made, and what its threads are started with.
-pub(crate) fn opening_of<R: Drop, S: Drop, L: Ledger, F: Drop>(
+pub(crate) fn opening_of<R: Drop, I, F: Drop>(
     rt: R,
     alloc: Global,
     config: ThreadConfig,
-    site: Result<Site<S, L>, ServeFault>,
+    site: Result<I, ServeFault>,
     orders: Orders<F>,
-) -> Result<(Opening<R, S, L>, Orders<F>), ServeFault> {
+) -> Result<(OpeningOf<R, I>, Orders<F>), ServeFault> {
     match site {
         Ok(site) => {
-            let opening = Opening {
+            let opening = OpeningOf {
                 rt,
                 alloc,
                 config,

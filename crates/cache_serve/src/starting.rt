@@ -3,15 +3,15 @@ ghost use Rattle.std.specs.Prelude.{◌≡◌};
 
 use crate::config::thread_config;
 use crate::limits::ProxyLimits;
-use crate::opening::{Begun, Opening, opening_of};
+use crate::opening::{Begun, Opening, OpeningOf, opening_of};
 use crate::tasks::Work;
 use access_log::writer::{LogTask, run_log};
 use crossbeam_channel::{Receiver, Sender, bounded};
 use name_lookup::{NameDesk, NameLimits, NameWatch, open_names, watch_names};
 use proxy_node::{AtDesk, Overseen};
 use proxy_setup::{
-    Equipment, LogTasks, Orders, Proxy, SEATS, ServeFault, Site, Writing, Writings, equipped,
-    server_orders, site_of,
+    Equipment, LogTasks, Orders, Proxy, SEATS, ServeFault, Site, SiteOf, Writing, Writings,
+    equipped, server_orders, site_of,
 };
 use proxy_state::{Passes, Shared};
 use serve_config::Settings;
@@ -137,13 +137,12 @@ where
 }
 
 // Starts the threads that have no part of the shared state.
-fn open_first<R, S, L>(
+fn open_first<R, S, H>(
     rt: R,
-    opening: &mut Opening<R, S, L>,
+    opening: &mut OpeningOf<R, SiteOf<S, H>>,
     logs: LogTasks<R::File>,
 ) -> Result<NameDesk, ServeFault>
 where
-    L: Ledger,
     S: Shared,
     R: Threads + Wait + Net + Clock + Files + Print + Eprint + Copy + Send + 'static,
     R::Stream: Send + 'static,
@@ -319,7 +318,7 @@ where
     R::Listener: Send + 'static,
 {
     let limits = NameLimits::usual(threads);
-    match open_names(alloc, limits, passes.has_six, &passes.servers) {
+    match open_names(alloc, limits, passes.has_six) {
         Ok((desk, watch)) => after(begin_look_ups(rt, watch), desk),
         Err(_) => Err(ServeFault::NoMemory),
     }

@@ -7,10 +7,11 @@ use futures::Future;
 use futures::task::{Context, Poll};
 use http_traffic::{AdmittedAddresses, Ticket};
 use origin_rules::Admitted;
+use server_connections::ServerConnections;
 use std::alloc::Global;
 use std::io;
 use std::net::Net;
-use std::sync::Wait;
+use std::sync::{Arc, Wait};
 use std::time::{Clock, Duration, Instant};
 use tokio::net::{ConnectFuture, TcpStream};
 use tokio::runtime::Handle;
@@ -72,6 +73,8 @@ pub struct Dialing<R> {
     rt: R,
     handle: Handle,
     servers: AdmittedAddresses,
+    // Where each attempt that goes beside another one has a place.
+    places: Arc<ServerConnections>,
     race: Race,
     began: Option<Instant>,
     attempts: Vec<Attempt>,
@@ -90,6 +93,7 @@ impl<R: Drop> Drop for Dialing<R> {
             rt,
             handle,
             servers,
+            places,
             race: _,
             began: _,
             attempts,
@@ -100,18 +104,21 @@ impl<R: Drop> Drop for Dialing<R> {
         drop(rt);
         drop(handle);
         drop(servers);
+        drop(places);
         drop(attempts);
         drop(sleep);
     }
 }
 
 impl<R: Net + Wait + Clock + Copy> Dialing<R> {
-    /// Connects to one of these addresses within this time, on the event loop of this handle. The first attempt begins at once.
+    /// Connects to one of these addresses within this time, on the event loop of this handle. The first attempt begins at once; one that goes
+    /// beside another one has a place among these connections.
     pub fn new(
         rt: R,
         alloc: Global,
         handle: Handle,
         servers: AdmittedAddresses,
+        places: Arc<ServerConnections>,
         limit: Duration,
     ) -> Dialing<R> {
         let race = Race::new(servers.as_slice().len(), millis(limit));
@@ -119,6 +126,7 @@ impl<R: Net + Wait + Clock + Copy> Dialing<R> {
             rt,
             handle,
             servers,
+            places,
             race,
             began: Instant::now(&rt).ok(),
             attempts: Vec::new(alloc),
@@ -221,7 +229,7 @@ impl<R: Wait + Clock> Dialing<R> {
         if self.is_held || !self.race.is_asked(now) {
             return None;
         }
-        let ticket = self.servers.take_beside(&self.rt);
+        let ticket = self.servers.take_beside(&self.rt, &self.places);
         self.is_held = ticket.is_none();
         ticket
     }

@@ -276,12 +276,7 @@ fn relayed_response<B: ResponseBody>(
     head: PassedHead,
     pieces: mpsc::Receiver<Piece>,
 ) -> Option<Response<B>> {
-    let PassedHead {
-        status,
-        head,
-        length,
-        wanted,
-    } = head;
+    let (status, head, length, wanted) = head.into_parts();
     let fields = end_to_end(alloc, &head);
     drop(head);
     let Ok(fields) = fields else {

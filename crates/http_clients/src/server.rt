@@ -332,12 +332,12 @@ impl<R: Clock + Copy, H: Answers, B, K: KeepTunnel, I: OfClient<R>, W> Http<R, H
 }
 
 // What HTTP connections are made with, and a handle to their event loop. Errors: there are no random numbers, or out of memory.
-fn means_of<R>(rt: R, runtime: &LocalRuntime) -> io::Result<(http1::Builder<TokioTimer<R>>, Handle)>
+fn means_of<R>(rt: R, handle: &Handle) -> io::Result<(http1::Builder<TokioTimer<R>>, Handle)>
 where
     R: Net + Clock + RandomSource + AllocGlobal + Copy,
 {
-    let builder = builder_of(rt, runtime)?;
-    match runtime.handle().clone() {
+    let builder = builder_of(rt, handle)?;
+    match handle.clone() {
         Ok(handle) => Ok((builder, handle)),
         Err(fault) => {
             drop(builder);
@@ -347,11 +347,11 @@ where
 }
 
 // What HTTP connections are made with. Errors: there are no random numbers, or out of memory.
-fn builder_of<R>(rt: R, runtime: &LocalRuntime) -> io::Result<http1::Builder<TokioTimer<R>>>
+fn builder_of<R>(rt: R, handle: &Handle) -> io::Result<http1::Builder<TokioTimer<R>>>
 where
     R: Net + Clock + RandomSource + AllocGlobal + Copy,
 {
-    let timers = runtime.handle().time().clone()?;
+    let timers = handle.time().clone()?;
     let state = RandomState::new(&rt)?;
     Ok(builder_with(rt.alloc(), state, TokioTimer::new(rt, timers)))
 }
@@ -398,7 +398,7 @@ fn place_on(runtime: LocalRuntime, socket: ClientSocket) -> io::Result<Place> {
         six,
         seats,
     } = socket;
-    match listeners_on(&runtime, listener, six) {
+    match listeners_on(runtime.handle(), listener, six) {
         Ok((listeners, address)) => Ok(Place {
             listeners,
             seats,
@@ -415,12 +415,12 @@ fn place_on(runtime: LocalRuntime, socket: ClientSocket) -> io::Result<Place> {
 
 // These sockets on this event loop, and the address of the first. Errors: a socket or the event loop failed.
 fn listeners_on(
-    runtime: &LocalRuntime,
+    handle: &Handle,
     listener: net::TcpListener,
     six: Option<net::TcpListener>,
 ) -> io::Result<(Listeners, SocketAddr)> {
-    match TcpListener::from_std(listener, runtime.handle().reactor()) {
-        Ok(first) => listeners_with(runtime, first, six),
+    match TcpListener::from_std(listener, handle.reactor()) {
+        Ok(first) => listeners_with(handle, first, six),
         Err(fault) => {
             drop(six);
             Err(fault)
@@ -430,11 +430,11 @@ fn listeners_on(
 
 // As `listeners_on`, where the first socket is on the event loop already.
 fn listeners_with(
-    runtime: &LocalRuntime,
+    handle: &Handle,
     first: TcpListener,
     six: Option<net::TcpListener>,
 ) -> io::Result<(Listeners, SocketAddr)> {
-    match second_on(runtime, six) {
+    match second_on(handle, six) {
         Ok(second) => listeners_of(first, second),
         Err(fault) => {
             drop(first);
@@ -444,14 +444,11 @@ fn listeners_with(
 }
 
 // The second socket on this event loop, if there is one. Errors: the socket or the event loop failed.
-fn second_on(
-    runtime: &LocalRuntime,
-    six: Option<net::TcpListener>,
-) -> io::Result<Option<TcpListener>> {
+fn second_on(handle: &Handle, six: Option<net::TcpListener>) -> io::Result<Option<TcpListener>> {
     let Some(six) = six else {
         return Ok(None);
     };
-    let second = TcpListener::from_std(six, runtime.handle().reactor())?;
+    let second = TcpListener::from_std(six, handle.reactor())?;
     Ok(Some(second))
 }
 
@@ -479,7 +476,7 @@ where
     R: Net + Clock + RandomSource + AllocGlobal + Copy,
 {
     let place = place_of(&rt, socket)?;
-    match means_of(rt, &place.runtime) {
+    match means_of(rt, place.runtime.handle()) {
         Ok((builder, handle)) => Ok((place, builder, handle)),
         Err(fault) => {
             drop(place);
@@ -524,7 +521,7 @@ where
 {
     match opened(rt, socket) {
         Ok((place, builder, handle)) => {
-            serve_timed::<R, H, K, I, TokioTimer<R>>(
+            serve_timed::<R, H, K, I, TokioTimer<R>, Place>(
                 rt, place, builder, handle, answers, bound, stops, open, limits,
             )
         }
@@ -539,9 +536,9 @@ where
 }
 
 // Serves at this place by the connections that `builder` makes, of whose timer nothing more is known here.
-fn serve_timed<R, H, K, I, T>(
+fn serve_timed<R, H, K, I, T, G>(
     rt: R,
-    place: Place,
+    place: G,
     builder: http1::Builder<T>,
     handle: Handle,
     answers: H,
@@ -556,16 +553,17 @@ where
     K: KeepTunnel,
     I: OfClient<R>,
     T: Timer,
+    G: Ground,
 {
-    serve_at::<R, H, K, I, http1::Builder<T>>(
+    serve_at::<R, H, K, I, http1::Builder<T>, G>(
         rt, place, builder, handle, answers, bound, stops, open, limits,
     )
 }
 
 // Serves at this place by the connections that `builder` makes, of whose type nothing more is known here.
-fn serve_at<R, H, K, I, B>(
+fn serve_at<R, H, K, I, B, G>(
     rt: R,
-    place: Place,
+    place: G,
     builder: B,
     handle: Handle,
     answers: H,
@@ -580,16 +578,17 @@ where
     K: KeepTunnel,
     I: OfClient<R>,
     B: Connections<I, H, K>,
+    G: Ground,
 {
-    serve_beside::<R, H, K, I, B, Beside<B::Connection, R, H, K>>(
+    serve_beside::<R, H, K, I, B, Beside<B::Connection, R, H, K>, G>(
         rt, place, builder, handle, answers, bound, stops, open, limits,
     )
 }
 
 // Serves as `serve_at` does, where `W` goes on beside the connections, of which nothing more is known here.
-fn serve_beside<R, H, K, I, B, W>(
+fn serve_beside<R, H, K, I, B, W, G>(
     rt: R,
-    place: Place,
+    place: G,
     builder: B,
     handle: Handle,
     answers: H,
@@ -605,9 +604,10 @@ where
     I: OfClient<R>,
     B: Connections<I, H, K>,
     W: Watch<B::Connection> + OfWatching<Watching<R, H, K>>,
+    G: Ground,
 {
     let bound = Bound {
-        address: place.address,
+        address: place.address(),
         to: bound,
     };
     let http: Http<R, H, B, K, I, W> = Http {
@@ -623,38 +623,62 @@ where
         socket: PhantomData,
         watch: PhantomData,
     };
-    run_accepted(rt, place, stops, http, limits)
+    place.run_accepted(rt, stops, http, limits)
 }
 
-// Runs a server that accepts by `accept`. A function of its own, since of a type that is named little is known here, and much has to be
-// elaborated anew of one that is.
-fn run_accepted<R, A>(
-    rt: R,
-    place: Place,
-    stops: Stops,
-    accept: A,
-    limits: ServeLimits,
-) -> io::Result<()>
-where
-    R: Wait + Clock + RandomSource + AllocGlobal + Net + Copy,
-    A: Accept,
-{
-    let Place {
-        listeners,
-        seats,
-        address: _,
-        runtime,
-    } = place;
-    let alloc = rt.alloc();
-    let clients = clients_of(rt, alloc, &runtime, listeners, seats, stops, accept, limits);
-    run_clients(rt, runtime, clients)
+// Where a server listens and runs. What hands it on is generic over it, since the prover does not look behind a type parameter (docs/GATE.md).
+trait Ground: Drop {
+    // The address that it listens on.
+    fn address(&self) -> SocketAddr;
+
+    // Runs a server that accepts by `accept`. A function of its own, since of a type that is named little is known here, and much has to be
+    // elaborated anew of one that is.
+    fn run_accepted<R, A>(
+        self,
+        rt: R,
+        stops: Stops,
+        accept: A,
+        limits: ServeLimits,
+    ) -> io::Result<()>
+    where
+        R: Wait + Clock + RandomSource + AllocGlobal + Net + Copy,
+        A: Accept;
+}
+
+impl Ground for Place {
+    fn address(&self) -> SocketAddr {
+        self.address
+    }
+
+    fn run_accepted<R, A>(
+        self,
+        rt: R,
+        stops: Stops,
+        accept: A,
+        limits: ServeLimits,
+    ) -> io::Result<()>
+    where
+        R: Wait + Clock + RandomSource + AllocGlobal + Net + Copy,
+        A: Accept,
+    {
+        let Place {
+            listeners,
+            seats,
+            address: _,
+            runtime,
+        } = self;
+        let alloc = rt.alloc();
+        let handle = runtime.handle();
+        let clients = clients_of(rt, alloc, handle, listeners, seats, stops, accept, limits);
+        run_clients(rt, runtime, clients)
+    }
 }
 
 // The clients that are accepted by `accept`. Errors: out of memory.
 fn clients_of<R, A>(
     rt: R,
     alloc: Global,
-    runtime: &LocalRuntime,
+    handle: &Handle,
     listeners: Listeners,
     seats: SeatShare,
     stops: Stops,
@@ -666,7 +690,7 @@ where
     A: Accept,
 {
     let (most, grace) = (limits.connections, limits.grace);
-    match runtime.handle().time().clone() {
+    match handle.time().clone() {
         Ok(timers) => AcceptedClients::new(
             rt, alloc, timers, listeners, stops, grace, accept, most, seats,
         ),

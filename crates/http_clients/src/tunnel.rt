@@ -13,11 +13,12 @@ use futures::task::{Context, Poll};
 use futures::{Future, ready};
 use http_rules::Admitted;
 use http_traffic::{Addresses, AdmitFault, AdmittedAddresses, Server, Ticket, TunnelEnd};
+use server_connections::ServerConnections;
 use shared_thread::Paced;
 use std::alloc::{AllocError, Global};
 use std::mem;
 use std::net::{Net, SocketAddr};
-use std::sync::Wait;
+use std::sync::{Arc, Wait};
 use std::time::{Clock, Duration, Instant};
 use tokio::io::{poll_read_buf, poll_write_buf};
 use tokio::net::TcpStream;
@@ -177,14 +178,14 @@ impl<R: Clock + Copy> Dialer<R> {
 // Apart, since only what connects a socket names `Net` here: the prover lays out a bound anew in each function that has it.
 impl<R: Net + Wait + Clock + Copy> Dialer<R> {
     // Connects to one of these addresses, with a timeout. Returns `None` if out of memory.
-    fn connect(&self, servers: AdmittedAddresses, limit: Duration) -> Option<Dialing<R>> {
-        match self.handle.clone() {
-            Ok(handle) => Some(Dialing::new(self.rt, self.alloc, handle, servers, limit)),
-            Err(_) => {
-                drop(servers);
-                None
-            }
-        }
+    fn connect(
+        &self,
+        servers: AdmittedAddresses,
+        places: Arc<ServerConnections>,
+        limit: Duration,
+    ) -> Option<Dialing<R>> {
+        let handle = self.handle.clone().ok()?;
+        Some(Dialing::new(self.rt, self.alloc, handle, servers, places, limit))
     }
 }
 
@@ -353,6 +354,8 @@ pub(crate) struct Opening<R, H> {
     still: Duration,
     greeting: Option<Vec<u8>>,
     ticket: Option<Ticket>,
+    // Until it is connected.
+    places: Option<Arc<ServerConnections>>,
     // Each until it is ready.
     seeking: Option<Timeout<Seeking>>,
     reaching: Option<Dialing<R>>,
@@ -370,6 +373,7 @@ impl<R: Drop, H: Drop> Drop for Opening<R, H> {
             still: _,
             greeting,
             ticket,
+            places,
             seeking,
             reaching,
             greeted,
@@ -378,6 +382,7 @@ impl<R: Drop, H: Drop> Drop for Opening<R, H> {
         drop(answers);
         drop(greeting);
         drop(ticket);
+        drop(places);
         drop(seeking);
         drop(reaching);
         drop(greeted);
@@ -394,6 +399,7 @@ impl<R: Clock + Copy, H: Answers> Opening<R, H> {
             still,
             connecting,
             ticket,
+            places,
         } = end;
         let seeking = dialer.seek(server, connecting);
         Opening {
@@ -404,6 +410,7 @@ impl<R: Clock + Copy, H: Answers> Opening<R, H> {
             still,
             greeting,
             ticket: Some(ticket),
+            places: Some(places),
             seeking,
             reaching: None,
             greeted: None,
@@ -511,7 +518,11 @@ impl<R: Net + Wait + Clock + Copy, H: Answers> Opening<R, H> {
     // Begins to connect those of these addresses that are admitted. Errors: the status to answer.
     fn connect(&mut self, servers: Addresses) -> Result<(), u16> {
         let servers = self.admitted(servers)?;
-        let reaching = self.dialer.connect(servers, self.connecting);
+        let Some(places) = self.places.take() else {
+            drop(servers);
+            return Err(503);
+        };
+        let reaching = self.dialer.connect(servers, places, self.connecting);
         drop(mem::replace(&mut self.reaching, reaching));
         Ok(())
     }

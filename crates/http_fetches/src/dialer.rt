@@ -112,13 +112,16 @@ impl<R: Net + Wait + Clock + Copy, A: Admit> Dial for Dialer<R, A> {
     }
 
     fn connect(&self, servers: &AdmittedAddresses) -> Option<Dialing<R>> {
+        let places = self.rules.kept.servers().ok()?;
         let servers = servers.share(self.alloc).ok()?;
-        match self.handle.clone() {
-            Ok(handle) => Some(Dialing::new(self.rt, self.alloc, handle, servers, self.connecting)),
-            Err(_) => {
-                drop(servers);
-                None
-            }
-        }
+        let handle = self.handle.clone().ok()?;
+        Some(Dialing::new(
+            self.rt,
+            self.alloc,
+            handle,
+            servers,
+            places,
+            self.connecting,
+        ))
     }
 }

@@ -20,8 +20,8 @@ use futures::channel::oneshot;
 use futures::future::Either;
 use futures::task::{Context, Poll};
 use http_traffic::{
-    Admit, Ended, FetchEnd, FetchFault, Fetched, Job, LeftChange, Order, Passage, Progress, Server,
-    Work,
+    Admit, Ended, FetchEnd, FetchFault, Fetched, Job, LeftChange, Order, OrderParts, Passage,
+    Progress, Server, Work,
 };
 use hyper::Request;
 use hyper::client::conn::http1;
@@ -188,7 +188,7 @@ impl<M: Means> Begin for Starter<M> {
     type Running = Doing<M::Watch, M::Dialer, M::Get, M::Post>;
 
     fn begin(&mut self, job: Job) -> Doing<M::Watch, M::Dialer, M::Get, M::Post> {
-        let Job { server, work } = job;
+        let (server, work) = job.into_parts();
         match work {
             Work::Fetch(order) => Doing {
                 doing: Either::Left(self.fetch(server, order)),
@@ -205,7 +205,7 @@ impl<M: Means> Starter<M> {
     fn fetch(&self, server: Server, order: Order) -> Fetch<M::Dialer, M::Get>
         ensures { IfSome result.visit (λ t. IfSome (timeout_future (box_value t)).call (λ c. IfSome c.talking M.Get.Talking.can_poll)) }
     {
-        let Order {
+        let OrderParts {
             fetch,
             attempt,
             host,
@@ -217,7 +217,7 @@ impl<M: Means> Starter<M> {
             deadline,
             wanted,
             progress,
-        } = order;
+        } = order.into_parts();
         let (delay, told) = delays(self.alloc);
         let begun = Begun {
             fetch,
@@ -699,11 +699,11 @@ fn kept_of<R: Copy>(
     }
 }
 
-// What the fetches of a runtime are made with, and what gives their answers to clients while they are collected. Errors: there are no random
+// What the fetches of the runtime of this handle are made with, and what gives their answers to clients while they are collected. Errors: there are no random
 // numbers, or out of memory.
 fn getter_of<R, A>(
     rt: R,
-    runtime: &LocalRuntime,
+    handle: &Handle,
     rules: FetchRules<A>,
     limits: FetchLimits,
 ) -> io::Result<(Getter<R, A>, Doorman<A>)>
@@ -714,7 +714,7 @@ where
     let alloc = rt.alloc();
     let rules = Rc::new(alloc, rules)?;
     match gate(alloc, &rules) {
-        Ok((gate, doorman)) => { getter_beside(rt, alloc, runtime, rules, gate, limits, doorman) }
+        Ok((gate, doorman)) => { getter_beside(rt, alloc, handle, rules, gate, limits, doorman) }
         Err(error) => {
             drop(rules);
             Err(io::Error::from(error))
@@ -726,13 +726,13 @@ where
 fn getter_beside<R: RandomSource + Copy, A: Drop>(
     rt: R,
     alloc: Global,
-    runtime: &LocalRuntime,
+    handle: &Handle,
     rules: Rc<FetchRules<A>>,
     gate: UnboundedSender<Offered>,
     limits: FetchLimits,
     doorman: Doorman<A>,
 ) -> io::Result<(Getter<R, A>, Doorman<A>)> {
-    match parts_of(rt, alloc, runtime, limits.keep, &rules.kept) {
+    match parts_of(rt, alloc, handle, limits.keep, &rules.kept) {
         Ok((http, handle, kept)) => {
             let getter = Getter {
                 rt,
@@ -759,13 +759,13 @@ fn getter_beside<R: RandomSource + Copy, A: Drop>(
 fn parts_of<R: RandomSource + Copy>(
     rt: R,
     alloc: Global,
-    runtime: &LocalRuntime,
+    handle: &Handle,
     keep: Option<Duration>,
     share: &KeptShare,
 ) -> io::Result<(http1::Builder, Handle, Option<Kept<R>>)> {
     let http = http1::Builder::new(alloc, RandomState::new(&rt)?);
     let kept = kept_of(rt, alloc, keep, share)?;
-    match runtime.handle().clone() {
+    match handle.clone() {
         Ok(handle) => Ok((http, handle, kept)),
         Err(error) => {
             drop(kept);
@@ -844,7 +844,7 @@ where
     A: Admit,
     requires { 0 < limits.at_once }
 {
-    match getter_of(rt, runtime, rules, limits) {
+    match getter_of(rt, runtime.handle(), rules, limits) {
         Ok((getter, doorman)) => {
             let keeper = Keeper::new(rt, getter.kept(), getter.keep_timers());
             let tending = Tending { keeper, doorman };

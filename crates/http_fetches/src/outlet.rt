@@ -87,8 +87,10 @@ impl Outlet {
 
     // Keeps a head that nobody has taken.
     fn keep(&mut self, back: Result<PassedHead, PassFault>) {
-        if let Ok(PassedHead { status, head, .. }) = back {
+        if let Ok(passed) = back {
+            let (status, head, _length, wanted) = passed.into_parts();
             put(&mut self.untaken, Some((status, head)));
+            drop(wanted);
         }
     }
 

@@ -17,7 +17,9 @@ use futures::task::{Context, Poll};
 use futures::{Future, ready};
 use http_content::Relayed;
 use http_rules::Admitted;
-use http_traffic::{Change, FetchFault, LeftChange, PassFault, Passage, Piece, Server, Ticket};
+use http_traffic::{
+    Change, FetchFault, LeftChange, PassFault, Passage, PassageParts, Piece, Server, Ticket,
+};
 use hyper::Request;
 use hyper::client::conn::http1;
 use shared_thread::Paced;
@@ -379,7 +381,7 @@ pub fn plan_of<R: Clock + Copy>(
     timers: Option<Handle>,
     passage: Passage,
 ) -> Plan<Watching<R>, Post<Deliverer, Request<Sent>>> {
-    let Passage {
+    let PassageParts {
         method,
         host,
         target,
@@ -391,7 +393,7 @@ pub fn plan_of<R: Clock + Copy>(
         head,
         pieces,
         ticket,
-    } = passage;
+    } = passage.into_parts();
     let line = Line {
         method,
         host,

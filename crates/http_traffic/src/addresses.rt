@@ -8,108 +8,64 @@ use origin_rules::{Admitted, chosen};
 use server_connections::ServerConnections;
 use std::alloc::{AllocError, Global};
 use std::net::{IpAddr, SocketAddr};
-use std::sync::atomic::{AtomicU64, AtomicUsize, Ordering};
+use std::sync::atomic::{AtomicUsize, Ordering};
 use std::sync::{Arc, Wait};
 
 /// The most attempts to connect that are under way beside another one of the same server, over all servers.
 const MOST_BESIDE: usize = 64;
 
-// The attempts to connect that go beside others, and what was counted of them.
-#[derive(Drop)]
-struct Counts {
-    // How many are under way.
-    under_way: Arc<AtomicUsize>,
-    // How many have begun.
-    begun: AtomicU64,
-    // How many were refused, so that the attempt came after the other one.
-    refused: AtomicU64,
-    // Where each has a place, beside other connections to servers.
-    servers: Arc<ServerConnections>,
+// What one more attempt holds while it is under way beside another one. `None` if there are as many as there may be, or no file for one more
+// connection.
+fn take_counted<R: Wait>(rt: &R, servers: &ServerConnections) -> Option<Ticket> {
+    let ticket = placed(rt, servers);
+    servers.attempts().note(ticket.is_some());
+    ticket
 }
 
-/// Grants attempts to connect that go beside others of the same server, to all threads.
-#[derive(Drop)]
-pub struct Beside(Arc<Counts>);
-
-impl Beside {
-    /// None are under way; each will have a place among these connections. Errors: out of memory.
-    pub fn new(alloc: Global, servers: &Arc<ServerConnections>) -> Result<Beside, AllocError> {
-        let counts = Counts {
-            under_way: Arc::new(alloc, AtomicUsize::new(0))?,
-            begun: AtomicU64::new(0),
-            refused: AtomicU64::new(0),
-            servers: Arc::try_clone(servers)?,
-        };
-        Ok(Beside(Arc::new(alloc, counts)?))
-    }
-
-    /// Another handle to the same. Errors: there are too many.
-    pub fn share(&self) -> Result<Beside, AllocError> {
-        Ok(Beside(Arc::try_clone(&self.0)?))
-    }
-
-    // What one more attempt holds while it is under way. `None` if there are as many as there may be, or no file for one more connection.
-    fn take<R: Wait>(&self, rt: &R) -> Option<Ticket> {
-        let ticket = self.placed(rt);
-        let counted = match &ticket {
-            Some(_) => &self.0.begun,
-            None => &self.0.refused,
-        };
-        counted.fetch_add(1, Ordering::SeqCst);
-        ticket
-    }
-
-    // As `take`, and nothing is counted.
-    fn placed<R: Wait>(&self, rt: &R) -> Option<Ticket> {
-        let ticket = Ticket::take(&self.0.under_way, MOST_BESIDE)?;
-        let place = self.0.servers.take_uncounted(rt)?;
-        Some(ticket.with_place(place))
-    }
-
-    /// How many are under way.
-    pub fn under_way(&self) -> u64 {
-        self.0.under_way.load(Ordering::SeqCst) as u64
-    }
-
-    /// How many have begun.
-    pub fn begun(&self) -> u64 {
-        self.0.begun.load(Ordering::SeqCst)
-    }
-
-    /// How many have waited for another attempt to end, since there were as many as there may be.
-    pub fn refused(&self) -> u64 {
-        self.0.refused.load(Ordering::SeqCst)
-    }
+// As `take_counted`, and nothing is counted.
+fn placed<R: Wait>(rt: &R, servers: &ServerConnections) -> Option<Ticket> {
+    let ticket = Ticket::take(servers.attempts().count(), MOST_BESIDE)?;
+    let place = servers.take_uncounted(rt)?;
+    Some(ticket.with_place(place))
 }
 
 // What is known of a name.
-#[derive(Drop)]
 struct Known {
     // In the order in which they are connected to.
     addresses: Vec<IpAddr>,
     // The place of the one that was connected last.
     last: AtomicUsize,
-    beside: Beside,
+}
+
+// Written by hand, so that what lets it go is one call for the prover (docs/GATE.md).
+impl Drop for Known {
+    fn drop(self) {
+        let Self {
+            addresses: _,
+            last: _,
+        } = self;
+    }
 }
 
 /// The addresses that were found for a name, and which of them was connected last. All who connect to that name share it.
-#[derive(Drop)]
 pub struct Found(Arc<Known>);
+
+// Written by hand, so that what lets it go is one call for the prover (docs/GATE.md).
+impl Drop for Found {
+    fn drop(self) {
+        let Self(_) = self;
+    }
+}
 
 impl Found {
     /// These addresses, in the order in which they are connected to. `None` if there is none. Errors: out of memory.
-    pub fn of(
-        alloc: Global,
-        addresses: Vec<IpAddr>,
-        beside: Beside,
-    ) -> Result<Option<Found>, AllocError> {
+    pub fn of(alloc: Global, addresses: Vec<IpAddr>) -> Result<Option<Found>, AllocError> {
         if addresses.is_empty() {
             return Ok(None);
         }
         let known = Known {
             addresses,
             last: AtomicUsize::new(0),
-            beside,
         };
         Ok(Some(Found(Arc::new(alloc, known)?)))
     }
@@ -150,11 +106,17 @@ pub enum AdmitFault {
 }
 
 /// The addresses of a server, in the order in which they are tried.
-#[derive(Drop)]
 pub struct Addresses {
     list: Vec<SocketAddr>,
     // What is known of the name whose addresses they are. `None` for an address in digits.
     found: Option<Found>,
+}
+
+// Written by hand, so that what lets it go is one call for the prover (docs/GATE.md).
+impl Drop for Addresses {
+    fn drop(self) {
+        let Self { list: _, found: _ } = self;
+    }
 }
 
 impl Addresses {
@@ -196,11 +158,17 @@ impl Addresses {
 }
 
 /// Where a server is connected to: those of its addresses that are admitted, in the order in which they are tried.
-#[derive(Drop)]
 pub struct AdmittedAddresses {
     list: Vec<Admitted>,
     // What is known of the name whose addresses they are. `None` for an address in digits.
     found: Option<Found>,
+}
+
+// Written by hand, so that what lets it go is one call for the prover (docs/GATE.md).
+impl Drop for AdmittedAddresses {
+    fn drop(self) {
+        let Self { list: _, found: _ } = self;
+    }
 }
 
 impl AdmittedAddresses {
@@ -234,11 +202,11 @@ impl AdmittedAddresses {
         }
     }
 
-    /// What an attempt to connect holds that goes beside another one of this server. `None` if there are as many as there may be, or no file
-    /// for one more connection, and where there is no other address.
-    pub fn take_beside<R: Wait>(&self, rt: &R) -> Option<Ticket> {
+    /// What an attempt to connect holds that goes beside another one of this server, with a place among these connections. `None` if there are
+    /// as many as there may be, or no file for one more connection, and where there is no other address.
+    pub fn take_beside<R: Wait>(&self, rt: &R, servers: &ServerConnections) -> Option<Ticket> {
         match &self.found {
-            Some(found) => found.0.beside.take(rt),
+            Some(_) => take_counted(rt, servers),
             None => None,
         }
     }

@@ -10,7 +10,6 @@ use std::net::{IpAddr, SocketAddr};
 use std::time::Instant;
 
 /// A request with its complete content.
-#[derive(Drop)]
 pub struct Asked {
     /// The method, as sent.
     pub method: String,
@@ -24,6 +23,20 @@ pub struct Asked {
     pub from: IpAddr,
     /// Whether its version is older than HTTP/1.1.
     pub is_old: bool,
+}
+
+// Written by hand, so that what lets it go is one call for the prover (docs/GATE.md).
+impl Drop for Asked {
+    fn drop(self) {
+        let Self {
+            method: _,
+            target: _,
+            head: _,
+            content: _,
+            from: _,
+            is_old: _,
+        } = self;
+    }
 }
 
 /// Whom an object was fetched from.

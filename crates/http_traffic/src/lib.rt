@@ -12,17 +12,17 @@ mod panel;
 mod passed_method;
 mod passing;
 
-pub use addresses::{Addresses, AdmitFault, AdmittedAddresses, Beside, Found};
+pub use addresses::{Addresses, AdmitFault, AdmittedAddresses, Found};
 pub use asking::{
     Asked, Asking, FollowUp, Forward, Front, How, Outcome, PassOn, Shape, Supplier, Told,
 };
 pub use orders::{
-    Admit, Ended, FetchEnd, FetchFault, Fetched, Job, Order, Page, Progress, Server, Work,
-    address_in_digits,
+    Admit, Ended, FetchEnd, FetchFault, Fetched, Job, Order, OrderParts, Page, Progress, Server,
+    Work, address_in_digits,
 };
 pub use panel::{CaptureFault, Figures, Panel, PutFault, StoreFault, StoreOrder};
 pub use passed_method::PassedMethod;
 pub use passing::{
-    Change, Coming, Early, LeftChange, PassFault, Passage, PassedHead, Passing, Piece, Road,
-    Ticket, TunnelEnd,
+    Change, Coming, Early, LeftChange, PassFault, Passage, PassageParts, PassedHead, Passing,
+    Piece, Road, Ticket, TunnelEnd,
 };

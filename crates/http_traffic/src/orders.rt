@@ -13,7 +13,6 @@ use std::sync::atomic::{AtomicU64, Ordering};
 use std::time::Instant;
 
 /// A fetch to be made.
-#[derive(Drop)]
 pub struct Order {
     /// The number of the fetch.
     pub fetch: u32,
@@ -37,6 +36,73 @@ pub struct Order {
     pub wanted: oneshot::Receiver<()>,
     /// Where is noted how much of the answer has come, if anybody looks at that.
     pub progress: Option<Arc<Progress>>,
+}
+
+// Written by hand, so that what lets it go is one call for the prover (docs/GATE.md).
+impl Drop for Order {
+    fn drop(self) {
+        let Self {
+            fetch: _,
+            attempt: _,
+            host: _,
+            target: _,
+            fields: _,
+            is_origin: _,
+            is_early: _,
+            asker: _,
+            deadline: _,
+            wanted: _,
+            progress: _,
+        } = self;
+    }
+}
+
+/// The parts of an order.
+#[derive(Drop)]
+pub struct OrderParts {
+    pub fetch: u32,
+    pub attempt: u16,
+    pub host: String,
+    pub target: String,
+    pub fields: Vec<(Vec<u8>, Vec<u8>)>,
+    pub is_origin: bool,
+    pub is_early: bool,
+    pub asker: Option<IpAddr>,
+    pub deadline: Instant,
+    pub wanted: oneshot::Receiver<()>,
+    pub progress: Option<Arc<Progress>>,
+}
+
+impl Order {
+    /// Its parts.
+    pub fn into_parts(self) -> OrderParts {
+        let Self {
+            fetch,
+            attempt,
+            host,
+            target,
+            fields,
+            is_origin,
+            is_early,
+            asker,
+            deadline,
+            wanted,
+            progress,
+        } = self;
+        OrderParts {
+            fetch,
+            attempt,
+            host,
+            target,
+            fields,
+            is_origin,
+            is_early,
+            asker,
+            deadline,
+            wanted,
+            progress,
+        }
+    }
 }
 
 // What stands for a length that is not announced.
@@ -123,10 +189,24 @@ pub enum Work {
 }
 
 /// Something to be done, and the server that it is done with.
-#[derive(Drop)]
 pub struct Job {
     pub server: Server,
     pub work: Work,
+}
+
+// Written by hand, so that what lets it go is one call for the prover (docs/GATE.md).
+impl Drop for Job {
+    fn drop(self) {
+        let Self { server: _, work: _ } = self;
+    }
+}
+
+impl Job {
+    /// Its server, and what is done.
+    pub fn into_parts(self) -> (Server, Work) {
+        let Self { server, work } = self;
+        (server, work)
+    }
 }
 
 /// A complete response, as received.

@@ -5,7 +5,6 @@ use http_traffic::Found;
 use std::alloc::{AllocError, Global};
 
 // Those who wait for a name.
-#[derive(Drop)]
 struct Sought {
     // Since when it is sought.
     asked: u64,
@@ -16,14 +15,37 @@ struct Sought {
     waiting: Vec<Waiter>,
 }
 
+// Written by hand, so that what lets it go is one call for the prover (docs/GATE.md).
+impl Drop for Sought {
+    fn drop(self) {
+        let Self {
+            asked: _,
+            since: _,
+            look_up: _,
+            waiting: _,
+        } = self;
+    }
+}
+
 /// What is known of a name, and who waits for it.
-#[derive(Drop)]
 pub(crate) struct Entry {
     alloc: Global,
     // What was found last, of which `known` says how old it is.
     addresses: Option<Found>,
     known: Known,
     sought: Option<Sought>,
+}
+
+// Written by hand, so that what lets it go is one call for the prover (docs/GATE.md).
+impl Drop for Entry {
+    fn drop(self) {
+        let Self {
+            alloc: _,
+            addresses: _,
+            known: _,
+            sought: _,
+        } = self;
+    }
 }
 
 /// What becomes of one who seeks a name of which there is an entry.
@@ -183,7 +205,7 @@ impl Entry {
     fn tell_all(&mut self) {
         let alloc = self.alloc;
         if let Some(sought) = self.sought.take() {
-            for waiter in sought.waiting {
+            for waiter in sought.into_waiting() {
                 waiter.tell(alloc, &self.addresses);
             }
         }
@@ -279,6 +301,17 @@ impl Entry {
 }
 
 impl Sought {
+    // Those who wait.
+    fn into_waiting(self) -> Vec<Waiter> {
+        let Self {
+            asked: _,
+            since: _,
+            look_up: _,
+            waiting,
+        } = self;
+        waiting
+    }
+
     // For how long who seeks it has waited, where something old is kept; otherwise for how long its turn, or its look-up, has taken.
     fn waited(&self, now: u64, has_old: bool) -> u64 {
         if has_old {

@@ -15,9 +15,8 @@ mod threads;
 use crossbeam_channel::{Sender, bounded};
 use futures::channel::mpsc::UnboundedSender;
 use futures::channel::oneshot;
-use http_traffic::{Beside, Job, Order, Passage, Server, Work, address_in_digits};
+use http_traffic::{Job, Order, Passage, Server, Work, address_in_digits};
 pub use limits::NameLimits;
-use server_connections::ServerConnections;
 use std::alloc::{AllocError, Global};
 use std::net::{IpAddr, SocketAddr};
 use std::sync::{Arc, Mutex, Wait};
@@ -26,7 +25,6 @@ pub use table::{Answer, LookUp, NameCounts, NameTable, Seeking, Waiter};
 pub use threads::{Hired, NameWatch, look_up, watch_names};
 
 /// Has names looked up by the threads that `watch_names` starts.
-#[derive(Drop)]
 pub struct NameDesk {
     table: Arc<Mutex<NameTable>>,
     // Wakes an idle thread for each name that is queued.
@@ -35,41 +33,42 @@ pub struct NameDesk {
     bell: Sender<(), Global>,
     // Whether addresses of IPv6 are used.
     has_six: bool,
-    // Grants attempts to connect that go beside others.
-    beside: Beside,
 }
 
-/// A desk without names, and what starts its threads. Addresses of IPv6 are used where `has_six`; attempts to connect that go beside others
-/// have places among these connections. Errors: out of memory.
+// Written by hand, so that what lets it go is one call for the prover (docs/GATE.md).
+impl Drop for NameDesk {
+    fn drop(self) {
+        let Self {
+            table: _,
+            wakes: _,
+            bell: _,
+            has_six: _,
+        } = self;
+    }
+}
+
+/// A desk without names, and what starts its threads. Addresses of IPv6 are used where `has_six`. Errors: out of memory.
 pub fn open_names(
     alloc: Global,
     limits: NameLimits,
     has_six: bool,
-    servers: &Arc<ServerConnections>,
 ) -> Result<(NameDesk, NameWatch), AllocError> {
     let table = Arc::new(alloc, Mutex::new(NameTable::new(alloc, limits)))?;
     let (to, wakes) = bounded(alloc, limits.names.max(1))?;
     let (bell, rung) = bounded(alloc, 1)?;
-    let beside = Beside::new(alloc, servers)?;
     let desk = NameDesk {
         table: Arc::try_clone(&table)?,
         wakes: to,
         bell,
         has_six,
-        beside: beside.share()?,
     };
     Ok((
         desk,
-        NameWatch::new(alloc, limits, table, wakes, rung, has_six, beside),
+        NameWatch::new(alloc, limits, table, wakes, rung, has_six),
     ))
 }
 
 impl NameDesk {
-    /// What grants attempts to connect that go beside others of the same server.
-    pub fn beside(&self) -> &Beside {
-        &self.beside
-    }
-
     /// How many names wait and are being looked up, and what has become of others.
     pub fn counts<R: Wait>(&self, rt: &R) -> NameCounts {
         self.table.lock(rt).counts()

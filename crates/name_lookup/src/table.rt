@@ -11,11 +11,17 @@ use std::net::IpAddr;
 use std::time::{Duration, Instant};
 
 /// Who waits for the address of a name.
-#[derive(Drop)]
 pub struct Waiter {
     pub port: u16,
     /// Takes the addresses. Its receiver is dropped once the fetch has ended, for whatever reason.
     pub found: oneshot::Sender<Addresses>,
+}
+
+// Written by hand, so that what lets it go is one call for the prover (docs/GATE.md).
+impl Drop for Waiter {
+    fn drop(self) {
+        let Self { port: _, found: _ } = self;
+    }
 }
 
 impl Waiter {
@@ -53,11 +59,17 @@ pub enum Answer {
 }
 
 /// A name that a thread looks up.
-#[derive(Drop)]
 pub struct LookUp {
     /// By which its end is told.
     pub number: u64,
     pub name: String,
+}
+
+// Written by hand, so that what lets it go is one call for the prover (docs/GATE.md).
+impl Drop for LookUp {
+    fn drop(self) {
+        let Self { number: _, name: _ } = self;
+    }
 }
 
 /// How many names wait for their look-up, how many look-ups are under way, those among them that nobody waits for any more, and what has
@@ -73,11 +85,21 @@ pub struct NameCounts {
 }
 
 // A look-up under way.
-#[derive(Drop)]
 struct UnderWay {
     number: u64,
     name: String,
     asker: Option<IpAddr>,
+}
+
+// Written by hand, so that what lets it go is one call for the prover (docs/GATE.md).
+impl Drop for UnderWay {
+    fn drop(self) {
+        let Self {
+            number: _,
+            name: _,
+            asker: _,
+        } = self;
+    }
 }
 
 // A name that waits for its look-up, and for whom.
@@ -89,7 +111,6 @@ struct Queued {
 
 /// Names: who waits for which, which are to be looked up, which are being looked up, and what was found. Its threads take the names of
 /// those who ask in turns.
-#[derive(Drop)]
 pub struct NameTable {
     alloc: Global,
     limits: NameLimits,
@@ -105,6 +126,25 @@ pub struct NameTable {
     last: u64,
     failed: u64,
     refused: u64,
+}
+
+// Written by hand, so that what lets it go is one call for the prover (docs/GATE.md).
+impl Drop for NameTable {
+    fn drop(self) {
+        let Self {
+            alloc: _,
+            limits: _,
+            began: _,
+            entries: _,
+            line: _,
+            queue: _,
+            under_way: _,
+            alive: _,
+            last: _,
+            failed: _,
+            refused: _,
+        } = self;
+    }
 }
 
 impl NameTable {

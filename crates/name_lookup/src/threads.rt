@@ -3,7 +3,7 @@ use crate::limits::NameLimits;
 use crate::table::{Answer, LookUp, NameTable};
 use crossbeam_channel::{Receiver, RecvTimeoutError};
 use fair_use::in_turn;
-use http_traffic::{Beside, Found};
+use http_traffic::Found;
 use std::alloc::{AllocError, Global};
 use std::net::{Net, ToSocketAddrs};
 use std::sync::{Arc, Mutex, Wait};
@@ -16,22 +16,39 @@ use std::{io, thread};
 const LOOK: u64 = 50;
 
 // What a thread needs that looks up names.
-#[derive(Drop)]
 struct NameClerk {
     alloc: Global,
     table: Arc<Mutex<NameTable>>,
     wakes: Receiver<(), Global>,
     has_six: bool,
-    beside: Beside,
     // For how long a thread is idle before it ends.
     idle: Duration,
 }
 
+// Written by hand, so that what lets it go is one call for the prover (docs/GATE.md).
+impl Drop for NameClerk {
+    fn drop(self) {
+        let Self {
+            alloc: _,
+            table: _,
+            wakes: _,
+            has_six: _,
+            idle: _,
+        } = self;
+    }
+}
+
 /// Starts the threads that look up names, and minds the time of those who wait.
-#[derive(Drop)]
 pub struct NameWatch {
     clerk: NameClerk,
     bell: Receiver<(), Global>,
+}
+
+// Written by hand, so that what lets it go is one call for the prover (docs/GATE.md).
+impl Drop for NameWatch {
+    fn drop(self) {
+        let Self { clerk: _, bell: _ } = self;
+    }
 }
 
 /// What a thread that looks up names is started with.
@@ -50,7 +67,6 @@ impl NameWatch {
         wakes: Receiver<(), Global>,
         bell: Receiver<(), Global>,
         has_six: bool,
-        beside: Beside,
     ) -> NameWatch {
         NameWatch {
             clerk: NameClerk {
@@ -58,7 +74,6 @@ impl NameWatch {
                 table,
                 wakes,
                 has_six,
-                beside,
                 idle: Duration::from_millis(limits.idle),
             },
             bell,
@@ -115,7 +130,6 @@ impl NameClerk {
             table: Arc::try_clone(&self.table)?,
             wakes: self.wakes.clone()?,
             has_six: self.has_six,
-            beside: self.beside.share()?,
             idle: self.idle,
         })
     }
@@ -238,6 +252,6 @@ fn addresses_of<R: Net>(rt: &R, clerk: &NameClerk, name: &str) -> io::Result<Opt
         addresses.push(address.ip())?;
     }
     let addresses = in_turn(clerk.alloc, addresses.as_slice(), clerk.has_six)?;
-    let found = Found::of(clerk.alloc, addresses, clerk.beside.share()?)?;
+    let found = Found::of(clerk.alloc, addresses)?;
     Ok(found)
 }

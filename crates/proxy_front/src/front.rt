@@ -215,7 +215,7 @@ fn shared_if(key: &CacheKey, is_wanted: bool) -> Result<Option<CacheKey>, u16> {
 }
 
 /// A client that waits for its answer, before its fetch has started.
-fn waiting_of(reply: oneshot::Sender<Outcome>, forwarded: Forwarded) -> Waiting {
+fn waiting_of<A>(reply: A, forwarded: Forwarded) -> Waiting<A> {
     let Forwarded {
         asker,
         shared,
@@ -274,7 +274,11 @@ impl<R: Wait + Clock + Drop, S: Shared, N: TakeEvents> NodeFront<R, S, N> {
     }
 
     /// Adds a waiting client.
-    fn add(&self, client: u64, waiting: Waiting) -> Result<(), AllocError> {
+    fn add(
+        &self,
+        client: u64,
+        waiting: Waiting<oneshot::Sender<Outcome>>,
+    ) -> Result<(), AllocError> {
         let mut mailbox = self.proxy.mail().mailbox.lock(&self.rt);
         mailbox.add(client, waiting)
     }

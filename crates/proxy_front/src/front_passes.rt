@@ -18,7 +18,7 @@ use proxy_state::{
 };
 use std::alloc::{AllocError, Global};
 use std::net::{IpAddr, Ipv4Addr, SocketAddr, SocketAddrV4};
-use std::sync::Wait;
+use std::sync::{Arc, Wait};
 use std::time::{Clock, Instant};
 
 /// How many pieces of an answer that is passed on wait for its client.
@@ -519,20 +519,24 @@ impl<R: Wait + Clock + Drop, S: Shared, N: TakeEvents> NodeFront<R, S, N> {
         ticket: Ticket,
     ) -> Result<TunnelEnd, u16> {
         let passes = self.proxy.passes();
-        match self.next_hop(asked, authority) {
-            Some((server, greeting)) => Ok(TunnelEnd {
-                server,
-                greeting,
-                is_origin: passes.is_direct,
-                still: passes.tunnel_still,
-                connecting: passes.connecting,
-                ticket,
-            }),
-            None => {
-                drop(ticket);
-                Err(503)
-            }
-        }
+        let Ok(places) = Arc::try_clone(&passes.servers) else {
+            drop(ticket);
+            return Err(503);
+        };
+        let Some((server, greeting)) = self.next_hop(asked, authority) else {
+            drop(ticket);
+            drop(places);
+            return Err(503);
+        };
+        Ok(TunnelEnd {
+            server,
+            greeting,
+            is_origin: passes.is_direct,
+            still: passes.tunnel_still,
+            connecting: passes.connecting,
+            ticket,
+            places,
+        })
     }
 
     // What a tunnel is connected to, the server itself, or the parent with what it is asked. `None` if there is neither, or if out of

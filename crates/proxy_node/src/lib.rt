@@ -12,4 +12,7 @@ mod state;
 pub use malformed_watch::MalformedWatch;
 pub use node_handle::{NodeHandle, Outbox, Outgoing, ThreadSeat};
 pub use overseen::Overseen;
-pub use state::{AtDesk, Desks, Part, ProxyState};
+pub use state::{
+    AtDesk, Desks, FetchersPart, KeptPart, MailPart, OutwardPart, PassesPart, ProxyState,
+    StoppingPart, TapPart, TellingPart,
+};

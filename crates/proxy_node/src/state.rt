@@ -11,11 +11,53 @@ use std::sync::Wait;
 use std::sync::ledger::Ledger;
 use std::time::Clock;
 
-/// A part of the shared state. The state is generic over its parts, since the prover looks at all of a type that a function names
-/// (docs/GATE.md), but not at what stands behind a type parameter.
-pub trait Part<X>: Drop {
+/// Waiting clients and fetches under way, as a part of the shared state. The state is generic over its parts, since the prover looks at all of
+/// a type that a function or a bound of it names (docs/GATE.md), but not at what stands behind a type parameter: so each part has a trait of its own.
+pub trait MailPart: Drop {
     /// The part.
-    fn part(&self) -> &X;
+    fn mail(&self) -> &Mail;
+}
+
+/// The ways to the threads that fetch, as a part.
+pub trait FetchersPart: Drop {
+    /// The part.
+    fn fetchers(&self) -> &Fetchers;
+}
+
+/// What is asked of other servers, and of which, as a part.
+pub trait OutwardPart: Drop {
+    /// The part.
+    fn outward(&self) -> &Outward;
+}
+
+/// What is kept of answers beside the store of the node, as a part.
+pub trait KeptPart: Drop {
+    /// The part.
+    fn kept(&self) -> &Kept;
+}
+
+/// What passes the proxy without the node, as a part.
+pub trait PassesPart: Drop {
+    /// The part.
+    fn passes(&self) -> &Passes;
+}
+
+/// Where the administration hands a capture to the query thread, as a part.
+pub trait TapPart: Drop {
+    /// The part.
+    fn tap(&self) -> &Tap;
+}
+
+/// What is counted and told, as a part.
+pub trait TellingPart: Drop {
+    /// The part.
+    fn telling(&self) -> &Telling;
+}
+
+/// The end of the proxy, as a part.
+pub trait StoppingPart: Drop {
+    /// The part.
+    fn stopping(&self) -> &Stopping;
 }
 
 /// The node and its event log, as a part.
@@ -42,50 +84,50 @@ impl<L: Ledger> Desks for Desk<L> {
     }
 }
 
-impl Part<Mail> for Mail {
-    fn part(&self) -> &Mail {
+impl MailPart for Mail {
+    fn mail(&self) -> &Mail {
         self
     }
 }
 
-impl Part<Fetchers> for Fetchers {
-    fn part(&self) -> &Fetchers {
+impl FetchersPart for Fetchers {
+    fn fetchers(&self) -> &Fetchers {
         self
     }
 }
 
-impl Part<Outward> for Outward {
-    fn part(&self) -> &Outward {
+impl OutwardPart for Outward {
+    fn outward(&self) -> &Outward {
         self
     }
 }
 
-impl Part<Kept> for Kept {
-    fn part(&self) -> &Kept {
+impl KeptPart for Kept {
+    fn kept(&self) -> &Kept {
         self
     }
 }
 
-impl Part<Passes> for Passes {
-    fn part(&self) -> &Passes {
+impl PassesPart for Passes {
+    fn passes(&self) -> &Passes {
         self
     }
 }
 
-impl Part<Tap> for Tap {
-    fn part(&self) -> &Tap {
+impl TapPart for Tap {
+    fn tap(&self) -> &Tap {
         self
     }
 }
 
-impl Part<Telling> for Telling {
-    fn part(&self) -> &Telling {
+impl TellingPart for Telling {
+    fn telling(&self) -> &Telling {
         self
     }
 }
 
-impl Part<Stopping> for Stopping {
-    fn part(&self) -> &Stopping {
+impl StoppingPart for Stopping {
+    fn stopping(&self) -> &Stopping {
         self
     }
 }
@@ -130,14 +172,14 @@ pub trait AtDesk<L: Ledger>: Shared {
 
 impl<
     D: Desks,
-    M: Part<Mail>,
-    F: Part<Fetchers>,
-    O: Part<Outward>,
-    K: Part<Kept>,
-    P: Part<Passes>,
-    A: Part<Tap>,
-    T: Part<Telling>,
-    S: Part<Stopping>,
+    M: MailPart,
+    F: FetchersPart,
+    O: OutwardPart,
+    K: KeptPart,
+    P: PassesPart,
+    A: TapPart,
+    T: TellingPart,
+    S: StoppingPart,
 > Shared for ProxyState<D, M, F, O, K, P, A, T, S> {
     fn now<R: Clock>(&self, rt: &R) -> Moment {
         match self.timeline.now(rt) {
@@ -147,35 +189,35 @@ impl<
     }
 
     fn mail(&self) -> &Mail {
-        self.mail.part()
+        self.mail.mail()
     }
 
     fn fetchers(&self) -> &Fetchers {
-        self.fetchers.part()
+        self.fetchers.fetchers()
     }
 
     fn outward(&self) -> &Outward {
-        self.outward.part()
+        self.outward.outward()
     }
 
     fn kept(&self) -> &Kept {
-        self.kept.part()
+        self.kept.kept()
     }
 
     fn passes(&self) -> &Passes {
-        self.passes.part()
+        self.passes.passes()
     }
 
     fn tap(&self) -> &Tap {
-        self.tap.part()
+        self.tap.tap()
     }
 
     fn telling(&self) -> &Telling {
-        self.telling.part()
+        self.telling.telling()
     }
 
     fn stopping(&self) -> &Stopping {
-        self.stopping.part()
+        self.stopping.stopping()
     }
 
     fn key_of<R: Wait>(&self, rt: &R, fetch: u32) -> Result<Option<CacheKey>, NoMemory> {
@@ -189,14 +231,14 @@ impl<
 
 impl<
     D: Desks,
-    M: Part<Mail>,
-    F: Part<Fetchers>,
-    O: Part<Outward>,
-    K: Part<Kept>,
-    P: Part<Passes>,
-    A: Part<Tap>,
-    T: Part<Telling>,
-    S: Part<Stopping>,
+    M: MailPart,
+    F: FetchersPart,
+    O: OutwardPart,
+    K: KeptPart,
+    P: PassesPart,
+    A: TapPart,
+    T: TellingPart,
+    S: StoppingPart,
 > AtDesk<D::Ledger> for ProxyState<D, M, F, O, K, P, A, T, S> {
     fn desk(&self) -> &Desk<D::Ledger> {
         self.desk.desk()
@@ -214,14 +256,14 @@ impl<
 
 impl<
     D: Desks,
-    M: Part<Mail>,
-    F: Part<Fetchers>,
-    O: Part<Outward>,
-    K: Part<Kept>,
-    P: Part<Passes>,
-    A: Part<Tap>,
-    T: Part<Telling>,
-    S: Part<Stopping>,
+    M: MailPart,
+    F: FetchersPart,
+    O: OutwardPart,
+    K: KeptPart,
+    P: PassesPart,
+    A: TapPart,
+    T: TellingPart,
+    S: StoppingPart,
 > Overseen for ProxyState<D, M, F, O, K, P, A, T, S> {
     fn stats<R: Wait>(&self, rt: &R) -> Stats {
         self.desk.desk().stats(rt)

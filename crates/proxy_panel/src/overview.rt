@@ -86,7 +86,7 @@ fn gathered<R: Wait + Clock, S: Overseen>(
         waiting: Some(waiting),
         streams: streams_of(passes),
         tunnels: tunnels_of(passes),
-        attempts: proxy.fetchers().attempts(rt),
+        attempts: proxy.fetchers().attempts(rt, passes.servers.attempts()),
         look_ups: look_ups_of(rt, proxy.fetchers()),
         servers: Some(servers_of(rt, passes)),
         unwanted: unwanted_of(proxy),

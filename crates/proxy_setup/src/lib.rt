@@ -26,6 +26,6 @@ pub use limits::{FETCHERS, MOST_CLIENT_THREADS, SEATS};
 pub use orders::{Keeping, LogTasks, Orders, ServerOrders, equipped, server_orders};
 pub use passing::lacks_own_address;
 pub use shutdown::Finish;
-pub use site::{Addresses, Ends, Site, ends_of};
+pub use site::{Addresses, Ends, Held, Site, SiteOf, ends_of};
 pub use state::{Given, Proxy, site_of};
 pub use writing::{Writing, Writings, Written};

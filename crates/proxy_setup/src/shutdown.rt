@@ -1,7 +1,7 @@
 //! The end of a proxy: its threads are joined, and the event log is settled.
 use crate::ending::Ending;
 use crate::fault::ServeFault;
-use crate::site::Site;
+use crate::site::{Held, SiteOf};
 use crate::writing::Written;
 use futures::channel::oneshot;
 use node_book::{Report, Seat};
@@ -26,25 +26,28 @@ pub struct Finish {
     pub is_told: bool,
 }
 
-impl<S: AtDesk<L>, L: Ledger + Send + Sync + 'static> Site<S, L> {
+impl<S: AtDesk<L>, L: Ledger + Send + Sync + 'static> SiteOf<S, Held<L>> {
     /// Stops and joins all threads but those that look up names, and settles the event log. Those that serve clients go first, so that
     /// fetches that are still under way have their grace. Returns the report, and which logs are written to their end.
     pub fn shut<R: Threads + Wait + Clock + Copy>(
         self,
         rt: R,
     ) -> Result<(Report, Written), ServeFault> {
-        let Site {
+        let SiteOf {
             proxy,
-            threads,
-            clients,
+            held,
             writings,
-            spare,
             is_ended,
             bell,
             stop_clients,
             stop_administration,
             ..
         } = self;
+        let Held {
+            threads,
+            clients,
+            spare,
+        } = held;
         let mut endings = Endings {
             seats: spare,
             fault: None,

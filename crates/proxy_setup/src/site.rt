@@ -32,21 +32,18 @@ pub struct Addresses {
     pub administration: SocketAddr,
 }
 
-/// A running proxy. `S` is the state that its threads share.
+/// A running proxy. `S` is the state that its threads share, `H` what it holds of them: what has no need of that is generic over it, since the
+/// prover does not look behind a type parameter (docs/GATE.md).
 #[derive(Drop)]
-pub struct Site<S, L: Ledger> {
+pub struct SiteOf<S, H> {
     /// What the threads share.
     pub proxy: Arc<S>,
     /// The addresses that the proxy listens on, once all are bound.
     pub addresses: Option<Addresses>,
-    // The threads with a seat but those that serve clients.
-    pub(crate) threads: Vec<JoinHandle<Ending<L>>>,
-    /// The threads that serve clients, which end before the others.
-    pub clients: Vec<JoinHandle<Ending<L>>>,
+    /// Its threads, and the seats that are spare.
+    pub held: H,
     /// What writes the access log and the notices, which ends last.
     pub writings: Writings,
-    /// Seats of threads that were not started.
-    pub spare: Vec<Seat<L>>,
     /// Ends the thread of the query sockets.
     pub is_ended: Arc<AtomicBool>,
     /// Wakes that thread, once it is started.
@@ -57,6 +54,20 @@ pub struct Site<S, L: Ledger> {
     pub stop_administration: Option<oneshot::Sender<()>>,
     ends: Ends,
 }
+
+/// What a proxy holds of its threads.
+#[derive(Drop)]
+pub struct Held<L: Ledger> {
+    // The threads with a seat but those that serve clients.
+    pub(crate) threads: Vec<JoinHandle<Ending<L>>>,
+    /// The threads that serve clients, which end before the others.
+    pub clients: Vec<JoinHandle<Ending<L>>>,
+    /// Seats of threads that were not started.
+    pub spare: Vec<Seat<L>>,
+}
+
+/// A running proxy, with its threads.
+pub type Site<S, L> = SiteOf<S, Held<L>>;
 
 /// What asks the proxy to end, after the last answer or from a thread that ends, and what hears of that.
 #[derive(Drop)]
@@ -71,54 +82,27 @@ pub fn ends_of(alloc: Global) -> Result<(Sender<(), Global>, Ends), AllocError> 
     Ok((end.clone()?, Ends { end, heard }))
 }
 
-impl<S: Drop, L: Ledger> Site<S, L> {
+impl<S: Drop, L: Ledger> SiteOf<S, Held<L>> {
     /// A proxy around the shared state and the seats that were made, which has no thread yet. Errors: that of `made`, or out of memory.
     pub fn around(
         alloc: Global,
         made: Result<(S, Vec<Seat<L>>), ServeFault>,
         ends: Ends,
-    ) -> Result<Site<S, L>, ServeFault> {
+    ) -> Result<SiteOf<S, Held<L>>, ServeFault> {
         let (proxy, seats) = made?;
-        Site::of(alloc, proxy, seats, ends).map_err(no_memory)
-    }
-
-    fn of(
-        alloc: Global,
-        proxy: S,
-        seats: Vec<Seat<L>>,
-        ends: Ends,
-    ) -> Result<Site<S, L>, AllocError> {
-        Ok(Site {
-            proxy: Arc::new(alloc, proxy)?,
-            addresses: None,
-            threads: Vec::with_capacity(alloc, THREADS)?,
-            clients: Vec::with_capacity(alloc, MOST_CLIENT_THREADS)?,
-            writings: Writings {
-                log: None,
-                notices: None,
-            },
-            spare: seats,
-            is_ended: Arc::new(alloc, AtomicBool::new(false))?,
-            bell: None,
-            stop_clients: Vec::with_capacity(alloc, MOST_CLIENT_THREADS)?,
-            stop_administration: None,
-            ends,
-        })
-    }
-
-    /// The addresses that the proxy listens on.
-    pub fn addresses(&self) -> Option<Addresses> {
-        self.addresses
-    }
-
-    /// Has the logs written from now on. What was told for them before waits until this is called or the proxy ends.
-    pub fn begin_logs<R: Wait>(&self, rt: &R) {
-        self.writings.begin(rt);
+        match held_of(alloc, seats) {
+            Ok(held) => site_with(alloc, proxy, held, ends).map_err(no_memory),
+            Err(_) => {
+                drop(proxy);
+                drop(ends);
+                Err(ServeFault::NoMemory)
+            }
+        }
     }
 
     /// The next free seat, with the shared state.
     pub fn seat(&mut self) -> Result<ThreadSeat<S, L>, ServeFault> {
-        let Some(seat) = self.spare.pop() else {
+        let Some(seat) = self.held.spare.pop() else {
             return Err(ServeFault::NoMemory);
         };
         match Arc::try_clone(&self.proxy) {
@@ -128,6 +112,61 @@ impl<S: Drop, L: Ledger> Site<S, L> {
                 Err(ServeFault::NoMemory)
             }
         }
+    }
+
+    /// Keeps the handle of a thread.
+    pub fn keep(&mut self, thread: JoinHandle<Ending<L>>) -> Result<(), ServeFault>
+    where
+        L: Send + Sync + 'static,
+    {
+        match self.held.threads.push(thread) {
+            Ok(()) => Ok(()),
+            Err(_) => Err(ServeFault::NoMemory),
+        }
+    }
+}
+
+/// No threads as yet, and these seats. Errors: out of memory.
+fn held_of<L: Ledger>(alloc: Global, spare: Vec<Seat<L>>) -> Result<Held<L>, AllocError> {
+    Ok(Held {
+        threads: Vec::with_capacity(alloc, THREADS)?,
+        clients: Vec::with_capacity(alloc, MOST_CLIENT_THREADS)?,
+        spare,
+    })
+}
+
+/// A proxy around this state that holds this of its threads. Errors: out of memory.
+fn site_with<S: Drop, H: Drop>(
+    alloc: Global,
+    proxy: S,
+    held: H,
+    ends: Ends,
+) -> Result<SiteOf<S, H>, AllocError> {
+    Ok(SiteOf {
+        proxy: Arc::new(alloc, proxy)?,
+        addresses: None,
+        held,
+        writings: Writings {
+            log: None,
+            notices: None,
+        },
+        is_ended: Arc::new(alloc, AtomicBool::new(false))?,
+        bell: None,
+        stop_clients: Vec::with_capacity(alloc, MOST_CLIENT_THREADS)?,
+        stop_administration: None,
+        ends,
+    })
+}
+
+impl<S, H> SiteOf<S, H> {
+    /// The addresses that the proxy listens on.
+    pub fn addresses(&self) -> Option<Addresses> {
+        self.addresses
+    }
+
+    /// Has the logs written from now on. What was told for them before waits until this is called or the proxy ends.
+    pub fn begin_logs<R: Wait>(&self, rt: &R) {
+        self.writings.begin(rt);
     }
 
     /// One more owner of the shared state.
@@ -140,17 +179,6 @@ impl<S: Drop, L: Ledger> Site<S, L> {
         self.ends.end.clone().map_err(no_memory)
     }
 
-    /// Keeps the handle of a thread.
-    pub fn keep(&mut self, thread: JoinHandle<Ending<L>>) -> Result<(), ServeFault>
-    where
-        L: Send + Sync + 'static,
-    {
-        match self.threads.push(thread) {
-            Ok(()) => Ok(()),
-            Err(_) => Err(ServeFault::NoMemory),
-        }
-    }
-
     // Ends the thread of the query sockets.
     fn end_queries(&self) {
         self.is_ended.store(true, Ordering::SeqCst);
@@ -160,7 +188,7 @@ impl<S: Drop, L: Ledger> Site<S, L> {
     }
 }
 
-impl<S: AtDesk<L>, L: Ledger + Send + Sync + 'static> Site<S, L> {
+impl<S: AtDesk<L>, L: Ledger + Send + Sync + 'static> SiteOf<S, Held<L>> {
     /// Waits until the last answer is given, an administrator ends the proxy or a thread ends, then shuts the proxy down.
     pub fn finish<R: Threads + Wait + Clock + Copy>(self, rt: R) -> Result<Finish, ServeFault> {
         let _ = self.ends.heard.recv(&rt);

@@ -5,7 +5,7 @@ ghost use Rattle.node_book.specs.Book.{count_of};
 use crate::fault::{ServeFault, no_memory};
 use crate::limits::SEATS;
 use crate::passing::passes_of;
-use crate::site::{Site, ends_of};
+use crate::site::{Site, SiteOf, ends_of};
 use crossbeam_channel::Sender;
 use futures::channel::oneshot;
 use http_rules::{
@@ -69,15 +69,16 @@ pub struct Logs {
     pub(crate) version: &'static str,
 }
 
-/// The parts of the shared state of a proxy that its settings have a say in, beside its node.
+/// The parts of the shared state of a proxy that its settings have a say in, beside its node. What only hands them on is generic over them, since
+/// the prover does not look behind a type parameter (docs/GATE.md).
 #[derive(Drop)]
-struct Around {
+struct Around<M, O, K, P, T> {
     timeline: Timeline,
-    mail: Mail,
-    outward: Outward,
-    kept: Kept,
-    passes: Passes,
-    telling: Telling,
+    mail: M,
+    outward: O,
+    kept: K,
+    passes: P,
+    telling: T,
 }
 
 /// What may be fetched and passed on.
@@ -104,55 +105,41 @@ pub fn site_of<R: RandomSource + Clock, L: Ledger>(
     rt: &R,
     alloc: Global,
     blank: Blank,
-    settings: Settings,
+    mut settings: Settings,
     given: Given,
 ) -> Result<Site<Proxy<L>, L>, ServeFault>
     requires name { blank.name ≡ L.name }
     requires parts { blank.parts ≡ L.parts }
     requires seats { blank.parts ≡ SEATS }
 {
-    match ends_of(alloc) {
-        Ok((sender, ends)) => {
-            let made = proxy_of(rt, alloc, blank, settings, given, sender);
-            Site::around(alloc, made, ends)
-        }
-        Err(_) => {
-            drop(settings);
-            drop(given);
-            Err(ServeFault::NoMemory)
-        }
-    }
-}
-
-/// The shared state of a proxy, with a new node, and the seats of its threads. `end` asks the proxy to end.
-fn proxy_of<R: RandomSource + Clock, L: Ledger>(
-    rt: &R,
-    alloc: Global,
-    blank: Blank,
-    mut settings: Settings,
-    given: Given,
-    end: Sender<(), Global>,
-) -> Result<(Proxy<L>, Vec<Seat<L>>), ServeFault>
-    requires name { blank.name ≡ L.name }
-    requires parts { blank.parts ≡ L.parts }
-    requires seats { blank.parts ≡ SEATS }
-{
+    let Ok((sender, ends)) = ends_of(alloc) else {
+        drop(settings);
+        drop(given);
+        return Err(ServeFault::NoMemory);
+    };
     let sizes = sizes_of(&settings);
     match parts_in(rt, alloc, &mut settings, given) {
         Ok((hashes, around, hurries)) => {
             let opened = open_desk(alloc, blank, config_in(settings), hashes, sizes);
-            state_around(opened, around, Stopping::new(hurries, end))
+            let stopping = Stopping::new(hurries, sender);
+            let made = state_around(opened, around, Fetchers::none(), Tap::new(), stopping);
+            SiteOf::around(alloc, made, ends)
         }
         Err(fault) => {
             drop(settings);
-            drop(end);
+            drop(sender);
+            drop(ends);
             Err(fault)
         }
     }
 }
 
 // How keys are hashed, the parts of the shared state, and what ends the grace of clients early.
-type Parts = (KeyHashes, Around, Vec<oneshot::Sender<()>>);
+type Parts = (
+    KeyHashes,
+    Around<Mail, Outward, Kept, Passes, Telling>,
+    Vec<oneshot::Sender<()>>,
+);
 
 /// The parts of the shared state around its node, which are taken out of the settings. Errors: the system has no random numbers, or out
 /// of memory.
@@ -184,11 +171,11 @@ fn parts_in<R: RandomSource + Clock>(
 }
 
 /// These parts, if there are all.
-fn parts_with(
+fn parts_with<X, H: Drop>(
     hashes: KeyHashes,
-    around: Result<Around, AllocError>,
-    hurries: Vec<oneshot::Sender<()>>,
-) -> Result<Parts, ServeFault> {
+    around: Result<X, AllocError>,
+    hurries: H,
+) -> Result<(KeyHashes, X, H), ServeFault> {
     match around {
         Ok(around) => Ok((hashes, around, hurries)),
         Err(_) => {
@@ -216,15 +203,22 @@ fn config_in(settings: Settings) -> Config {
 }
 
 /// The shared state around the desk that was opened, and the seats that were opened with it.
-fn state_around<L: Ledger>(
-    opened: Result<(Desk<L>, Vec<Seat<L>>), ServeFault>,
-    around: Around,
-    stopping: Stopping,
-) -> Result<(Proxy<L>, Vec<Seat<L>>), ServeFault> {
+fn state_around<D, Q, M: Drop, F: Drop, O: Drop, K: Drop, P: Drop, A: Drop, T: Drop, S: Drop>(
+    opened: Result<(D, Q), ServeFault>,
+    around: Around<M, O, K, P, T>,
+    fetchers: F,
+    tap: A,
+    stopping: S,
+) -> Result<(ProxyState<D, M, F, O, K, P, A, T, S>, Q), ServeFault> {
     match opened {
-        Ok((desk, seats)) => Ok((state_of(desk, around, stopping), seats)),
+        Ok((desk, seats)) => {
+            let state = state_of(desk, around, fetchers, tap, stopping);
+            Ok((state, seats))
+        }
         Err(fault) => {
             drop(around);
+            drop(fetchers);
+            drop(tap);
             drop(stopping);
             Err(fault)
         }
@@ -232,7 +226,13 @@ fn state_around<L: Ledger>(
 }
 
 /// The shared state around this desk.
-fn state_of<L: Ledger>(desk: Desk<L>, around: Around, stopping: Stopping) -> Proxy<L> {
+fn state_of<D, M, F, O, K, P, A, T, S>(
+    desk: D,
+    around: Around<M, O, K, P, T>,
+    fetchers: F,
+    tap: A,
+    stopping: S,
+) -> ProxyState<D, M, F, O, K, P, A, T, S> {
     let Around {
         timeline,
         mail,
@@ -245,11 +245,11 @@ fn state_of<L: Ledger>(desk: Desk<L>, around: Around, stopping: Stopping) -> Pro
         desk,
         timeline,
         mail,
-        fetchers: Fetchers::none(),
+        fetchers,
         outward,
         kept,
         passes,
-        tap: Tap::new(),
+        tap,
         telling,
         stopping,
     }
@@ -263,7 +263,7 @@ fn around_in(
     outward: Result<(Outward, Passes), AllocError>,
     told: Logs,
     started: Option<Instant>,
-) -> Result<Around, AllocError> {
+) -> Result<Around<Mail, Outward, Kept, Passes, Telling>, AllocError> {
     let quick_abort = match settings.quick_abort_octets {
         Some(octets) => Some(u64::from(octets)),
         None => None,
@@ -271,6 +271,17 @@ fn around_in(
     let (timeline, mail) = (Timeline::new(alloc), Mail::new(alloc, hashes, quick_abort));
     let kept = kept_in(alloc, settings, hashes);
     let telling = telling_in(alloc, settings, told, started);
+    around_of(timeline, mail, outward, kept, telling)
+}
+
+/// These parts, if there are all.
+fn around_of<M: Drop, O: Drop, K: Drop, P: Drop, T: Drop>(
+    timeline: Result<Timeline, AllocError>,
+    mail: Result<M, AllocError>,
+    outward: Result<(O, P), AllocError>,
+    kept: Result<K, AllocError>,
+    telling: Result<T, AllocError>,
+) -> Result<Around<M, O, K, P, T>, AllocError> {
     let (outward, passes) = outward?;
     Ok(Around {
         outward,

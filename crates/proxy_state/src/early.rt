@@ -47,7 +47,7 @@ fn with_reading(early: Box<Early>, reading: oneshot::Sender<()>) -> Box<Early> {
 }
 
 // Gives a client an answer while it is collected. Returns whether it takes it.
-fn give_to(led: Led, early: Box<Early>) -> bool {
+fn give_to(led: Led<oneshot::Sender<Outcome>>, early: Box<Early>) -> bool {
     let Led { reply, supplier } = led;
     let sent = reply.send(Outcome::Early { early, supplier });
     let is_sent = sent.is_ok();

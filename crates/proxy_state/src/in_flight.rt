@@ -4,7 +4,7 @@ use fair_use::{ends_unwanted, is_alone_too_long};
 use futures::channel::oneshot;
 use http_traffic::{Progress, Supplier};
 use node_terms::Mode;
-use object_store::{CacheKey, SharedObject};
+use object_store::CacheKey;
 use std::sync::Arc;
 use std::time::Instant;
 
@@ -44,18 +44,31 @@ pub(crate) struct Look {
     pub(crate) now: Instant,
 }
 
+/// Says when a client reads no more that has the answer while it is collected. What is in flight is generic over this, over what it asks about and
+/// over what cancels it, since the prover does not look behind a type parameter (docs/GATE.md).
+pub trait Reading: Drop {
+    /// Whether the client reads.
+    fn is_read(&mut self) -> bool;
+}
+
+impl Reading for oneshot::Receiver<()> {
+    fn is_read(&mut self) -> bool {
+        matches!(self.try_recv(), Ok(None))
+    }
+}
+
 /// An in-flight fetch.
 #[derive(Drop)]
-pub(crate) struct InFlight {
+pub(crate) struct InFlight<O, W, D> {
     /// The key of what is fetched.
     pub(crate) key: CacheKey,
     pub(crate) flight: Flight,
     /// The object whose validators its request has.
-    pub(crate) asked: Option<SharedObject>,
+    pub(crate) asked: Option<O>,
     /// Whether what it fetches was changed while it is under way.
     pub(crate) is_outdated: bool,
     // Cancels the fetch when dropped. `None` once it was ended for want of clients.
-    wanted: Option<oneshot::Sender<()>>,
+    wanted: Option<W>,
     // How much of its answer has come, if that is asked for.
     progress: Option<Arc<Progress>>,
     // Whether it needs no client for some time.
@@ -63,19 +76,19 @@ pub(crate) struct InFlight {
     // Since when it has no client, as far as that is known.
     alone: Option<Instant>,
     // Complete once the client reads no more that has the answer while it is collected.
-    reading: Option<oneshot::Receiver<()>>,
+    reading: Option<D>,
 }
 
-impl InFlight {
+impl<O: Drop, W: Drop, D: Reading> InFlight<O, W, D> {
     /// A fetch of this key, which is cancelled when `wanted` is dropped, and which needs no client for some time if it has had none
     /// since `spared`.
     pub(crate) fn new(
         key: CacheKey,
         flight: Flight,
-        wanted: oneshot::Sender<()>,
+        wanted: W,
         progress: Option<Arc<Progress>>,
         spared: Option<Instant>,
-    ) -> InFlight {
+    ) -> InFlight<O, W, D> {
         InFlight {
             key,
             flight,
@@ -115,14 +128,14 @@ impl InFlight {
     }
 
     /// Notes that a client has the answer while it is collected, which says when it reads no more.
-    pub(crate) fn note_reading(&mut self, reading: oneshot::Receiver<()>) {
+    pub(crate) fn note_reading(&mut self, reading: D) {
         self.reading = Some(reading);
     }
 
     // Whether a client reads the answer while it is collected.
     fn is_read(&mut self) -> bool {
         match &mut self.reading {
-            Some(reading) => matches!(reading.try_recv(), Ok(None)),
+            Some(reading) => reading.is_read(),
             None => false,
         }
     }

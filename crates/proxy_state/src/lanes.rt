@@ -2,50 +2,55 @@
 use futures::channel::mpsc::UnboundedSender;
 use http_traffic::{Job, Order, Passage, Server};
 use name_lookup::{NameCounts, NameDesk, NotTaken, hand_over, pass_over, server_of};
+use server_connections::Attempts;
 use std::alloc::Global;
 use std::net::IpAddr;
 use std::sync::{Mutex, Wait};
 use std::time::Clock;
 use traffic_figures::AttemptFigures;
 
-/// Senders to the threads that fetch.
-pub struct Lanes {
+/// Senders to the threads that fetch. Generic over that to those that look up names and over one, since the prover does not look behind a type
+/// parameter (docs/GATE.md).
+pub struct Lanes<N, J> {
     /// To the threads that look up names.
-    pub names: NameDesk,
+    pub names: N,
     /// To each fetch thread, by index.
-    pub jobs: Vec<UnboundedSender<Job>>,
+    pub jobs: Vec<J>,
 }
 
 // Written by hand, so that what lets it go is one call for the prover (docs/GATE.md).
-impl Drop for Lanes {
+impl<N: Drop, J: Drop> Drop for Lanes<N, J> {
     fn drop(self) {
         let Self { names: _, jobs: _ } = self;
     }
 }
 
-/// The ways to the threads that fetch.
-pub struct Fetchers {
+/// The ways to the threads that fetch. Generic as `Lanes` is.
+pub struct Ways<N, J> {
     // `None` before these threads start and after `close`. Locked while an order is sent.
-    lanes: Mutex<Option<Lanes>>,
+    lanes: Mutex<Option<Lanes<N, J>>>,
 }
 
+/// The same to the threads of this program.
+pub type Fetchers = Ways<NameDesk, UnboundedSender<Job>>;
+
 // Written by hand, so that what lets it go is one call for the prover (docs/GATE.md).
-impl Drop for Fetchers {
+impl<N: Drop, J: Drop> Drop for Ways<N, J> {
     fn drop(self) {
         let Self { lanes: _lanes } = self;
     }
 }
 
-impl Fetchers {
+impl<N: Drop, J: Drop> Ways<N, J> {
     /// No thread fetches yet.
-    pub fn none() -> Fetchers {
-        Fetchers {
+    pub fn none() -> Ways<N, J> {
+        Ways {
             lanes: Mutex::new(None),
         }
     }
 
     /// Sends orders these ways from now on.
-    pub fn open<R: Wait>(&self, rt: &R, lanes: Lanes) {
+    pub fn open<R: Wait>(&self, rt: &R, lanes: Lanes<N, J>) {
         *self.lanes.lock(rt) = Some(lanes);
     }
 
@@ -55,6 +60,47 @@ impl Fetchers {
         drop(lanes);
     }
 
+    /// What is counted of the attempts to connect that go beside others. `None` before these threads start and after `close`.
+    pub fn attempts<R: Wait>(&self, rt: &R, attempts: &Attempts) -> Option<AttemptFigures> {
+        if self.lanes.lock(rt).is_none() {
+            return None;
+        }
+        Some(AttemptFigures {
+            under_way: attempts.under_way(),
+            begun: attempts.begun(),
+            held: attempts.refused(),
+        })
+    }
+}
+
+impl<J> Ways<NameDesk, J> {
+    /// How many names wait and are being looked up. Returns `None` before these threads start and after `close`.
+    pub fn name_counts<R: Wait>(&self, rt: &R) -> Option<NameCounts> {
+        let lanes = self.lanes.lock(rt);
+        match &*lanes {
+            Some(lanes) => Some(lanes.names.counts(rt)),
+            None => None,
+        }
+    }
+
+    /// The server of this name, for this client. Errors: there is no way to it.
+    pub fn server_of<R: Wait + Clock>(
+        &self,
+        rt: &R,
+        alloc: Global,
+        name: &str,
+        port: u16,
+        asker: Option<IpAddr>,
+    ) -> Result<Server, NotTaken> {
+        let lanes = self.lanes.lock(rt);
+        match &*lanes {
+            Some(lanes) => server_of(rt, alloc, &lanes.names, name, port, asker),
+            None => Err(NotTaken::Way),
+        }
+    }
+}
+
+impl Ways<NameDesk, UnboundedSender<Job>> {
     /// Sends an order to a fetch thread, for the server of this name. Errors: it was not taken.
     pub fn send<R: Wait + Clock>(
         &self,
@@ -95,46 +141,5 @@ impl Fetchers {
         };
         let (names, jobs) = (&lanes.names, lanes.jobs.as_slice());
         pass_over(rt, alloc, names, jobs, number, name, port, asker, passage)
-    }
-
-    /// How many names wait and are being looked up. Returns `None` before these threads start and after `close`.
-    pub fn name_counts<R: Wait>(&self, rt: &R) -> Option<NameCounts> {
-        let lanes = self.lanes.lock(rt);
-        match &*lanes {
-            Some(lanes) => Some(lanes.names.counts(rt)),
-            None => None,
-        }
-    }
-
-    /// What is counted of the attempts to connect that go beside others. `None` before these threads start and after `close`.
-    pub fn attempts<R: Wait>(&self, rt: &R) -> Option<AttemptFigures> {
-        let lanes = self.lanes.lock(rt);
-        match &*lanes {
-            Some(lanes) => {
-                let beside = lanes.names.beside();
-                Some(AttemptFigures {
-                    under_way: beside.under_way(),
-                    begun: beside.begun(),
-                    held: beside.refused(),
-                })
-            }
-            None => None,
-        }
-    }
-
-    /// The server of this name, for this client. Errors: there is no way to it.
-    pub fn server_of<R: Wait + Clock>(
-        &self,
-        rt: &R,
-        alloc: Global,
-        name: &str,
-        port: u16,
-        asker: Option<IpAddr>,
-    ) -> Result<Server, NotTaken> {
-        let lanes = self.lanes.lock(rt);
-        match &*lanes {
-            Some(lanes) => server_of(rt, alloc, &lanes.names, name, port, asker),
-            None => Err(NotTaken::Way),
-        }
     }
 }

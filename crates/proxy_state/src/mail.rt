@@ -1,11 +1,11 @@
 //! Waiting clients and fetches under way.
-use crate::in_flight::{Flight, Unwanted};
+use crate::in_flight::{Flight, Reading, Unwanted};
 use crate::mailbox::{Field, Mailbox};
 use crate::unjoined::UnjoinedKeys;
 use fair_use::SharedEnd;
 use filter_slots::Moment;
 use futures::channel::oneshot;
-use http_traffic::Progress;
+use http_traffic::{Outcome, Progress};
 use node_words::MAX_PENDING_FETCHES;
 use object_store::{CacheKey, KeyHashes, SharedObject};
 use std::alloc::{AllocError, Global};
@@ -23,11 +23,11 @@ pub struct Attempt {
     pub is_unwanted: bool,
 }
 
-/// Waiting clients and fetches under way.
-pub struct Mail {
+/// Waiting clients and fetches under way. Generic as `Mailbox` is.
+pub struct Letters<A, O, W, D> {
     /// Waiting clients and in-flight fetches. Locked by a thread that serves clients when one comes or leaves, by a thread whose action
     /// starts a fetch or answers a client, and by a fetch thread when a fetch ends or a long answer of one begins.
-    pub mailbox: Mutex<Mailbox>,
+    pub mailbox: Mutex<Mailbox<A, O, W, D>>,
     /// Attempts that could not be started and that no thread has reported to the node yet. Locked to add or remove one.
     pub failed: Mutex<Vec<Attempt>>,
     /// Held by each fetch thread from when it looks whether what it fetched was changed meanwhile until the node has the result, and by
@@ -41,8 +41,16 @@ pub struct Mail {
     pub ends_unwanted: bool,
 }
 
+/// The same with the channels of this program.
+pub type Mail = Letters<
+    oneshot::Sender<Outcome>,
+    SharedObject,
+    oneshot::Sender<()>,
+    oneshot::Receiver<()>,
+>;
+
 // Written by hand, so that what lets it go is one call for the prover (docs/GATE.md).
-impl Drop for Mail {
+impl<A: Drop, O: Drop, W: Drop, D: Drop> Drop for Letters<A, O, W, D> {
     fn drop(self) {
         let Self {
             mailbox: _,
@@ -67,15 +75,15 @@ fn without_codings(alloc: Global, fields: Vec<Field>) -> Result<Vec<Field>, Allo
     Ok(kept)
 }
 
-impl Mail {
+impl<A: Drop, O: Drop, W: Drop, D: Reading> Letters<A, O, W, D> {
     /// Nobody waits, and nothing is under way; keys are hashed so. Shared fetches end for want of clients as `Mailbox::new` says. Errors: out of
     /// memory.
     pub fn new(
         alloc: Global,
         hashes: KeyHashes,
         quick_abort: Option<u64>,
-    ) -> Result<Mail, AllocError> {
-        Ok(Mail {
+    ) -> Result<Letters<A, O, W, D>, AllocError> {
+        Ok(Letters {
             mailbox: Mutex::new(Mailbox::new(alloc, quick_abort)),
             failed: Mutex::new(Vec::with_capacity(alloc, MAX_PENDING_FETCHES)?),
             changes: Arc::new(alloc, RwLock::new(()))?,
@@ -92,7 +100,7 @@ impl Mail {
         fetch: u32,
         key: &CacheKey,
         flight: Flight,
-        sender: oneshot::Sender<()>,
+        sender: W,
         progress: Option<Arc<Progress>>,
     ) -> Result<(), AllocError> {
         match key.share() {
@@ -184,7 +192,7 @@ impl Mail {
     }
 
     /// Notes what a fetch in flight asks about, if it asks.
-    pub fn note_asked<R: Wait>(&self, rt: &R, fetch: u32, asked: Option<SharedObject>) {
+    pub fn note_asked<R: Wait>(&self, rt: &R, fetch: u32, asked: Option<O>) {
         if let Some(object) = asked {
             self.mailbox.lock(rt).ask(fetch, object);
         }

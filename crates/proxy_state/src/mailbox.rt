@@ -3,7 +3,7 @@ ghost use Rattle.std.specs.Prelude.{◌≡◌, IfOk};
 ghost use Rattle.object_store.specs.Object.{head_of};
 
 use crate::attendance::Attendance;
-use crate::in_flight::{Flight, InFlight, Look, Unwanted};
+use crate::in_flight::{Flight, InFlight, Look, Reading, Unwanted};
 use futures::channel::oneshot;
 use http_traffic::{Outcome, Progress, Supplier};
 use node_terms::Mode;
@@ -30,9 +30,9 @@ pub enum Service {
 
 /// A waiting client.
 #[derive(Drop)]
-pub struct Waiting {
+pub struct Waiting<A> {
     /// Sends the client its answer.
-    pub reply: oneshot::Sender<Outcome>,
+    pub reply: A,
     /// The address of the client.
     pub asker: IpAddr,
     /// The key of the request, if it is shared.
@@ -49,7 +49,7 @@ pub struct Waiting {
     pub attends: Option<CacheKey>,
 }
 
-impl Waiting {
+impl<A> Waiting<A> {
     // Whether it is not known as yet whether the client waits for a shared fetch.
     fn is_new(&self) -> bool {
         self.service == Service::Shared && self.attends.is_none()
@@ -66,27 +66,31 @@ impl Waiting {
 
 /// A client that is given the answer of a fetch while it is collected.
 #[derive(Drop)]
-pub struct Led {
+pub struct Led<A> {
     /// Sends the client its answer.
-    pub reply: oneshot::Sender<Outcome>,
+    pub reply: A,
     /// Whom the answer comes from.
     pub supplier: Supplier,
 }
 
-/// A fetch whose attempt has ended.
+/// A fetch whose attempt has ended. `O` is an object.
 #[derive(Drop)]
-pub struct Landed {
+pub struct Ended<O> {
     pub flight: Flight,
     /// The object whose validators its request had.
-    pub asked: Option<SharedObject>,
+    pub asked: Option<O>,
     /// Whether what it fetched was changed while it was under way, so that it may have brought what was there before.
     pub is_outdated: bool,
 }
 
-/// Waiting clients by client number, and in-flight fetches by fetch number.
-pub struct Mailbox {
-    clients: BTreeMap<u64, Waiting>,
-    fetches: BTreeMap<u32, InFlight>,
+/// A fetch whose attempt has ended, with the objects of this program.
+pub type Landed = Ended<SharedObject>;
+
+/// Waiting clients by client number, and in-flight fetches by fetch number. Generic over what sends a client its answer, what is asked about,
+/// what cancels a fetch, and what says that a client reads no more, since the prover does not look behind a type parameter (docs/GATE.md).
+pub struct Mailbox<A, O, W, D> {
+    clients: BTreeMap<u64, Waiting<A>>,
+    fetches: BTreeMap<u32, InFlight<O, W, D>>,
     // Clients that began the shared fetch of a key and have CDN-Loop fields, by key.
     looped: BTreeMap<Vec<u8>, u64>,
     attendance: Attendance,
@@ -95,7 +99,7 @@ pub struct Mailbox {
 }
 
 // Written by hand, so that what lets it go is one call for the prover (docs/GATE.md).
-impl Drop for Mailbox {
+impl<A: Drop, O: Drop, W: Drop, D: Drop> Drop for Mailbox<A, O, W, D> {
     fn drop(self) {
         let Self {
             clients: _,
@@ -108,16 +112,16 @@ impl Drop for Mailbox {
 }
 
 // Whether the request of one of these clients is just being taken that is one for all clients of this key.
-fn is_taken_for(clients: &BTreeMap<u64, Waiting>, key: &[u8]) -> bool {
+fn is_taken_for<A>(clients: &BTreeMap<u64, Waiting<A>>, key: &[u8]) -> bool {
     clients
         .values()
         .any(|waiting| waiting.is_new() && waiting.asks_for(key))
 }
 
-impl Mailbox {
+impl<A: Drop, O: Drop, W: Drop, D: Reading> Mailbox<A, O, W, D> {
     /// No clients and no fetches. A shared fetch whose last client has gone ends if at least `quick_abort` octets are missing, as
     /// `fair_use::ends_unwanted` says; without this number it goes on.
-    pub fn new(alloc: Global, quick_abort: Option<u64>) -> Mailbox {
+    pub fn new(alloc: Global, quick_abort: Option<u64>) -> Mailbox<A, O, W, D> {
         Mailbox {
             clients: BTreeMap::new(alloc),
             fetches: BTreeMap::new(alloc),
@@ -128,7 +132,7 @@ impl Mailbox {
     }
 
     /// Adds a waiting client. Errors: out of memory.
-    pub fn add(&mut self, client: u64, waiting: Waiting) -> Result<(), AllocError> {
+    pub fn add(&mut self, client: u64, waiting: Waiting<A>) -> Result<(), AllocError> {
         match self.clients.insert(client, waiting) {
             Ok(_) => Ok(()),
             Err(_) => Err(AllocError),
@@ -254,15 +258,8 @@ impl Mailbox {
         Ok(())
     }
 
-    /// Answers a client, if it is still waiting, and removes it.
-    pub fn answer(&mut self, client: u64, answer: Outcome) {
-        if let Some(waiting) = self.take(client) {
-            let _ = waiting.reply.send(answer);
-        }
-    }
-
     /// Removes a client.
-    fn take(&mut self, client: u64) -> Option<Waiting> {
+    fn take(&mut self, client: u64) -> Option<Waiting<A>> {
         let waiting = self.clients.remove(&client)?;
         if let Some(key) = &waiting.looped
             && self.looped.get(key.as_slice()) == Some(&client)
@@ -277,7 +274,7 @@ impl Mailbox {
 
     /// Removes the client that may have the answer of this fetch while it is collected, and that says over `reading` when it reads no more.
     /// `None` if none waits for it.
-    pub fn take_leader(&mut self, fetch: u32, reading: oneshot::Receiver<()>) -> Option<Led> {
+    pub fn take_leader(&mut self, fetch: u32, reading: D) -> Option<Led<A>> {
         let (client, supplier) = self.leader_of(fetch)?;
         if let Some(fetching) = self.fetches.get_mut(&fetch) {
             fetching.note_reading(reading);
@@ -327,7 +324,7 @@ impl Mailbox {
     }
 
     // The client that asks for what is fetched of this key for all, if just one does.
-    fn only_asker(&self, key: &[u8]) -> Option<&Waiting> {
+    fn only_asker(&self, key: &[u8]) -> Option<&Waiting<A>> {
         let asking = self
             .clients
             .values()
@@ -391,7 +388,7 @@ impl Mailbox {
         fetch: u32,
         key: CacheKey,
         flight: Flight,
-        wanted: oneshot::Sender<()>,
+        wanted: W,
         progress: Option<Arc<Progress>>,
     ) -> Result<(), AllocError> {
         let spared = match flight.began {
@@ -406,7 +403,7 @@ impl Mailbox {
     }
 
     /// Notes that the request of a fetch in flight has the validators of this object.
-    pub fn ask(&mut self, fetch: u32, object: SharedObject) {
+    pub fn ask(&mut self, fetch: u32, object: O) {
         if let Some(fetching) = self.fetches.get_mut(&fetch) {
             fetching.asked = Some(object);
         }
@@ -437,14 +434,14 @@ impl Mailbox {
 
     /// What is known of a fetch whose attempt has ended, with the object that it asked about. It stays in flight until `end`, so that a
     /// change is noted of it. One that is not in flight counts as private, so that nothing is stored.
-    pub fn landed(&mut self, fetch: u32) -> Landed {
+    pub fn landed(&mut self, fetch: u32) -> Ended<O> {
         match self.fetches.get_mut(&fetch) {
-            Some(fetching) => Landed {
+            Some(fetching) => Ended {
                 flight: fetching.flight,
                 asked: fetching.asked.take(),
                 is_outdated: fetching.is_outdated,
             },
-            None => Landed {
+            None => Ended {
                 flight: Flight {
                     mode: Mode::Private,
                     supplier: Supplier::Origin,
@@ -487,6 +484,15 @@ impl Mailbox {
         self.clients.clear();
         self.looped.clear();
         self.attendance.clear();
+    }
+}
+
+impl<O: Drop, W: Drop, D: Reading> Mailbox<oneshot::Sender<Outcome>, O, W, D> {
+    /// Answers a client, if it is still waiting, and removes it.
+    pub fn answer(&mut self, client: u64, answer: Outcome) {
+        if let Some(waiting) = self.take(client) {
+            let _ = waiting.reply.send(answer);
+        }
     }
 }
 

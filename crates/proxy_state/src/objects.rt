@@ -5,6 +5,7 @@ ghost use Rattle.http_rules.specs.Validators.{stored_fields};
 ghost use Rattle.object_store.specs.Object.{object_of};
 ghost use Rattle.proxy_state.specs.Objects.{has_date, object_fields, unstored_body, via, with_date, with_ours};
 
+use crate::fields::add_field;
 use crate::mailbox::{Field, copy_of};
 use http_header::HeaderMap;
 use http_rules::{PassFault, Storable, end_to_end};
@@ -148,8 +149,8 @@ pub fn refusal(alloc: Global, date: &[u8]) -> Result<SharedObject, AllocError>
     ensures life { IfOk result (λ object. object.life ≡ 0) }
 {
     let mut fields = Vec::new(alloc);
-    fields.push((b"content-type".to_vec(alloc)?, b"text/plain".to_vec(alloc)?))?;
-    fields.push((b"date".to_vec(alloc)?, date.to_vec(alloc)?))?;
+    add_field(alloc, &mut fields, b"content-type", b"text/plain")?;
+    add_field(alloc, &mut fields, b"date", date)?;
     let body = REFUSAL.to_vec(alloc)?;
     SharedObject::new(alloc, Object::new(403, fields, body, 0, 0))
 }

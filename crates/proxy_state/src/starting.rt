@@ -280,7 +280,7 @@ fn put_in_flight<R: Wait + Clock, S: Shared>(
     let Some(deadline) = proxy.outward().deadline(began) else {
         return Err(AllocError);
     };
-    let (progress, told) = progress_of(alloc, proxy.mail(), wanted)?;
+    let (progress, told) = progress_of(alloc, proxy.mail().ends_unwanted, wanted)?;
     match oneshot::channel(alloc) {
         Ok((sender, receiver)) => {
             let fields = enter(rt, alloc, proxy, wanted, key, flight, sender, told);
@@ -321,13 +321,14 @@ fn order_entered(
     }
 }
 
-/// Two handles to where is noted how much of the answer of a fetch has come: none where nobody looks at that. Errors: out of memory.
+/// Two handles to where is noted how much of the answer of a fetch has come: none where nobody looks at that, as none does unless shared fetches
+/// are ended that have no client. Errors: out of memory.
 fn progress_of(
     alloc: Global,
-    mail: &Mail,
+    ends_unwanted: bool,
     wanted: Wanted,
 ) -> Result<(Option<Arc<Progress>>, Option<Arc<Progress>>), AllocError> {
-    if !mail.ends_unwanted || wanted.owner.is_some() {
+    if !ends_unwanted || wanted.owner.is_some() {
         return Ok((None, None));
     }
     let progress = Arc::new(alloc, Progress::new())?;

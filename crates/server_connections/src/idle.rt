@@ -61,12 +61,21 @@ impl Listed {
 }
 
 /// What the other threads know of one.
-#[derive(Drop)]
 pub(crate) struct Post {
     // Whether one of the thread's connections is to give way that was not looked for yet.
     is_asked: AtomicBool,
     // Wakes the thread.
     bell: Mutex<Option<Waker>>,
+}
+
+// Written by hand, so that what lets it go is one call for the prover (docs/GATE.md).
+impl Drop for Post {
+    fn drop(self) {
+        let Self {
+            is_asked: _,
+            bell: _,
+        } = self;
+    }
 }
 
 impl Post {
@@ -112,6 +121,11 @@ impl KeptShare {
     /// Another handle to the same. Errors: there are too many.
     pub fn share(&self) -> Result<KeptShare, AllocError> {
         KeptShare::new(&self.all, self.thread)
+    }
+
+    /// Another handle to the connections of all threads. Errors: there are too many.
+    pub fn servers(&self) -> Result<Arc<ServerConnections>, AllocError> {
+        Arc::try_clone(&self.all)
     }
 
     /// The connections of all threads.

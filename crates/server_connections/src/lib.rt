@@ -6,10 +6,12 @@
 //! Tested by: tests/serve_kept and tests/serve_descriptors, which run the built program over loopback.
 #![tactic(auto)]
 
+mod attempts;
 mod idle;
 mod place;
 mod table;
 
+pub use attempts::Attempts;
 pub use idle::{IdlePlace, KeptShare};
 pub use place::ServerPlace;
 pub use table::ServerConnections;

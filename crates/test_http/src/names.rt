@@ -1,13 +1,11 @@
 //! Tests of names and their look-ups, at times that are given. That a name of the built program is looked up, and digits are not, is tested
 //! there.
 use futures::channel::oneshot;
-use http_traffic::{Addresses, Beside, Found};
+use http_traffic::{Addresses, Found};
 use name_lookup::{Answer, LookUp, NameLimits, NameTable, Seeking, Waiter};
-use server_connections::ServerConnections;
 use std::alloc::{AllocError, Global};
 use std::io;
 use std::net::{IpAddr, Ipv4Addr, Ipv6Addr};
-use std::sync::Arc;
 use std::test::Fail;
 use std::time::{Duration, Instant};
 
@@ -50,11 +48,6 @@ enum Brought {
     Gone,
 }
 
-// Connections to servers, of which there are none yet.
-fn no_servers(alloc: Global) -> Result<Arc<ServerConnections>, AllocError> {
-    Ok(Arc::new(alloc, ServerConnections::new(alloc, 1)?)?)
-}
-
 fn answer_of(alloc: Global, brought: Brought) -> Result<Answer, AllocError> {
     let (four, six) = match brought {
         Brought::Four => (four(), None),
@@ -69,7 +62,7 @@ fn answer_of(alloc: Global, brought: Brought) -> Result<Answer, AllocError> {
             addresses.push(address)?;
         }
     }
-    match Found::of(alloc, addresses, Beside::new(alloc, &no_servers(alloc)?)?)? {
+    match Found::of(alloc, addresses)? {
         Some(found) => Ok(Answer::Found(found)),
         None => Ok(Answer::Gone),
     }

@@ -1,12 +1,12 @@
 //! Starting the thread that serves administration.
-use super::{Begun, FrontEnds, Opening, ServerEnd, ServerLine};
+use super::{Begun, FrontEnds, OpeningOf, ServerEnd, ServerLine};
 use crate::administration::{AdministrationTask, OfficeTask, PanelTask};
 use crate::starting::begin;
 use client_streams::Stops;
 use crossbeam_channel::Receiver;
 use futures::channel::oneshot;
 use proxy_node::{AtDesk, Overseen, ThreadSeat};
-use proxy_setup::{Addresses, Keeping, Port, ServeFault};
+use proxy_setup::{Addresses, Keeping, Port, ServeFault, Site, SiteOf};
 use proxy_state::Shared;
 use std::alloc::{AllocGlobal, Global};
 use std::fs::Files;
@@ -28,7 +28,23 @@ struct AdminShare<S, L: Ledger> {
     hurried: oneshot::Receiver<()>,
 }
 
-impl<R, S: Shared, L: Ledger> Opening<R, S, L> {
+impl<R: Wait, S: Shared, H> OpeningOf<R, SiteOf<S, H>> {
+    /// Notes where all sockets are bound.
+    fn note_ends(&mut self, ends: FrontEnds, administration: SocketAddr) -> Result<(), ServeFault> {
+        let port = &self.site.proxy.telling().admin_port;
+        port.store(administration.port(), Ordering::SeqCst);
+        self.add_own(administration)?;
+        self.site.addresses = Some(Addresses {
+            icp: ends.queries.icp,
+            htcp: ends.queries.htcp,
+            clients: ends.clients,
+            administration,
+        });
+        Ok(())
+    }
+}
+
+impl<R, S: Shared, L: Ledger> OpeningOf<R, Site<S, L>> {
     /// The task of the thread that serves administration, what this one has of that, and where clients are served, if they are.
     fn administration_task(
         &mut self,
@@ -130,7 +146,7 @@ impl<R, S: Shared, L: Ledger> Opening<R, S, L> {
     }
 }
 
-impl<R, S, L> Opening<R, S, L>
+impl<R, S, L> OpeningOf<R, Site<S, L>>
 where
     R: Wait + Clock + Copy,
     S: AtDesk<L>,
@@ -169,23 +185,9 @@ where
             Err(_) => Err(ServeFault::Bind(Port::Administration, ErrorKind::Other)),
         }
     }
-
-    /// Notes where all sockets are bound.
-    fn note_ends(&mut self, ends: FrontEnds, administration: SocketAddr) -> Result<(), ServeFault> {
-        let port = &self.site.proxy.telling().admin_port;
-        port.store(administration.port(), Ordering::SeqCst);
-        self.add_own(administration)?;
-        self.site.addresses = Some(Addresses {
-            icp: ends.queries.icp,
-            htcp: ends.queries.htcp,
-            clients: ends.clients,
-            administration,
-        });
-        Ok(())
-    }
 }
 
-impl<R, S, L> Opening<R, S, L>
+impl<R, S, L> OpeningOf<R, Site<S, L>>
 where
     L: Ledger + Send + Sync + 'static,
     S: AtDesk<L> + Overseen + Send + Sync + 'static,

@@ -1,5 +1,5 @@
 //! Starting the threads that serve clients.
-use super::{Begun, FrontEnds, Opening, QueryEnds, ServerEnd, ServerLine};
+use super::{Begun, FrontEnds, OpeningOf, QueryEnds, ServerEnd, ServerLine};
 use crate::clients::{ClientTask, FrontTask, ServingTask};
 use crate::config::ThreadConfig;
 use crate::starting::begin;
@@ -9,7 +9,7 @@ use crossbeam_channel::{Receiver, Sender};
 use futures::channel::oneshot;
 use http_clients::{ClientSocket, client_sockets, listen_at_six};
 use proxy_node::{AtDesk, Outbox, ThreadSeat};
-use proxy_setup::{Port, ServeFault};
+use proxy_setup::{Port, ServeFault, Site, SiteOf};
 use proxy_state::{FrontRules, Shared};
 use std::alloc::{AllocError, AllocGlobal, Global};
 use std::io::ErrorKind;
@@ -140,7 +140,24 @@ impl ClientStart {
     }
 }
 
-impl<R, S: Shared, L: Ledger> Opening<R, S, L> {
+impl<R, S: Shared, H> OpeningOf<R, SiteOf<S, H>> {
+    /// This kit for one more thread, and the name of the cache.
+    fn named(&self, kit: &ClientKit) -> Result<(ClientKit, String), ServeFault> {
+        let Ok(kit) = kit.share() else {
+            return Err(ServeFault::NoMemory);
+        };
+        let name = self.site.proxy.outward().name.as_str();
+        match String::from_str(self.alloc, name) {
+            Ok(name) => Ok((kit, name)),
+            Err(_) => {
+                drop(kit);
+                Err(ServeFault::NoMemory)
+            }
+        }
+    }
+}
+
+impl<R, S: Shared, L: Ledger> OpeningOf<R, Site<S, L>> {
     /// The task of a thread that serves clients at this place, and what this one has of it.
     fn client_task(
         &mut self,
@@ -189,24 +206,9 @@ impl<R, S: Shared, L: Ledger> Opening<R, S, L> {
             }
         }
     }
-
-    /// This kit for one more thread, and the name of the cache.
-    fn named(&self, kit: &ClientKit) -> Result<(ClientKit, String), ServeFault> {
-        let Ok(kit) = kit.share() else {
-            return Err(ServeFault::NoMemory);
-        };
-        let name = self.site.proxy.outward().name.as_str();
-        match String::from_str(self.alloc, name) {
-            Ok(name) => Ok((kit, name)),
-            Err(_) => {
-                drop(kit);
-                Err(ServeFault::NoMemory)
-            }
-        }
-    }
 }
 
-impl<R, S: Drop, L: Ledger + Send + Sync + 'static> Opening<R, S, L> {
+impl<R, S: Drop, L: Ledger + Send + Sync + 'static> OpeningOf<R, Site<S, L>> {
     /// Keeps the handle of a thread that serves clients, if it was started, with what ends it; `start` keeps what hears from it.
     fn keep_client(
         &mut self,
@@ -218,7 +220,7 @@ impl<R, S: Drop, L: Ledger + Send + Sync + 'static> Opening<R, S, L> {
             Ok(thread) => {
                 let ServerLine { heard, stop } = here;
                 // (these have the capacity for all of these threads)
-                drop(self.site.clients.push(thread));
+                drop(self.site.held.clients.push(thread));
                 drop(self.site.stop_clients.push(stop));
                 drop(start.heard.push(heard));
                 Ok(())
@@ -231,7 +233,7 @@ impl<R, S: Drop, L: Ledger + Send + Sync + 'static> Opening<R, S, L> {
     }
 }
 
-impl<R: Net + AllocGlobal, S: Drop, L: Ledger> Opening<R, S, L> {
+impl<R: Net + AllocGlobal, I> OpeningOf<R, I> {
     /// What the threads that serve clients are started with, if the query sockets are bound, and where those are.
     fn client_start(
         &self,
@@ -310,7 +312,7 @@ impl<R: Net + AllocGlobal, S: Drop, L: Ledger> Opening<R, S, L> {
     }
 }
 
-impl<R: Wait + Clock + Copy, S: AtDesk<L>, L: Ledger> Opening<R, S, L> {
+impl<R: Wait, S: Shared, H> OpeningOf<R, SiteOf<S, H>> {
     /// Waits until all threads that serve clients do, if they were started. Returns where, and where the query sockets are bound.
     fn opened_clients(
         &self,
@@ -344,7 +346,7 @@ impl<R: Wait + Clock + Copy, S: AtDesk<L>, L: Ledger> Opening<R, S, L> {
     }
 }
 
-impl<R, S, L> Opening<R, S, L>
+impl<R, S, L> OpeningOf<R, Site<S, L>>
 where
     L: Ledger + Send + Sync + 'static,
     S: AtDesk<L> + Send + Sync + 'static,

@@ -1,5 +1,5 @@
 //! Starting the threads that fetch.
-use super::Opening;
+use super::OpeningOf;
 use crate::fetches::{FetchShares, FetchTask, Fetching};
 use crate::starting::begin;
 use crossbeam_channel::{Receiver, Sender, bounded};
@@ -8,7 +8,7 @@ use http_fetches::Budget;
 use http_traffic::Job;
 use name_lookup::NameDesk;
 use proxy_node::AtDesk;
-use proxy_setup::{FETCHERS, ServeFault};
+use proxy_setup::{FETCHERS, ServeFault, Site, SiteOf};
 use proxy_state::{Lanes, Shared};
 use server_connections::KeptShare;
 use std::alloc::{AllocError, AllocGlobal, Global};
@@ -21,9 +21,9 @@ use std::thread::Threads;
 use std::time::Clock;
 
 /// What the threads that fetch are started with.
-struct LaneKit {
-    /// To each of those that were started, by index.
-    jobs: Vec<mpsc::UnboundedSender<Job>>,
+struct LaneKit<J> {
+    /// To each of those that were started, by index. What has no need of these is generic over them.
+    jobs: Vec<J>,
     /// The octets that bodies under way may have, for all of them.
     budget: Arc<Budget>,
     /// Receives a message of each once it takes jobs.
@@ -32,7 +32,7 @@ struct LaneKit {
 }
 
 // Written by hand, so that what lets it go is one call for the prover (docs/GATE.md).
-impl Drop for LaneKit {
+impl<J: Drop> Drop for LaneKit<J> {
     fn drop(self) {
         let Self {
             jobs: _,
@@ -43,10 +43,14 @@ impl Drop for LaneKit {
     }
 }
 
-impl LaneKit {
+impl<J: Drop> LaneKit<J> {
     /// What no thread was started with yet, with so many octets for bodies under way, of which those that are waited for are kept in
     /// `wanted`. Errors: out of memory.
-    fn new(alloc: Global, octets: usize, wanted: &Arc<AtomicU64>) -> Result<LaneKit, AllocError> {
+    fn new(
+        alloc: Global,
+        octets: usize,
+        wanted: &Arc<AtomicU64>,
+    ) -> Result<LaneKit<J>, AllocError> {
         let (opened, heard) = bounded(alloc, FETCHERS)?;
         let wanted = Arc::try_clone(wanted)?;
         let budget = Arc::new(alloc, Budget::new(alloc, octets, wanted))?;
@@ -59,7 +63,7 @@ impl LaneKit {
     }
 
     /// The ways to the threads that were started, and what hears that they take jobs, when no more are started.
-    fn into_ends(self) -> (Vec<mpsc::UnboundedSender<Job>>, Receiver<(), Global>) {
+    fn into_ends(self) -> (Vec<J>, Receiver<(), Global>) {
         let Self {
             jobs,
             budget,
@@ -72,6 +76,9 @@ impl LaneKit {
     }
 }
 
+/// The same with the ways to the threads.
+type JobKit = LaneKit<mpsc::UnboundedSender<Job>>;
+
 /// How a fetch thread hears of its jobs, and what it tells other threads by.
 #[derive(Drop)]
 struct Lane {
@@ -80,12 +87,26 @@ struct Lane {
     end: Sender<(), Global>,
 }
 
-impl<R, S: Shared, L: Ledger> Opening<R, S, L> {
+impl<R, S: Shared, L: Ledger> OpeningOf<R, Site<S, L>> {
+    /// The task of one more fetch thread.
+    fn fetch_task(&mut self, kit: &mut JobKit) -> Result<FetchTask<S, L>, ServeFault> {
+        let fetching = self.fetching(kit)?;
+        match self.site.seat() {
+            Ok(seat) => Ok(FetchTask { seat, fetching }),
+            Err(fault) => {
+                drop(fetching);
+                Err(fault)
+            }
+        }
+    }
+}
+
+impl<R, S: Shared, H> OpeningOf<R, SiteOf<S, H>> {
     /// What the threads that fetch are started with, and what has names looked up, if that is there.
-    fn lane_kit(
+    fn lane_kit<J: Drop>(
         &self,
         names: Result<NameDesk, ServeFault>,
-    ) -> Result<(LaneKit, NameDesk), ServeFault> {
+    ) -> Result<(LaneKit<J>, NameDesk), ServeFault> {
         match names {
             Ok(names) => match self.kit() {
                 Ok(kit) => Ok((kit, names)),
@@ -99,25 +120,13 @@ impl<R, S: Shared, L: Ledger> Opening<R, S, L> {
     }
 
     /// What no thread was started with yet. Errors: out of memory.
-    fn kit(&self) -> Result<LaneKit, AllocError> {
+    fn kit<J: Drop>(&self) -> Result<LaneKit<J>, AllocError> {
         let wanted = &self.site.proxy.telling().wanted_octets;
         LaneKit::new(self.alloc, self.config.fetch_octets, wanted)
     }
 
-    /// The task of one more fetch thread.
-    fn fetch_task(&mut self, kit: &mut LaneKit) -> Result<FetchTask<S, L>, ServeFault> {
-        let fetching = self.fetching(kit)?;
-        match self.site.seat() {
-            Ok(seat) => Ok(FetchTask { seat, fetching }),
-            Err(fault) => {
-                drop(fetching);
-                Err(fault)
-            }
-        }
-    }
-
     /// What one more fetch thread fetches with.
-    fn fetching(&self, kit: &mut LaneKit) -> Result<Fetching<S>, ServeFault> {
+    fn fetching(&self, kit: &mut JobKit) -> Result<Fetching<S>, ServeFault> {
         let shares = self.fetch_shares(kit)?;
         match self.lane(kit) {
             Ok(Lane { jobs, opened, end }) => Ok(Fetching {
@@ -135,7 +144,7 @@ impl<R, S: Shared, L: Ledger> Opening<R, S, L> {
     }
 
     /// What one more fetch thread has together with others.
-    fn fetch_shares(&self, kit: &LaneKit) -> Result<FetchShares<S>, ServeFault> {
+    fn fetch_shares<J: Drop>(&self, kit: &LaneKit<J>) -> Result<FetchShares<S>, ServeFault> {
         let Ok(changes) = Arc::try_clone(&self.site.proxy.mail().changes) else {
             return Err(ServeFault::NoMemory);
         };
@@ -155,7 +164,7 @@ impl<R, S: Shared, L: Ledger> Opening<R, S, L> {
     }
 
     /// How one more fetch thread hears of its jobs, the way to which the kit has then.
-    fn lane(&self, kit: &mut LaneKit) -> Result<Lane, ServeFault> {
+    fn lane(&self, kit: &mut JobKit) -> Result<Lane, ServeFault> {
         let Ok(opened) = kit.opened.clone() else {
             return Err(ServeFault::NoMemory);
         };
@@ -169,11 +178,19 @@ impl<R, S: Shared, L: Ledger> Opening<R, S, L> {
     }
 }
 
-impl<R: Wait, S: Shared, L: Ledger> Opening<R, S, L> {
+impl<R: Wait, S: Shared, H> OpeningOf<R, SiteOf<S, H>> {
+    /// Has no more connections to servers than there is room for by the files that the program may open.
+    fn limit_servers(&self) {
+        if let Some(division) = self.config.division {
+            let servers = &self.site.proxy.passes().servers;
+            servers.limit(&self.rt, division.servers);
+        }
+    }
+
     /// Has jobs sent to the fetch threads, if they were started, once all of them take some.
     fn open_lanes(
         &self,
-        kit: LaneKit,
+        kit: JobKit,
         names: NameDesk,
         begun: Result<(), ServeFault>,
     ) -> Result<(), ServeFault> {
@@ -210,7 +227,7 @@ impl<R: Wait, S: Shared, L: Ledger> Opening<R, S, L> {
     }
 }
 
-impl<R, S, L> Opening<R, S, L>
+impl<R, S, L> OpeningOf<R, Site<S, L>>
 where
     L: Ledger + Send + Sync + 'static,
     S: AtDesk<L> + Send + Sync + 'static,
@@ -229,16 +246,8 @@ where
         self.open_lanes(kit, names, begun)
     }
 
-    /// Has no more connections to servers than there is room for by the files that the program may open.
-    fn limit_servers(&self) {
-        if let Some(division) = self.config.division {
-            let servers = &self.site.proxy.passes().servers;
-            servers.limit(&self.rt, division.servers);
-        }
-    }
-
     /// Starts the fetch threads, to each of which the kit has the way then.
-    fn begin_fetchers(&mut self, kit: &mut LaneKit) -> Result<(), ServeFault> {
+    fn begin_fetchers(&mut self, kit: &mut JobKit) -> Result<(), ServeFault> {
         for _ in 0..FETCHERS {
             self.begin_fetcher(kit)?;
         }
@@ -246,7 +255,7 @@ where
     }
 
     /// Starts one more fetch thread.
-    fn begin_fetcher(&mut self, kit: &mut LaneKit) -> Result<(), ServeFault> {
+    fn begin_fetcher(&mut self, kit: &mut JobKit) -> Result<(), ServeFault> {
         let task = self.fetch_task(kit)?;
         let begun = begin(self.rt, task);
         self.keep(begun)

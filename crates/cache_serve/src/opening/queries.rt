@@ -1,10 +1,10 @@
 //! Starting the thread of the query sockets.
-use super::{Begun, Opening, QueryEnds};
+use super::{Begun, OpeningOf, QueryEnds};
 use crate::queries::{BoundQueries, QueryLine, QueryTask};
 use crate::starting::begin;
 use crossbeam_channel::{Receiver, Sender, unbounded};
 use proxy_node::{AtDesk, Outbox, Outgoing, Overseen};
-use proxy_setup::ServeFault;
+use proxy_setup::{ServeFault, Site, SiteOf};
 use proxy_state::Shared;
 use std::alloc::{AllocGlobal, Global};
 use std::mem;
@@ -21,28 +21,7 @@ struct QueryStart {
     heard: Receiver<Result<BoundQueries, ServeFault>, Global>,
 }
 
-impl<R, S: Shared, L: Ledger> Opening<R, S, L> {
-    /// The task of the thread of the query sockets, and what this one has of that.
-    fn query_task(&mut self) -> Result<(QueryTask<S, L>, QueryStart), ServeFault> {
-        let (line, start) = self.query_line()?;
-        match self.site.seat() {
-            Ok(seat) => {
-                let task = QueryTask {
-                    seat,
-                    icp: self.config.icp,
-                    htcp: self.config.htcp,
-                    line,
-                };
-                Ok((task, start))
-            }
-            Err(fault) => {
-                drop(line);
-                drop(start);
-                Err(fault)
-            }
-        }
-    }
-
+impl<R, S, H> OpeningOf<R, SiteOf<S, H>> {
     /// How the thread of the query sockets and other threads hear of each other.
     fn query_line(&self) -> Result<(QueryLine, QueryStart), ServeFault> {
         let Ok(is_ended) = Arc::try_clone(&self.site.is_ended) else {
@@ -90,7 +69,30 @@ impl<R, S: Shared, L: Ledger> Opening<R, S, L> {
     }
 }
 
-impl<R: Wait, S: Shared, L: Ledger + Send + Sync + 'static> Opening<R, S, L> {
+impl<R, S: Shared, L: Ledger> OpeningOf<R, Site<S, L>> {
+    /// The task of the thread of the query sockets, and what this one has of that.
+    fn query_task(&mut self) -> Result<(QueryTask<S, L>, QueryStart), ServeFault> {
+        let (line, start) = self.query_line()?;
+        match self.site.seat() {
+            Ok(seat) => {
+                let task = QueryTask {
+                    seat,
+                    icp: self.config.icp,
+                    htcp: self.config.htcp,
+                    line,
+                };
+                Ok((task, start))
+            }
+            Err(fault) => {
+                drop(line);
+                drop(start);
+                Err(fault)
+            }
+        }
+    }
+}
+
+impl<R: Wait, S: Shared, L: Ledger + Send + Sync + 'static> OpeningOf<R, Site<S, L>> {
     /// Waits until the query sockets are bound, if their thread was started. Returns what takes datagrams for them, and where they are.
     fn opened_queries(
         &mut self,
@@ -123,7 +125,7 @@ impl<R: Wait, S: Shared, L: Ledger + Send + Sync + 'static> Opening<R, S, L> {
     }
 }
 
-impl<R, S, L> Opening<R, S, L>
+impl<R, S, L> OpeningOf<R, Site<S, L>>
 where
     L: Ledger + Send + Sync + 'static,
     S: AtDesk<L> + Overseen + Send + Sync + 'static,
