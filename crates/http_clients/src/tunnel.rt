@@ -2,12 +2,12 @@
 ghost use Rattle.std.specs.Prelude.{IfOk};
 ghost use Rattle.futures.specs.Poll.{OnPending};
 ghost use Rattle.futures.specs.Task.{Covers, Keeps};
-ghost use Rattle.http_clients.specs.Judged.{AllJudged, AreJudged, IsJudged};
+ghost use Rattle.dialing.specs.Judged.{AllJudged};
 
 use crate::requests::Answers;
 use bytes::BytesMut;
 use client_streams::Patience;
-use dialing::{Connected, DialFault, Dialing};
+use dialing::{Connected, DialFault, Dialing, Judge, admitted_by, poll_addresses};
 use futures::channel::oneshot;
 use futures::task::{Context, Poll};
 use futures::{Future, ready};
@@ -174,20 +174,6 @@ impl<R: Clock + Copy> Dialer<R> {
     }
 }
 
-// Apart, since only what connects a socket names `Net` here: the prover lays out a bound anew in each function that has it.
-impl<R: Net + Wait + Clock + Copy> Dialer<R> {
-    // Connects to one of these addresses, with a timeout. Returns `None` if out of memory.
-    fn connect(&self, servers: AdmittedAddresses, limit: Duration) -> Option<Dialing<R>> {
-        match self.handle.clone() {
-            Ok(handle) => Some(Dialing::new(self.rt, self.alloc, handle, servers, limit)),
-            Err(_) => {
-                drop(servers);
-                None
-            }
-        }
-    }
-}
-
 // Waits for the addresses of a server. `None` if its name has none, or if out of memory.
 #[derive(Drop)]
 struct Seeking {
@@ -199,10 +185,7 @@ impl Future for Seeking {
     type Output = Option<Addresses>;
 
     fn poll(&mut self, cx: &mut Context<'_>) -> Poll<Option<Addresses>> {
-        match &mut self.server {
-            Server::At(server) => Poll::Ready(Addresses::one(self.alloc, *server).ok()),
-            Server::Sought(sought) => Poll::Ready(ready!(sought.poll(cx)).ok()),
-        }
+        Poll::Ready(ready!(poll_addresses(self.alloc, &mut self.server, cx)).ok())
     }
 }
 
@@ -384,6 +367,18 @@ impl<R: Drop, H: Drop> Drop for Opening<R, H> {
     }
 }
 
+impl<R, H: Answers> Judge for Opening<R, H> {
+    ghost judges = { λ opening. opening.is_origin };
+
+    fn admitted(&self, server: SocketAddr) -> Option<Admitted> {
+        if self.is_origin {
+            Some(Admitted::origin(self.answers.admitted(server)?))
+        } else {
+            Some(Admitted::neighbour(server))
+        }
+    }
+}
+
 impl<R: Clock + Copy, H: Answers> Opening<R, H> {
     /// The way to this end.
     pub(crate) fn new(dialer: Dialer<R>, answers: H, end: TunnelEnd) -> Opening<R, H> {
@@ -410,39 +405,11 @@ impl<R: Clock + Copy, H: Answers> Opening<R, H> {
         }
     }
 
-    // This address as one that a tunnel may lead to, if it may.
-    fn judged_one(&self, server: SocketAddr) -> Option<Admitted>
-        ensures judged { IsJudged self.now.is_origin server result }
-    {
-        if self.is_origin {
-            Some(Admitted::origin(self.answers.admitted(server)?))
-        } else {
-            Some(Admitted::neighbour(server))
-        }
-    }
-
-    // Each of these addresses, if a tunnel may lead to it. Errors: out of memory.
-    #[tactic(auto, using(crate::proofs::Judging::judged_at))]
-    fn judged(&self, servers: &[SocketAddr]) -> Result<Vec<Option<Admitted>>, AllocError>
-        ensures judged { IfOk result (λ list. AreJudged self.now.is_origin servers.now list.items) }
-    {
-        let mut judged = Vec::new(self.dialer.alloc);
-        for server in servers {
-            judged.push(self.judged_one(*server))?;
-        }
-        Ok(judged)
-    }
-
     // Those of these addresses that a tunnel may lead to. Errors: the status to answer.
-    #[tactic(auto, using(crate::proofs::Judging::chosen_judged))]
-    fn admitted(&self, servers: Addresses) -> Result<AdmittedAddresses, u16>
+    fn servers(&self, found: Addresses) -> Result<AdmittedAddresses, u16>
         ensures judged { IfOk result (λ those. AllJudged self.now.is_origin those.list.items) }
     {
-        let Ok(judged) = self.judged(servers.as_slice()) else {
-            drop(servers);
-            return Err(503);
-        };
-        match servers.admitted(self.dialer.alloc, judged) {
+        match admitted_by(self.dialer.alloc, self, found) {
             Ok(servers) => Ok(servers),
             Err(AdmitFault::Refused) => Err(403),
             Err(AdmitFault::NoMemory) => Err(503),
@@ -510,8 +477,9 @@ impl<R: Net + Wait + Clock + Copy, H: Answers> Opening<R, H> {
 
     // Begins to connect those of these addresses that are admitted. Errors: the status to answer.
     fn connect(&mut self, servers: Addresses) -> Result<(), u16> {
-        let servers = self.admitted(servers)?;
-        let reaching = self.dialer.connect(servers, self.connecting);
+        let servers = self.servers(servers)?;
+        let (rt, alloc) = (self.dialer.rt, self.dialer.alloc);
+        let reaching = Dialing::new(rt, alloc, &self.dialer.handle, servers, self.connecting);
         drop(mem::replace(&mut self.reaching, reaching));
         Ok(())
     }

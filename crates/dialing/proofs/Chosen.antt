@@ -6,7 +6,7 @@ use Rattle.std.proofs.lemmas.List.{take_more}
 use Rattle.std.specs.declared.net.socket_addr.SocketAddr.{SocketAddr}
 use Rattle.origin_rules.specs.declared.admitted.Admitted.{Admitted}
 use Rattle.origin_rules.specs.Chosen.{chosen}
-use Rattle.http_clients.specs.Judged.{IsJudged, AreJudged, AllJudged}
+use Rattle.dialing.specs.Judged.{IsJudged, AreJudged, AllJudged}
 
 both : {A : Type 0} (P Q : A → Type 0) (one : Option A) → IfSome one P → IfSome one Q → IfSome one (λ it. P it × Q it)
 both P Q None p q = tt
