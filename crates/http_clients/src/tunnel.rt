@@ -13,6 +13,8 @@ use futures::task::{Context, Poll};
 use futures::{Future, ready};
 use http_rules::Admitted;
 use http_traffic::{Addresses, AdmitFault, AdmittedAddresses, Server, Ticket, TunnelEnd};
+use httparse::Status;
+use httparse::spans::{EMPTY_HEADER_SPAN, parse_response};
 use shared_thread::Paced;
 use std::alloc::{AllocError, Global};
 use std::mem;
@@ -31,6 +33,9 @@ pub(crate) const PIECE: usize = 16 * 1024;
 
 // The most octets of a parent's head.
 const MOST_HEAD: usize = 8 * 1024;
+
+// The most fields of a parent's head.
+const MOST_FIELDS: usize = 128;
 
 /// A tunnel that a request asks for.
 #[derive(Drop)]
@@ -255,16 +260,15 @@ impl Greeting {
         }
     }
 
-    // Waits for the whole head. Returns its length, or `None` if there is none.
+    // Waits for the whole head of a parent that agrees. Returns its length, or `None` if there is none.
     fn poll_head(&mut self, cx: &mut Context<'_>) -> Poll<Option<usize>>
         ensures registered { OnPending result (Covers cx.new (λ _. ⊥)) }
         ensures kept { Keeps cx.old cx.new }
     {
-        if let Some(length) = length_of_head(self.head.as_slice()) {
-            return Poll::Ready(Some(length));
-        }
-        if MOST_HEAD <= self.head.len() {
-            return Poll::Ready(None);
+        match answered(self.head.as_slice()) {
+            Answered::Yes(length) => return Poll::Ready(Some(length)),
+            Answered::No => return Poll::Ready(None),
+            Answered::NotYet => {}
         }
         let Some(socket) = &mut self.socket else {
             return Poll::Ready(None);
@@ -296,33 +300,33 @@ impl Future for Greeting {
         if !self.is_answered {
             return Poll::Ready(self.reached(0));
         }
-        let Some(length) = ready!(self.poll_head(cx)) else {
-            return Poll::Ready(None);
-        };
-        if length <= MOST_HEAD && agrees(self.head.as_slice()) {
-            Poll::Ready(self.reached(length))
-        } else {
-            Poll::Ready(None)
+        match ready!(self.poll_head(cx)) {
+            Some(length) => Poll::Ready(self.reached(length)),
+            None => Poll::Ready(None),
         }
     }
 }
 
-// The length of the head that these octets begin with, with its empty line. `None` if it is not complete.
-fn length_of_head(octets: &[u8]) -> Option<usize> {
-    let last = octets
-        .windows(4)
-        .position(|line| line == b"\r\n\r\n".as_slice())?;
-    last.checked_add(4)
+// What a parent answers to CONNECT by what has come of its head.
+enum Answered {
+    // The tunnel is opened: the status is one from 200 to 299. With the length of the head.
+    Yes(usize),
+    // It is not, or what comes is no head, or too long a one.
+    No,
+    // The head is not complete.
+    NotYet,
 }
 
-// Whether this is the head of a response with a status from 200 to 299.
-fn agrees(head: &[u8]) -> bool {
-    head.starts_with(b"HTTP/1.")
-        && matches!(head.get(8), Some(b' '))
-        && matches!(head.get(9), Some(b'2'))
-        && matches!(head.get(10), Some(digit) if digit.is_ascii_digit())
-        && matches!(head.get(11), Some(digit) if digit.is_ascii_digit())
-        && matches!(head.get(12), Some(b' ' | b'\r'))
+// What these octets, which a parent has sent, say.
+fn answered(octets: &[u8]) -> Answered {
+    let mut fields = [EMPTY_HEADER_SPAN; MOST_FIELDS];
+    match parse_response(octets, &mut fields) {
+        Ok(Status::Complete(head)) if head.code / 100 == 2 && head.len <= MOST_HEAD => {
+            Answered::Yes(head.len)
+        }
+        Ok(Status::Partial) if octets.len() < MOST_HEAD => Answered::NotYet,
+        _ => Answered::No,
+    }
 }
 
 /// The way to the server of a tunnel: its addresses are awaited, admitted if they have to be, and connected side by side; a parent is greeted.
