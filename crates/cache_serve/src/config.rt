@@ -45,11 +45,7 @@ pub(crate) fn thread_config<R: Threads>(
     let an_address = settings.address_connections.unwrap_or(ADDRESS_CONNECTIONS);
     limits.clients.connections.an_address = an_address as usize;
     let client_threads = client_threads(rt, settings);
-    let division = division_in(
-        settings,
-        client_threads,
-        limits.clients.connections.most,
-    );
+    let division = division_in(settings, client_threads, limits.clients.connections.most);
     if let Some(division) = division {
         limits.clients.connections.most = division.seats;
     }
@@ -76,11 +72,7 @@ pub(crate) fn thread_config<R: Threads>(
 
 /// What a start tells of the files that the program may open: how they are divided, if they are few. `None` also if it isn't known how many
 /// there are.
-pub fn few_files<R: Threads>(
-    rt: &R,
-    settings: &Settings,
-    limits: ProxyLimits,
-) -> Option<FewFiles> {
+pub fn few_files<R: Threads>(rt: &R, settings: &Settings, limits: ProxyLimits) -> Option<FewFiles> {
     let files = most_files()?;
     if !is_told(files) {
         return None;

@@ -7,7 +7,6 @@ use crate::limits::SEATS;
 use crate::passing::passes_of;
 use crate::site::{Site, ends_of};
 use crossbeam_channel::Sender;
-use futures::channel::oneshot;
 use http_rules::{
     OriginRules, RefreshRule, SixNetwork, UrlPlace, loop_mark, usual_denials, usual_six_denials,
 };
@@ -30,6 +29,7 @@ use std::sync::atomic::{AtomicBool, AtomicU16, AtomicU64, AtomicUsize};
 use std::sync::ledger::{Blank, Ledger};
 use std::sync::{Arc, Mutex};
 use std::time::{Clock, Duration, Instant};
+use tokio_util::sync::CancellationToken;
 use traffic_figures::Figures;
 
 /// The shared state of a proxy.
@@ -55,7 +55,7 @@ pub struct Given {
     /// Where logs go.
     pub(crate) told: Logs,
     /// Ends the grace of clients early, at each thread that serves them.
-    pub(crate) hurries: Vec<oneshot::Sender<()>>,
+    pub(crate) hurry: CancellationToken,
 }
 
 /// Where logs go, and the version of the program.
@@ -139,9 +139,9 @@ fn proxy_of<R: RandomSource + Clock, L: Ledger>(
 {
     let sizes = sizes_of(&settings);
     match parts_in(rt, alloc, &mut settings, given) {
-        Ok((hashes, around, hurries)) => {
+        Ok((hashes, around, hurry)) => {
             let opened = open_desk(alloc, blank, config_in(settings), hashes, sizes);
-            state_around(opened, around, Stopping::new(hurries, end))
+            state_around(opened, around, Stopping::new(hurry, end))
         }
         Err(fault) => {
             drop(settings);
@@ -152,7 +152,7 @@ fn proxy_of<R: RandomSource + Clock, L: Ledger>(
 }
 
 // How keys are hashed, the parts of the shared state, and what ends the grace of clients early.
-type Parts = (KeyHashes, Around, Vec<oneshot::Sender<()>>);
+type Parts = (KeyHashes, Around, CancellationToken);
 
 /// The parts of the shared state around its node, which are taken out of the settings. Errors: the system has no random numbers, or out
 /// of memory.
@@ -168,13 +168,13 @@ fn parts_in<R: RandomSource + Clock>(
                 connecting,
                 fetching,
                 told,
-                hurries,
+                hurry,
             } = given;
             let started = Instant::now(rt).ok();
             let ways = ways_in(alloc, settings, hashes, connecting);
             let outward = outward_in(alloc, settings, ways, loop_mark, fetching);
             let around = around_in(alloc, settings, hashes, outward, told, started);
-            parts_with(hashes, around, hurries)
+            parts_with(hashes, around, hurry)
         }
         Err(fault) => {
             drop(given);
@@ -187,12 +187,12 @@ fn parts_in<R: RandomSource + Clock>(
 fn parts_with(
     hashes: KeyHashes,
     around: Result<Around, AllocError>,
-    hurries: Vec<oneshot::Sender<()>>,
+    hurry: CancellationToken,
 ) -> Result<Parts, ServeFault> {
     match around {
-        Ok(around) => Ok((hashes, around, hurries)),
+        Ok(around) => Ok((hashes, around, hurry)),
         Err(_) => {
-            drop(hurries);
+            drop(hurry);
             Err(ServeFault::NoMemory)
         }
     }
