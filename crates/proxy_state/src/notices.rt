@@ -52,7 +52,7 @@ impl Notices {
         let Ok(mut line) = line else {
             return;
         };
-        if push_end(alloc, &mut line, left_out).is_ok() {
+        if push_end(&mut line, left_out).is_ok() {
             self.desk.offer(rt, line.into_bytes());
         }
     }
@@ -166,12 +166,12 @@ fn malformed_line(alloc: Global, socket: &str, count: u64) -> Result<String, All
 }
 
 // Appends the end of a line: how many notices were left out before it, if any.
-fn push_end(alloc: Global, line: &mut String, left_out: u64) -> Result<(), AllocError> {
+fn push_end(line: &mut String, left_out: u64) -> Result<(), AllocError> {
     if left_out == 0 {
         return line.push_str("\n");
     }
-    match format!(in alloc; " ({left_out} notices before this one were left out)\n") {
-        Ok(end) => line.push_str(end.as_str()),
-        Err(_) => Err(AllocError),
-    }
+    write!(
+        line,
+        " ({left_out} notices before this one were left out)\n"
+    )
 }
