@@ -42,13 +42,7 @@ impl Notices {
     }
 
     // Hands over a line, which says how many were left out before it. Where there is no memory for it, it is not written.
-    fn offer<R: Wait>(
-        &self,
-        rt: &R,
-        alloc: Global,
-        line: Result<String, AllocError>,
-        left_out: u64,
-    ) {
+    fn offer<R: Wait>(&self, rt: &R, line: Result<String, AllocError>, left_out: u64) {
         let Ok(mut line) = line else {
             return;
         };
@@ -72,7 +66,7 @@ impl Notices {
         };
         if let Some(left_out) = self.admit(rt) {
             let line = fetch_line(alloc, fetch, url, supplier, reason);
-            self.offer(rt, alloc, line, left_out);
+            self.offer(rt, line, left_out);
         }
     }
 
@@ -80,7 +74,7 @@ impl Notices {
     pub fn tell_no_look_up<R: Wait + Clock>(&self, rt: &R, alloc: Global, asker: Option<IpAddr>) {
         if let Some(left_out) = self.admit(rt) {
             let line = look_up_line(alloc, asker);
-            self.offer(rt, alloc, line, left_out);
+            self.offer(rt, line, left_out);
         }
     }
 
@@ -89,7 +83,7 @@ impl Notices {
         if let Some(left_out) = self.admit(rt) {
             let text =
                 "a request was refused (503): no open file is left for its connection to a server";
-            self.offer(rt, alloc, String::from_str(alloc, text), left_out);
+            self.offer(rt, String::from_str(alloc, text), left_out);
         }
     }
 
@@ -100,7 +94,7 @@ impl Notices {
         }
         if let Some(left_out) = self.admit(rt) {
             let line = malformed_line(alloc, socket, count);
-            self.offer(rt, alloc, line, left_out);
+            self.offer(rt, line, left_out);
         }
     }
 }
