@@ -33,7 +33,7 @@ enum Refusal<'a> {
 }
 
 impl From<AllocError> for Refusal<'_> {
-    fn from(_: AllocError) -> Self {
+    fn from(_error: AllocError) -> Self {
         Refusal::NoMemory
     }
 }
@@ -193,9 +193,11 @@ fn sockets_of<'a>(words: &ArgMatches<'a>) -> Result<Sockets, Refusal<'a>> {
 // The networks whose queries are answered.
 fn allowed_of<'a>(alloc: Global, words: &ArgMatches<'a>) -> Result<Vec<Network>, Refusal<'a>> {
     let mut allowed = Vec::new(alloc);
-    for text in words.get_strs("allow").unwrap_or(&[]) {
-        let network = network_in("allow", *text)?;
-        allowed.push(network).map_err(AllocError::from)?;
+    if let Some(texts) = words.get_strs("allow") {
+        for text in texts {
+            let network = network_in("allow", *text)?;
+            allowed.push(network).map_err(AllocError::from)?;
+        }
     }
     if allowed.is_empty() {
         allowed.push(ALL).map_err(AllocError::from)?;

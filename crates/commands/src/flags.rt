@@ -64,14 +64,11 @@ pub(crate) fn apart(name: &str) -> &'static [&'static str] {
 fn needed(name: &str) -> &'static [&'static str] {
     match name {
         "script" | "expect" => &["own"],
-        "allow" | "nofetch" | "clock" => &[NODE_WORDS],
+        "allow" | "nofetch" | "clock" => &["node"],
         "fail-if-different" => &["expect"],
         _ => &[],
     }
 }
-
-/// The group of the options that have `replay` run a node.
-pub(crate) const NODE_WORDS: &str = "node";
 
 /// That of `serve`.
 pub(crate) const SERVE: Flag = Flag {

@@ -1,6 +1,6 @@
 //! The program's commands.
 
-use crate::flags::{FILTER, Flag, NODE, NODE_WORDS, SERVE, SHARED, apart};
+use crate::flags::{FILTER, Flag, NODE, SERVE, SHARED, apart};
 use clap::{Arg, ArgGroup, Command};
 use std::alloc::{AllocError, Global};
 
@@ -63,11 +63,11 @@ fn serve<'a>(alloc: Global) -> Made<'a> {
 }
 
 fn replay<'a>(alloc: Global) -> Made<'a> {
-    let node_words = node_words(alloc)?;
+    let nodes = node_words(alloc)?;
     let command = Command::new(alloc, "replay")
         .about("Runs a filter, or a whole node, over a capture")
         .override_usage(REPLAY_USAGE)
-        .group(node_words);
+        .group(nodes);
     let filter = word_of_a_filter(alloc, "filter", "The filter that judges the datagrams");
     let command = with_made(command, filter);
     let capture = word_of_a_filter(alloc, "capture", "A capture, pcap or pcapng");
@@ -80,7 +80,7 @@ fn replay<'a>(alloc: Global) -> Made<'a> {
 
 // The options that have a node run, of which one stands in place of a filter and its capture.
 fn node_words<'a>(alloc: Global) -> Result<ArgGroup<'a>, AllocError> {
-    ArgGroup::new(alloc, NODE_WORDS).args(&["script", "expect"])
+    ArgGroup::new(alloc, "node").args(&["script", "expect"])
 }
 
 // A word of `replay` that stands in its place where a filter is run.
