@@ -34,7 +34,10 @@ fn counted(alloc: Global, program: &Checked) -> Result<String, AllocError>
 {
     let lines = to_text(alloc, program)?;
     let count = program.len();
-    format!(in alloc; "accepted {count}\n{lines}")
+    let mut text = String::new(alloc);
+    write!(text, "accepted {count}\n")?;
+    text.push_str(lines.as_str())?;
+    Ok(text)
 }
 
 /// The output of the command `check`: `accepted`, the number of instructions, and the program as assembler text.
