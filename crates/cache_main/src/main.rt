@@ -2,8 +2,8 @@
 //! file, `replay` runs one over a capture, `explain` over one datagram, `serve` runs the proxy from a configuration file, or checks
 //! that file. What is asked about the program itself (`--help`, `help`, `--version`, `serve --check`) is told by `commands`.
 //!
-//! This crate parses the arguments and calls the crates below it: `feed_script`, `filter_replay` for the commands about captures, `commands`
-//! also for what `check` and `serve` read and tell, and `cache_serve`. It has no functional contract of its own; `run_serve` only requires a
+//! This crate tells the commands apart and calls the crates below it: `feed_script`, `commands` for `check`, for the commands about captures
+//! and for what `serve` reads and tells, and `cache_serve`. It has no functional contract of its own; `run_serve` only requires a
 //! ledger for as many threads as may submit events to the node.
 //! Tested by: its run by `rt ci` (args, stdin, stdout), cases/, tests/.
 #![tactic(auto)]
@@ -12,9 +12,10 @@ mod serve_command;
 mod standard_files;
 mod version;
 
-use commands::{NO_OUTPUT, Question, asked, check_configuration, run_check, settings_of};
+use commands::{
+    NO_OUTPUT, Question, asked, check_configuration, run_check, run_over_capture, settings_of,
+};
 use feed_script::feed;
-use filter_replay::{run_explain, run_replay};
 use proxy_setup::SEATS;
 use serve_command::run_serve;
 use standard_files::take_closed;
@@ -25,20 +26,14 @@ use std::sync::ledger::Blank;
 use std::{env, io};
 use version::VERSION;
 
-/// The usage line of the commands about captures.
-const CAPTURE_USAGE: &str =
-    "usage: cache_main replay <filter> <capture> [--icp-port <port>] [--htcp-port <port>] [--own <address>] [--from <network>] [--fail-if-rejected <percent>] [--show] [--compare <other filter>] [--json] | replay --script <capture> --own <address> [--icp-port <port>] [--htcp-port <port>] [--allow <network>] [--nofetch] [--clock] | replay --expect <capture> --own <address> [the same options] [--show] [--fail-if-different] | explain <filter> <octets in hexadecimal or capture:number>";
-
 /// A command of the program.
 enum Command<'a> {
     /// Run the script on standard input.
     Feed,
     /// Print the filter program in this file.
     Check(&'a str),
-    /// Run a filter program over a capture; the words after the command.
-    Replay(&'a [String]),
-    /// Print the run of a filter program on one datagram; the words after the command.
-    Explain(&'a [String]),
+    /// Run a filter program or a node over a capture, or print the run of a filter program on one datagram.
+    OverCapture,
     /// Run the proxy with this configuration file.
     Serve(&'a str),
 }
@@ -54,8 +49,7 @@ fn main(rt: HostRuntime) -> ExitCode {
     match command_of(words.as_slice()) {
         Some(Command::Feed) => run_feed(&rt),
         Some(Command::Check(file)) => run_check(&rt, file),
-        Some(Command::Replay(words)) => told(&rt, run_replay(&rt, words)),
-        Some(Command::Explain(words)) => told(&rt, run_explain(&rt, words)),
+        Some(Command::OverCapture) => run_over_capture(&rt, VERSION, words.as_slice()),
         Some(Command::Serve(file)) => {
             let Some(settings) = settings_of(&rt, file) else {
                 return ExitCode::FAILURE;
@@ -97,17 +91,6 @@ fn tell_usage(rt: &HostRuntime) -> ExitCode {
     ExitCode::from(2)
 }
 
-/// The status of a command about captures, or the usage line if its words were not understood.
-fn told(rt: &HostRuntime, status: Option<ExitCode>) -> ExitCode {
-    match status {
-        Some(status) => status,
-        None => {
-            let _ = eprintln!(rt; "{CAPTURE_USAGE}");
-            ExitCode::from(2)
-        }
-    }
-}
-
 /// Handles arguments that are not UTF-8. A file with such a name cannot be opened, so `check` reports a file fault.
 fn refuse_words(rt: &HostRuntime) -> ExitCode {
     let mut word = [0; 5];
@@ -133,8 +116,9 @@ fn command_of(words: &[String]) -> Option<Command<'_>> {
         [_, word, file] if word.as_str() == "serve" && file.as_str() != "--check" => {
             Some(Command::Serve(file.as_str()))
         }
-        [_, word, rest @ ..] if word.as_str() == "replay" => Some(Command::Replay(rest)),
-        [_, word, rest @ ..] if word.as_str() == "explain" => Some(Command::Explain(rest)),
+        [_, word, ..] if matches!(word.as_str(), "replay" | "explain") => Some(
+            Command::OverCapture,
+        ),
         _ => None,
     }
 }

@@ -7,8 +7,6 @@ use fair_use::{Division, FewFiles, division_of, is_told};
 use filter_slots::End;
 use proxy_setup::MOST_CLIENT_THREADS;
 use serve_config::Settings;
-use std::alloc::AllocGlobal;
-use std::fs::Files;
 use std::net::{Ipv4Addr, Ipv6Addr, SocketAddr, SocketAddrV4};
 use std::thread;
 use std::thread::Threads;
@@ -37,7 +35,7 @@ pub struct ThreadConfig {
 }
 
 /// What the threads need of the settings.
-pub(crate) fn thread_config<R: Threads + Files + AllocGlobal>(
+pub(crate) fn thread_config<R: Threads>(
     rt: &R,
     settings: &Settings,
     limits: ProxyLimits,
@@ -47,12 +45,7 @@ pub(crate) fn thread_config<R: Threads + Files + AllocGlobal>(
     let an_address = settings.address_connections.unwrap_or(ADDRESS_CONNECTIONS);
     limits.clients.connections.an_address = an_address as usize;
     let client_threads = client_threads(rt, settings);
-    let division = division_in(
-        rt,
-        settings,
-        client_threads,
-        limits.clients.connections.most,
-    );
+    let division = division_in(settings, client_threads, limits.clients.connections.most);
     if let Some(division) = division {
         limits.clients.connections.most = division.seats;
     }
@@ -79,29 +72,20 @@ pub(crate) fn thread_config<R: Threads + Files + AllocGlobal>(
 
 /// What a start tells of the files that the program may open: how they are divided, if they are few. `None` also if it isn't known how many
 /// there are.
-pub fn few_files<R: Threads + Files + AllocGlobal>(
-    rt: &R,
-    settings: &Settings,
-    limits: ProxyLimits,
-) -> Option<FewFiles> {
-    let files = most_files(rt)?;
+pub fn few_files<R: Threads>(rt: &R, settings: &Settings, limits: ProxyLimits) -> Option<FewFiles> {
+    let files = most_files()?;
     if !is_told(files) {
         return None;
     }
     let threads = client_threads(rt, settings);
-    let division = division_in(rt, settings, threads, limits.clients.connections.most)?;
+    let division = division_in(settings, threads, limits.clients.connections.most)?;
     Some(FewFiles { files, division })
 }
 
 /// How the files that the program may open are divided, of which so many threads serve at most so many clients. `None` if it isn't known how
 /// many there are.
-fn division_in<R: Files + AllocGlobal>(
-    rt: &R,
-    settings: &Settings,
-    threads: usize,
-    most: usize,
-) -> Option<Division> {
-    let files = most_files(rt)?.saturating_sub(six_files(settings, threads));
+fn division_in(settings: &Settings, threads: usize, most: usize) -> Option<Division> {
+    let files = most_files()?.saturating_sub(six_files(settings, threads));
     Some(division_of(files, threads, most))
 }
 

@@ -231,12 +231,12 @@ where
         let ServerOrders {
             rules,
             keeping,
-            hurried,
+            hurry,
         } = servers;
         let names = self.installed(filters, names);
         let fetching = self.open_fetchers(names);
         let queries = self.open_queries(fetching);
-        let clients = self.open_clients(queries, rules, hurried);
+        let clients = self.open_clients(queries, rules, hurry);
         self.open_administration(clients, keeping)
     }
 }

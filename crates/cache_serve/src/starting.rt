@@ -81,9 +81,9 @@ where
     let alloc = rt.alloc();
     let config = thread_config(&rt, &settings, limits);
     let (connecting, fetching) = (config.limits.connecting, config.limits.fetching);
-    match server_orders(&rt, alloc, &mut settings, config.client_threads) {
-        Ok((servers, hurries)) => {
-            let (given, logs, filters) = equipped(equipment, connecting, fetching, hurries);
+    match server_orders(&rt, alloc, &mut settings) {
+        Ok((servers, hurry)) => {
+            let (given, logs, filters) = equipped(equipment, connecting, fetching, hurry);
             let site = site_of(&rt, alloc, blank, settings, given);
             let orders = Orders {
                 logs,

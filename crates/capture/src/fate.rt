@@ -21,10 +21,6 @@ impl Fate {
     pub fn interface(&self) -> u32
         ensures { result ≡ interface self.now }
     {
-        match self {
-            Fate::Accepted => 0,
-            Fate::Cut => 1,
-            Fate::Rejected => 2,
-        }
+        *self as u32
     }
 }

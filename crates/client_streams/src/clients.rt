@@ -16,6 +16,7 @@ use std::sync::Wait;
 use std::time::{Clock, Duration};
 use tokio::net::TcpStream;
 use tokio::time::{Handle, Sleep};
+use tokio_util::sync::{CancellationToken, WaitForCancellationFuture};
 
 /// Makes the future that serves a client.
 pub trait Accept: Drop {
@@ -113,12 +114,12 @@ enum Opening {
 pub struct Stops {
     /// Ends the acceptance of clients, and begins the grace for those that are connected. So does a dropped sender.
     pub stop: oneshot::Receiver<()>,
-    /// Ends the grace at once. A dropped sender does not.
-    pub hurry: oneshot::Receiver<()>,
+    /// Ends the grace at once, where something may.
+    pub hurry: Option<CancellationToken>,
 }
 
 /// The clients that one thread serves, as a stream of futures. It accepts no more of them, and closes its listeners, when `stop` is ready or its
-/// sender is dropped, and ends when all clients are gone, when the grace has passed, or when `hurry` is ready, whichever comes first;
+/// sender is dropped, and ends when all clients are gone, when the grace has passed, or when `hurry` is cancelled, whichever comes first;
 /// whoever runs the futures then drops those that are left. Each future holds a seat. A client of an address that has as many seats as
 /// it may is closed; of IPv6 a network of 64 bits counts as one address. While all seats are taken, the connection that has been idle for longest is closed in favour of the next client,
 /// or one that has been so for longest among another thread's, unless it came less than 250 ms ago and few of its address are served; while
@@ -137,7 +138,7 @@ pub struct AcceptedClients<A, R: Wait + Clock + Copy> {
     // None once the server is told to stop.
     listeners: Option<Listeners>,
     stop: Option<oneshot::Receiver<()>>,
-    hurry: Option<oneshot::Receiver<()>>,
+    hurry: Option<WaitForCancellationFuture>,
     grace: Duration,
     // The end of the grace, once it has begun.
     ending: Option<Sleep>,
@@ -170,13 +171,17 @@ impl<A: Accept, R: Wait + Clock + Copy> AcceptedClients<A, R> {
     ) -> Result<AcceptedClients<A, R>, AllocError> {
         let seats = SharedSeats::new(rt, alloc, share, limits.most)?;
         let Stops { stop, hurry } = stops;
+        let hurry = match hurry {
+            Some(token) => Some(token.cancelled()?),
+            None => None,
+        };
         Ok(AcceptedClients {
             rt,
             alloc,
             timers,
             listeners: Some(listeners),
             stop: Some(stop),
-            hurry: Some(hurry),
+            hurry,
             grace,
             ending: None,
             accept,
@@ -276,18 +281,15 @@ impl<A: Accept, R: Wait + Clock + Copy> AcceptedClients<A, R> {
         true
     }
 
-    // Waits for the end of a server that was told to stop. Without memory for a timer it is at once.
+    // Waits for the end of a server that was told to stop. Without memory to wait for it it is at once.
     fn poll_end(&mut self, cx: &mut Context<'_>) -> Poll<()>
         ensures registered { OnPending result (IsArmed cx.new) }
         ensures kept { Keeps cx.old cx.new }
     {
         if let Some(hurry) = &mut self.hurry
-            && let Poll::Ready(end) = hurry.poll(cx)
+            && let Poll::Ready(_) = hurry.poll(cx)
         {
-            if end.is_ok() {
-                return Poll::Ready(());
-            }
-            self.hurry = None;
+            return Poll::Ready(());
         }
         let Some(ending) = &mut self.ending else {
             return Poll::Ready(());

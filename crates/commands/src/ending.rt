@@ -29,11 +29,8 @@ fn lines_of(alloc: Global, finish: &Finish) -> Result<Option<String>, AllocError
     }
     if finish.was_asked {
         let count = finish.report.count;
-        let line = format!(in alloc; "stopped, {count} events settled")?;
-        if !lines.is_empty() {
-            lines.push('\n')?;
-        }
-        lines.push_str(line.as_str())?;
+        let between = if lines.is_empty() { "" } else { "\n" };
+        write!(lines, "{between}stopped, {count} events settled")?;
     }
     Ok(if lines.is_empty() { None } else { Some(lines) })
 }

@@ -1,7 +1,8 @@
 //! The options of the commands.
 
+use clap::builder::ValueParser;
 use clap::{Arg, ArgAction};
-use std::alloc::Global;
+use std::alloc::{AllocError, Global};
 
 /// An option of a command.
 #[derive(Clone, Copy)]
@@ -14,13 +15,58 @@ pub(crate) struct Flag {
 }
 
 impl Flag {
-    /// The option as `clap` takes it.
-    pub(crate) fn arg<'a>(self, alloc: Global) -> Arg<'a> {
+    /// The option as `clap` takes it. Errors: out of memory.
+    pub(crate) fn arg<'a>(self, alloc: Global) -> Result<Arg<'a>, AllocError> {
         let arg = Arg::new(alloc, self.name).long(self.name).help(self.help);
-        match self.value {
-            Some(value) => arg.value_name(value),
+        let arg = match self.value {
+            Some(value) => arg.value_name(value).action(action_of(self.name)),
             None => arg.action(ArgAction::SetTrue),
-        }
+        };
+        let arg = match most_of(self.name) {
+            Some(most) => arg.value_parser(ValueParser::unsigned(0, most)),
+            None => arg,
+        };
+        arg.conflicts_with_all(apart(self.name))?
+            .requires_all(needed(self.name))
+    }
+}
+
+// What one more use of an option does that has a value.
+fn action_of(name: &str) -> ArgAction {
+    match name {
+        "allow" => ArgAction::Append,
+        _ => ArgAction::Set,
+    }
+}
+
+// The largest number that an option takes, if it takes numbers.
+fn most_of(name: &str) -> Option<u64> {
+    match name {
+        "icp-port" | "htcp-port" => Some(65_535),
+        "fail-if-rejected" => Some(100),
+        _ => None,
+    }
+}
+
+/// What an option or a word of `replay` does not stand beside.
+pub(crate) fn apart(name: &str) -> &'static [&'static str] {
+    match name {
+        "show" => &["script"],
+        "from" | "fail-if-rejected" => &["compare", "script", "expect"],
+        "compare" => &["show", "script", "expect"],
+        "json" | "filter" | "capture" => &["script", "expect"],
+        "script" => &["expect"],
+        _ => &[],
+    }
+}
+
+// What an option needs beside it.
+fn needed(name: &str) -> &'static [&'static str] {
+    match name {
+        "script" | "expect" => &["own"],
+        "allow" | "nofetch" | "clock" => &["node"],
+        "fail-if-different" => &["expect"],
+        _ => &[],
     }
 }
 

@@ -1,7 +1,7 @@
 //! What an argument list asks of the program about itself: a help text, its version, or whether a configuration is right; and what
-//! commands of the program read and tell: `check`, which reads a filter program from a file, `serve --check`, and `serve` beside the
-//! proxy itself. All commands, their words and their help texts stand here, for `clap` of the toolchain's kit, which finds out which text
-//! is meant.
+//! commands of the program read and tell: `check`, which reads a filter program from a file, `replay` and `explain`, by the crate
+//! `filter_replay`, `serve --check`, and `serve` beside the proxy itself. All commands, their words and their help texts stand here, for `clap` of the toolchain's kit, which finds out which text
+//! is meant, and takes the words of `replay` and `explain` apart.
 //!
 //! The contract of [`asked`] says which argument lists are left to the program (`specs/Asking.antt`): all in which none of the six
 //! words stands that this crate answers to. It also says that each of the five words for a text has one where it stands alone, and that
@@ -11,6 +11,7 @@
 #![tactic(auto)]
 
 mod asking;
+mod capture_commands;
 mod check_command;
 mod configuration_command;
 mod ending;
@@ -23,6 +24,7 @@ mod telling;
 mod warnings;
 
 pub use asking::{Question, asked};
+pub use capture_commands::run_over_capture;
 pub use check_command::run_check;
 pub use configuration_command::check_configuration;
 pub use ending::tell_finish;

@@ -1,7 +1,7 @@
 //! The program's commands.
 
-use crate::flags::{FILTER, Flag, NODE, SERVE, SHARED};
-use clap::{Arg, Command};
+use crate::flags::{FILTER, Flag, NODE, SERVE, SHARED, apart};
+use clap::{Arg, ArgGroup, Command};
 use std::alloc::{AllocError, Global};
 
 /// The usage of `replay`, whose three forms take other words.
@@ -59,19 +59,40 @@ fn serve<'a>(alloc: Global) -> Made<'a> {
     let command = Command::new(alloc, "serve")
         .about("Runs the proxy, or checks its configuration")
         .arg(word(alloc, "config.json", "The configuration, one JSON object"));
-    with_argument(command, SERVE.arg(alloc))
+    with_made(command, SERVE.arg(alloc))
 }
 
 fn replay<'a>(alloc: Global) -> Made<'a> {
+    let nodes = node_words(alloc)?;
     let command = Command::new(alloc, "replay")
         .about("Runs a filter, or a whole node, over a capture")
         .override_usage(REPLAY_USAGE)
-        .arg(word(alloc, "filter", "The filter that judges the datagrams"));
-    let command = with_argument(command, word(alloc, "capture", "A capture, pcap or pcapng"));
+        .group(nodes);
+    let filter = word_of_a_filter(alloc, "filter", "The filter that judges the datagrams");
+    let command = with_made(command, filter);
+    let capture = word_of_a_filter(alloc, "capture", "A capture, pcap or pcapng");
+    let command = with_made(command, capture);
     with_node_flags(
         alloc,
         with_filter_flags(alloc, with_shared_flags(alloc, command)),
     )
+}
+
+// The options that have a node run, of which one stands in place of a filter and its capture.
+fn node_words<'a>(alloc: Global) -> Result<ArgGroup<'a>, AllocError> {
+    ArgGroup::new(alloc, "node").args(&["script", "expect"])
+}
+
+// A word of `replay` that stands in its place where a filter is run.
+fn word_of_a_filter<'a>(
+    alloc: Global,
+    name: &'a str,
+    help: &'a str,
+) -> Result<Arg<'a>, AllocError> {
+    Arg::new(alloc, name)
+        .help(help)
+        .required_unless_present_any(&["script", "expect"])?
+        .conflicts_with_all(apart(name))
 }
 
 // The options of `replay` are added in three functions, as each lays out its own table.
@@ -122,6 +143,17 @@ fn with_argument<'a>(command: Made<'a>, argument: Arg<'a>) -> Made<'a> {
     }
 }
 
+// The same of one that there may have been no memory for.
+fn with_made<'a>(command: Made<'a>, argument: Result<Arg<'a>, AllocError>) -> Made<'a> {
+    match argument {
+        Ok(argument) => with_argument(command, argument),
+        Err(fault) => {
+            drop(command);
+            Err(fault)
+        }
+    }
+}
+
 // A word that has to stand in its place.
 fn word<'a>(alloc: Global, name: &'a str, help: &'a str) -> Arg<'a> {
     Arg::new(alloc, name).required(true).help(help)
@@ -131,7 +163,15 @@ fn word<'a>(alloc: Global, name: &'a str, help: &'a str) -> Arg<'a> {
 fn with_flags<'a>(alloc: Global, command: Made<'a>, flags: &[Flag], heading: &'a str) -> Made<'a> {
     let mut command = command;
     for flag in flags {
-        command = with_argument(command, flag.arg(alloc).help_heading(heading));
+        command = with_made(command, headed(flag.arg(alloc), heading));
     }
     command
+}
+
+// An option under this heading.
+fn headed<'a>(
+    argument: Result<Arg<'a>, AllocError>,
+    heading: &'a str,
+) -> Result<Arg<'a>, AllocError> {
+    Ok(argument?.help_heading(heading))
 }

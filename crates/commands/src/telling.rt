@@ -85,18 +85,11 @@ fn start_lines(
     lines.push_str(line.as_str())?;
     drop(line);
     let (asked, clients) = (facts.asked, addresses.clients.port());
-    add_port(alloc, &mut lines, "icp_port", asked.icp, addresses.icp.port)?;
-    add_port(
-        alloc,
-        &mut lines,
-        "htcp_port",
-        asked.htcp,
-        addresses.htcp.port,
-    )?;
-    add_port(alloc, &mut lines, "http_port", asked.clients, clients)?;
+    add_port(&mut lines, "icp_port", asked.icp, addresses.icp.port)?;
+    add_port(&mut lines, "htcp_port", asked.htcp, addresses.htcp.port)?;
+    add_port(&mut lines, "http_port", asked.clients, clients)?;
     let administration = addresses.administration.port();
     add_port(
-        alloc,
         &mut lines,
         "admin_port",
         asked.administration,
@@ -117,18 +110,11 @@ fn few_line(alloc: Global, few: Option<FewFiles>) -> Result<String, AllocError> 
 }
 
 /// Adds the line of a port that was asked for as 0. Errors: out of memory.
-fn add_port(
-    alloc: Global,
-    lines: &mut String,
-    key: &str,
-    asked: u16,
-    chosen: u16,
-) -> Result<(), AllocError> {
+fn add_port(lines: &mut String, key: &str, asked: u16, chosen: u16) -> Result<(), AllocError> {
     if asked != 0 {
         return Ok(());
     }
-    let line = format!(in alloc; "\n{key}: {chosen}")?;
-    lines.push_str(line.as_str())
+    write!(lines, "\n{key}: {chosen}")
 }
 
 /// The line about a proxy that listens. Errors: out of memory.

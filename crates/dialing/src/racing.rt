@@ -112,15 +112,19 @@ impl<R: Drop> Drop for Dialing<R> {
 
 impl<R: Net + Wait + Clock + Copy> Dialing<R> {
     /// Connects to one of these addresses within this time, on the event loop of this handle. The first attempt begins at once; one that goes
-    /// beside another one has a place among these connections.
+    /// beside another one has a place among these connections. `None` if out of memory.
     pub fn new(
         rt: R,
         alloc: Global,
-        handle: Handle,
+        handle: &Handle,
         servers: AdmittedAddresses,
         places: Arc<ServerConnections>,
         limit: Duration,
-    ) -> Dialing<R> {
+    ) -> Option<Dialing<R>> {
+        let Ok(handle) = handle.clone() else {
+            drop(servers);
+            return None;
+        };
         let race = Race::new(servers.as_slice().len(), millis(limit));
         let mut dialing = Dialing {
             rt,
@@ -135,7 +139,7 @@ impl<R: Net + Wait + Clock + Copy> Dialing<R> {
             sleep: None,
         };
         let _ = dialing.begin(0, None);
-        dialing
+        Some(dialing)
     }
 
     // Begins the next attempt. Errors: there is none, or out of memory.

@@ -18,26 +18,23 @@ struct Frame {
     octets: Vec<u8>,
 }
 
-/// Runs the command on the words after its name: a filter's file, and a datagram, either as the octets of an IPv4 packet in
-/// hexadecimal or as a capture's file, `:` and the number of a record in it, from 1.
+/// Runs the command on a filter's file and a datagram, which is given either as the octets of an IPv4 packet in hexadecimal or as a
+/// capture's file, `:` and the number of a record in it, from 1.
 ///
 /// Prints each instruction that was executed with the machine after it, and the verdict, on standard output, and the line of a
-/// fault on standard error. Returns `None` if the words are not those of the command.
-pub fn run_explain(rt: &HostRuntime, words: &[String]) -> Option<ExitCode> {
-    let [filter, given] = words else {
-        return None;
+/// fault on standard error.
+pub fn run_explain(rt: &HostRuntime, filter: &str, given: &str) -> ExitCode {
+    let Some(program) = program_in(rt, filter) else {
+        return ExitCode::from(FAULT);
     };
-    let Some(program) = program_in(rt, filter.as_str()) else {
-        return Some(ExitCode::from(FAULT));
-    };
-    let Some(frame) = frame_of(rt, given.as_str()) else {
-        return Some(ExitCode::from(FAULT));
+    let Some(frame) = frame_of(rt, given) else {
+        return ExitCode::from(FAULT);
     };
     let Some(datagram) = udp_at(frame.link, &frame.octets) else {
         let _ = eprintln!(rt; "no UDP datagram over IPv4");
-        return Some(ExitCode::from(FAULT));
+        return ExitCode::from(FAULT);
     };
-    Some(explain(rt, &program, &datagram))
+    explain(rt, &program, &datagram)
 }
 
 // Runs the program on a datagram and prints its run.

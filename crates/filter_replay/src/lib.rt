@@ -2,8 +2,7 @@
 //! they differ, or writes the capture's script, or compares a node's answers with it; and `explain`, which prints the run of one
 //! datagram instruction by instruction.
 //!
-//! This crate parses the words of both commands, reads their files, and turns the results of the crates below into lines and exit
-//! statuses. Of that it has no contract beyond being safe.
+//! This crate reads the files of both commands, and turns the results of the crates below into lines and exit statuses. Of that it has no contract beyond being safe.
 //!
 //! A script is what a capture makes of the node itself: `feed` delivers the captured datagrams to a node by it, and the answers of such a
 //! node are compared with those that the captured cache sent. `specs/Part.antt` says which datagrams of a capture the cache received and
@@ -32,13 +31,15 @@ mod report_json;
 mod report_text;
 mod script;
 mod script_command;
-mod script_options;
 mod tally;
 mod waiting;
 
 pub use answer::{Answer, Kind, answer_of, is_question, kind_of};
 pub use explain_command::run_explain;
 pub use moment::{Clock, time_of};
+pub use options::Options;
 pub use part::{Part, Sockets, part_of};
+pub use plan::Plan;
 pub use replay_command::run_replay;
+pub use script_command::{run_expect, run_script};
 pub use tally::{Answers, Counts};

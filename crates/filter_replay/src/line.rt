@@ -6,8 +6,7 @@ ghost use Rattle.filter_replay.specs.Line.{address_text, datagram_text, end_text
 use bpf_run::{End, Moment, Socket};
 use std::alloc::{AllocError, Global};
 
-/// Appends a number.
-pub(crate) fn push_number(out: &mut Vec<u8>, number: u64) -> Result<(), AllocError>
+fn push_number(out: &mut Vec<u8>, number: u64) -> Result<(), AllocError>
     ensures { OnOk result (out.new.items ≡ out.old.items ++ decimal number) }
 {
     let mut buffer = itoa::Buffer::new();
@@ -25,8 +24,7 @@ fn push_octets(out: &mut Vec<u8>, alloc: Global, octets: &[u8]) -> Result<(), Al
     }
 }
 
-/// Appends an address.
-pub(crate) fn push_address(out: &mut Vec<u8>, addr: [u8; 4]) -> Result<(), AllocError>
+fn push_address(out: &mut Vec<u8>, addr: [u8; 4]) -> Result<(), AllocError>
     ensures { OnOk result (out.new.items ≡ out.old.items ++ address_text addr) }
 {
     push_number(out, u64::from(addr[0]))?;

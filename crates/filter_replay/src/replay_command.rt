@@ -5,42 +5,35 @@ use crate::files::{FAULT, program_in, reader_of};
 use crate::options::Options;
 use crate::report_json::print_report_json;
 use crate::report_text::print_report;
-use crate::script_command::{run_expect, run_script};
 use bpf_check::Checked;
-use replay::{Network, Question, Report, Share, replay};
+use node_core::Network;
+use replay::{Question, Report, Share, replay};
 use std::process::ExitCode;
 
 /// The status where more datagrams are rejected than the limit allows.
 const OVER_THE_LIMIT: u8 = 3;
 
-/// The message where `--compare` stands beside an option that only a single filter has.
-const AT_ODDS: &str = "--compare doesn't go with --from, --fail-if-rejected and --show";
+/// All senders.
+const ALL: Network = Network {
+    addr: [0, 0, 0, 0],
+    prefix: 0,
+};
 
-/// Runs the command on the words after its name: a filter's file, a capture's file and options. Prints the counts on standard
-/// output and the line of a fault on standard error.
+/// Runs the filter in a file over a capture. Prints the counts on standard output and the line of a fault on standard error.
 ///
-/// Returns `None` if the words are not those of the command. The status is 3 if more datagrams are rejected than the limit allows,
-/// and 1 after a fault.
-pub fn run_replay(rt: &HostRuntime, words: &[String]) -> Option<ExitCode> {
-    let [filter, capture, rest @ ..] = words else {
-        return None;
-    };
-    match filter.as_str() {
-        "--script" => return run_script(rt, capture.as_str(), rest),
-        "--expect" => return run_expect(rt, capture.as_str(), rest),
-        _ => (),
-    }
-    let options = Options::of(rest)?;
-    if options.are_at_odds() {
-        let _ = eprintln!(rt; "{AT_ODDS}");
-        return None;
-    }
-    let Some(program) = program_in(rt, filter.as_str()) else {
-        return Some(ExitCode::from(FAULT));
+/// The status is 3 if more datagrams are rejected than the limit allows, and 1 after a fault.
+pub fn run_replay(
+    rt: &HostRuntime,
+    filter: &str,
+    capture: &str,
+    options: &Options<'_>,
+) -> ExitCode {
+    let Some(program) = program_in(rt, filter) else {
+        return ExitCode::from(FAULT);
     };
     match options.compare {
-        Some(other) => Some(run_compare(rt, &program, other, capture.as_str(), &options)),
-        None => Some(run_single(rt, &program, capture.as_str(), &options)),
+        Some(other) => run_compare(rt, &program, other, capture, options),
+        None => run_single(rt, &program, capture, options),
     }
 }
 
@@ -77,7 +70,7 @@ fn report_of(
     let question = Question {
         program,
         aim: options.aim,
-        network: options.network.unwrap_or(Network::ALL),
+        network: options.network.unwrap_or(ALL),
     };
     let result = replay(rt.alloc(), &mut reader, &question);
     reader.get_mut().end_line();

@@ -6,16 +6,16 @@ ghost use Rattle.filter_replay.specs.Taking.{clock_by, lines_of, part_in};
 ghost use Rattle.filter_replay.specs.Tally.{counted};
 
 use crate::fault::ScriptFault;
-use crate::line::{push_address, push_datagram, push_number};
+use crate::line::push_datagram;
 use crate::moment::Clock;
 use crate::packets::{Packet, Packets};
 use crate::part::{Part, Sockets, part_of};
 use crate::plan::Plan;
 use crate::tally::Counts;
 use capture::udp_at;
-use node_core::Network;
 use std::alloc::{AllocError, Global};
 use std::io::{Read, Write};
+use std::net::Ipv4Addr;
 
 /// The most octets of a script that `feed` reads.
 pub const SCRIPT_LIMIT: u64 = 1_000_000_000;
@@ -121,44 +121,33 @@ impl<W: Write> Script<'_, W> {
 
     // Writes the settings, and the line that starts the node.
     fn put_settings(&mut self, alloc: Global, plan: &Plan<'_>) -> Result<(), ScriptFault> {
-        let mut lines = Vec::new(alloc);
-        lines.extend_from_slice(b"own ")?;
-        push_address(&mut lines, plan.sockets.own)?;
-        lines.extend_from_slice(b"\n")?;
+        let own = Ipv4Addr::from_octets(plan.sockets.own);
+        let mut lines = format!(in alloc; "own {own}\n")?;
         for network in plan.allowed {
-            push_network(&mut lines, *network)?;
+            let (address, prefix) = (Ipv4Addr::from_octets(network.addr), network.prefix);
+            write!(lines, "allow {address}/{prefix}\n")?;
         }
         if plan.miss_nofetch {
-            lines.extend_from_slice(b"nofetch on\n")?;
+            lines.push_str("nofetch on\n")?;
         }
-        lines.extend_from_slice(b"go\n")?;
-        self.put(&lines, 0)
+        lines.push_str("go\n")?;
+        self.put(lines.as_bytes(), 0)
     }
 
     // Writes the counts, in a comment; nothing if there is no room for it.
     fn put_counts(&mut self, alloc: Global, counts: Counts) -> Result<(), ScriptFault> {
-        let mut line = Vec::new(alloc);
-        line.extend_from_slice(b"# received ")?;
-        push_number(&mut line, counts.received)?;
-        line.extend_from_slice(b" sent ")?;
-        push_number(&mut line, counts.sent)?;
-        line.extend_from_slice(b" partial ")?;
-        push_number(&mut line, counts.partial)?;
-        line.extend_from_slice(b" others ")?;
-        push_number(&mut line, counts.others)?;
-        line.extend_from_slice(b"\n")?;
-        match self.put(&line, 0) {
+        let Counts {
+            received,
+            sent,
+            partial,
+            others,
+        } = counts;
+        let line = format!(in alloc;
+            "# received {received} sent {sent} partial {partial} others {others}\n"
+        )?;
+        match self.put(line.as_bytes(), 0) {
             Err(ScriptFault::TooLong { .. }) => Ok(()),
             result => result,
         }
     }
-}
-
-// Appends the line of a network whose queries are answered.
-fn push_network(lines: &mut Vec<u8>, network: Network) -> Result<(), AllocError> {
-    lines.extend_from_slice(b"allow ")?;
-    push_address(lines, network.addr)?;
-    lines.extend_from_slice(b"/")?;
-    push_number(lines, u64::from(network.prefix))?;
-    lines.extend_from_slice(b"\n")
 }

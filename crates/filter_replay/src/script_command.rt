@@ -2,9 +2,9 @@
 
 use crate::expected::{Expected, expect};
 use crate::files::{FAULT, reader_of};
+use crate::plan::Plan;
 use crate::report_text::socket_name;
 use crate::script::write_script;
-use crate::script_options::ScriptOptions;
 use crate::tally::Answers;
 use crate::waiting::Shown;
 use bpf_run::Socket;
@@ -16,51 +16,51 @@ use std::process::ExitCode;
 const DIFFERENT: u8 = 3;
 
 /// Writes the script of a capture to standard output. The status is 1 after a fault, whose line is printed on standard error.
-/// Returns `None` if the words are no options of the command.
-pub(crate) fn run_script(rt: &HostRuntime, capture: &str, words: &[String]) -> Option<ExitCode> {
-    let options = ScriptOptions::of(rt.alloc(), words)?;
-    if options.show || options.fail {
-        return None;
-    }
+pub fn run_script(rt: &HostRuntime, capture: &str, plan: &Plan<'_>) -> ExitCode {
     let Some(mut reader) = reader_of(rt, capture) else {
-        return Some(ExitCode::from(FAULT));
+        return ExitCode::from(FAULT);
     };
     let mut output = io::writer(rt);
-    let result = write_script(rt.alloc(), &mut reader, &mut output, &options.plan());
+    let result = write_script(rt.alloc(), &mut reader, &mut output, plan);
     reader.get_mut().end_line();
     match result {
-        Ok(_) => Some(ExitCode::SUCCESS),
+        Ok(_) => ExitCode::SUCCESS,
         Err(fault) => {
             let _ = eprintln!(rt; "{fault}");
-            Some(ExitCode::from(FAULT))
+            ExitCode::from(FAULT)
         }
     }
 }
 
-/// Prints how a node's answers differ from those in a capture. The status is 1 after a fault, and 3 if answers differ and the
-/// options ask for it. Returns `None` if the words are no options of the command.
-pub(crate) fn run_expect(rt: &HostRuntime, capture: &str, words: &[String]) -> Option<ExitCode> {
-    let options = ScriptOptions::of(rt.alloc(), words)?;
+/// Prints how a node's answers differ from those in a capture, and with `show` the first ones of each kind. The status is 1 after a fault,
+/// and 3 if answers differ and `fail` asks for it.
+pub fn run_expect(
+    rt: &HostRuntime,
+    capture: &str,
+    plan: &Plan<'_>,
+    show: bool,
+    fail: bool,
+) -> ExitCode {
     let Some(mut reader) = reader_of(rt, capture) else {
-        return Some(ExitCode::from(FAULT));
+        return ExitCode::from(FAULT);
     };
-    let result = expect(rt.alloc(), &mut reader, &options.plan());
+    let result = expect(rt.alloc(), &mut reader, plan);
     reader.get_mut().end_line();
     let expected = match result {
         Ok(expected) => expected,
         Err(fault) => {
             let _ = eprintln!(rt; "{fault}");
-            return Some(ExitCode::from(FAULT));
+            return ExitCode::from(FAULT);
         }
     };
-    if print_expected(rt, &expected, options.show).is_err() {
+    if print_expected(rt, &expected, show).is_err() {
         let _ = eprintln!(rt; "standard output can't be written");
-        return Some(ExitCode::from(FAULT));
+        return ExitCode::from(FAULT);
     }
-    if options.fail && !expected.are_equal() {
-        return Some(ExitCode::from(DIFFERENT));
+    if fail && !expected.are_equal() {
+        return ExitCode::from(DIFFERENT);
     }
-    Some(ExitCode::SUCCESS)
+    ExitCode::SUCCESS
 }
 
 // The counts, the codes of answers that differ, and the first ones of each kind.

@@ -6,31 +6,12 @@ use bpf_asm::to_text;
 use bpf_check::{Checked, Insn};
 use std::alloc::{AllocError, Global};
 
-/// Appends a number in decimal.
-fn push_number(out: &mut String, n: u64) -> Result<(), AllocError>
-    ensures { OnOk result (string_bytes out.new ≡ string_bytes out.old ++ decimal n) }
-{
-    let mut buffer = itoa::Buffer::new();
-    out.push_str(buffer.format(n))?;
-    Ok(())
-}
-
-/// Appends a comma and a number.
-fn push_next(out: &mut String, n: u64) -> Result<(), AllocError>
-    ensures { OnOk result (string_bytes out.new ≡ string_bytes out.old ++ (codes "," ++ decimal n)) }
-{
-    out.push_str(",")?;
-    push_number(out, n)
-}
-
 /// Appends the instruction as it appears in a script: `code,jt,jf,k`.
 fn push_fields(out: &mut String, insn: &Insn) -> Result<(), AllocError>
     ensures { OnOk result (string_bytes out.new ≡ string_bytes out.old ++ fields_text insn.now) }
 {
-    push_number(out, u64::from(insn.code))?;
-    push_next(out, u64::from(insn.jt))?;
-    push_next(out, u64::from(insn.jf))?;
-    push_next(out, u64::from(insn.k))
+    let Insn { code, jt, jf, k } = *insn;
+    write!(out, "{code},{jt},{jf},{k}")
 }
 
 /// The instructions, separated by semicolons.
@@ -52,10 +33,9 @@ fn counted(alloc: Global, program: &Checked) -> Result<String, AllocError>
     ensures { IfOk result (λ text. string_bytes text ≡ accepted_text program.now) }
 {
     let lines = to_text(alloc, program)?;
+    let count = program.len();
     let mut text = String::new(alloc);
-    text.push_str("accepted ")?;
-    push_number(&mut text, program.len() as u64)?;
-    text.push_str("\n")?;
+    write!(text, "accepted {count}\n")?;
     text.push_str(lines.as_str())?;
     Ok(text)
 }

@@ -418,7 +418,7 @@ impl<P: Panel, K: KeepTunnel> Serves<K> for Administrators<P> {
 }
 
 /// Serves administration on the calling thread, on this port of 127.0.0.1 only, until `stops.stop` is ready or its sender is
-/// dropped; open connections then have `limits.grace` to end, unless `stops.hurry` is ready before. Sends the address to `bound` once
+/// dropped; open connections then have `limits.grace` to end, unless `stops.hurry` is cancelled before. Sends the address to `bound` once
 /// administrators are accepted. Errors: the socket or the event loop failed.
 ///
 /// Answers PUT, GET and DELETE of `/filter/icp`, `/filter/htcp` and `/filter/neighbour/<n>` for each neighbour; GET of `/stats`,

@@ -486,7 +486,7 @@ where
 }
 
 /// Serves until `stops.stop` is ready or its sender is dropped. Open connections then have `limits.grace` to end, unless `stops.hurry`
-/// is ready before. Sends the address to `bound` once clients are accepted. Errors: the socket or the event loop failed.
+/// is cancelled before. Sends the address to `bound` once clients are accepted. Errors: the socket or the event loop failed.
 pub(crate) fn serve<R, H>(
     rt: R,
     socket: ClientSocket,

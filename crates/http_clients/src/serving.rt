@@ -781,7 +781,7 @@ fn passed_fields<F: Front + FollowUp + PassOn, K: Drop>(
 
 /// Serves clients on the calling thread, as many concurrently as `limits.connections` says together with the other threads that have
 /// handles to the socket, until `stops.stop` is ready or its sender is dropped; open connections then have `limits.grace` to end, unless
-/// `stops.hurry` is ready before. Sends the address to `bound` once clients are accepted, and counts in `open` the connections of clients
+/// `stops.hurry` is cancelled before. Sends the address to `bound` once clients are accepted, and counts in `open` the connections of clients
 /// that are open and admitted. Errors: the socket or the event loop failed.
 ///
 /// A request is taken as `Front::road` says by its method: answered through the node, passed on with its content and the answer's

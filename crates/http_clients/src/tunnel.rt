@@ -2,17 +2,19 @@
 ghost use Rattle.std.specs.Prelude.{IfOk};
 ghost use Rattle.futures.specs.Poll.{OnPending};
 ghost use Rattle.futures.specs.Task.{Covers, Keeps};
-ghost use Rattle.http_clients.specs.Judged.{AllJudged, AreJudged, IsJudged};
+ghost use Rattle.dialing.specs.Judged.{AllJudged};
 
 use crate::requests::Answers;
 use bytes::BytesMut;
 use client_streams::Patience;
-use dialing::{Connected, DialFault, Dialing};
+use dialing::{Connected, DialFault, Dialing, Judge, admitted_by, poll_addresses};
 use futures::channel::oneshot;
 use futures::task::{Context, Poll};
 use futures::{Future, ready};
 use http_rules::Admitted;
 use http_traffic::{Addresses, AdmitFault, AdmittedAddresses, Server, Ticket, TunnelEnd};
+use httparse::Status;
+use httparse::spans::{EMPTY_HEADER_SPAN, parse_response};
 use server_connections::ServerConnections;
 use shared_thread::Paced;
 use std::alloc::{AllocError, Global};
@@ -32,6 +34,9 @@ pub(crate) const PIECE: usize = 16 * 1024;
 
 // The most octets of a parent's head.
 const MOST_HEAD: usize = 8 * 1024;
+
+// The most fields of a parent's head.
+const MOST_FIELDS: usize = 128;
 
 /// A tunnel that a request asks for.
 #[derive(Drop)]
@@ -175,20 +180,6 @@ impl<R: Clock + Copy> Dialer<R> {
     }
 }
 
-// Apart, since only what connects a socket names `Net` here: the prover lays out a bound anew in each function that has it.
-impl<R: Net + Wait + Clock + Copy> Dialer<R> {
-    // Connects to one of these addresses, with a timeout. Returns `None` if out of memory.
-    fn connect(
-        &self,
-        servers: AdmittedAddresses,
-        places: Arc<ServerConnections>,
-        limit: Duration,
-    ) -> Option<Dialing<R>> {
-        let handle = self.handle.clone().ok()?;
-        Some(Dialing::new(self.rt, self.alloc, handle, servers, places, limit))
-    }
-}
-
 // Waits for the addresses of a server. `None` if its name has none, or if out of memory.
 #[derive(Drop)]
 struct Seeking {
@@ -200,10 +191,7 @@ impl Future for Seeking {
     type Output = Option<Addresses>;
 
     fn poll(&mut self, cx: &mut Context<'_>) -> Poll<Option<Addresses>> {
-        match &mut self.server {
-            Server::At(server) => Poll::Ready(Addresses::one(self.alloc, *server).ok()),
-            Server::Sought(sought) => Poll::Ready(ready!(sought.poll(cx)).ok()),
-        }
+        Poll::Ready(ready!(poll_addresses(self.alloc, &mut self.server, cx)).ok())
     }
 }
 
@@ -273,16 +261,15 @@ impl Greeting {
         }
     }
 
-    // Waits for the whole head. Returns its length, or `None` if there is none.
+    // Waits for the whole head of a parent that agrees. Returns its length, or `None` if there is none.
     fn poll_head(&mut self, cx: &mut Context<'_>) -> Poll<Option<usize>>
         ensures registered { OnPending result (Covers cx.new (λ _. ⊥)) }
         ensures kept { Keeps cx.old cx.new }
     {
-        if let Some(length) = length_of_head(self.head.as_slice()) {
-            return Poll::Ready(Some(length));
-        }
-        if MOST_HEAD <= self.head.len() {
-            return Poll::Ready(None);
+        match answered(self.head.as_slice()) {
+            Answered::Yes(length) => return Poll::Ready(Some(length)),
+            Answered::No => return Poll::Ready(None),
+            Answered::NotYet => {}
         }
         let Some(socket) = &mut self.socket else {
             return Poll::Ready(None);
@@ -314,33 +301,33 @@ impl Future for Greeting {
         if !self.is_answered {
             return Poll::Ready(self.reached(0));
         }
-        let Some(length) = ready!(self.poll_head(cx)) else {
-            return Poll::Ready(None);
-        };
-        if length <= MOST_HEAD && agrees(self.head.as_slice()) {
-            Poll::Ready(self.reached(length))
-        } else {
-            Poll::Ready(None)
+        match ready!(self.poll_head(cx)) {
+            Some(length) => Poll::Ready(self.reached(length)),
+            None => Poll::Ready(None),
         }
     }
 }
 
-// The length of the head that these octets begin with, with its empty line. `None` if it is not complete.
-fn length_of_head(octets: &[u8]) -> Option<usize> {
-    let last = octets
-        .windows(4)
-        .position(|line| line == b"\r\n\r\n".as_slice())?;
-    last.checked_add(4)
+// What a parent answers to CONNECT by what has come of its head.
+enum Answered {
+    // The tunnel is opened: the status is one from 200 to 299. With the length of the head.
+    Yes(usize),
+    // It is not, or what comes is no head, or too long a one.
+    No,
+    // The head is not complete.
+    NotYet,
 }
 
-// Whether this is the head of a response with a status from 200 to 299.
-fn agrees(head: &[u8]) -> bool {
-    head.starts_with(b"HTTP/1.")
-        && matches!(head.get(8), Some(b' '))
-        && matches!(head.get(9), Some(b'2'))
-        && matches!(head.get(10), Some(digit) if digit.is_ascii_digit())
-        && matches!(head.get(11), Some(digit) if digit.is_ascii_digit())
-        && matches!(head.get(12), Some(b' ' | b'\r'))
+// What these octets, which a parent has sent, say.
+fn answered(octets: &[u8]) -> Answered {
+    let mut fields = [EMPTY_HEADER_SPAN; MOST_FIELDS];
+    match parse_response(octets, &mut fields) {
+        Ok(Status::Complete(head)) if head.code / 100 == 2 && head.len <= MOST_HEAD => {
+            Answered::Yes(head.len)
+        }
+        Ok(Status::Partial) if octets.len() < MOST_HEAD => Answered::NotYet,
+        _ => Answered::No,
+    }
 }
 
 /// The way to the server of a tunnel: its addresses are awaited, admitted if they have to be, and connected side by side; a parent is greeted.
@@ -389,6 +376,18 @@ impl<R: Drop, H: Drop> Drop for Opening<R, H> {
     }
 }
 
+impl<R, H: Answers> Judge for Opening<R, H> {
+    ghost judges = { λ opening. opening.is_origin };
+
+    fn admitted(&self, server: SocketAddr) -> Option<Admitted> {
+        if self.is_origin {
+            Some(Admitted::origin(self.answers.admitted(server)?))
+        } else {
+            Some(Admitted::neighbour(server))
+        }
+    }
+}
+
 impl<R: Clock + Copy, H: Answers> Opening<R, H> {
     /// The way to this end.
     pub(crate) fn new(dialer: Dialer<R>, answers: H, end: TunnelEnd) -> Opening<R, H> {
@@ -417,39 +416,11 @@ impl<R: Clock + Copy, H: Answers> Opening<R, H> {
         }
     }
 
-    // This address as one that a tunnel may lead to, if it may.
-    fn judged_one(&self, server: SocketAddr) -> Option<Admitted>
-        ensures judged { IsJudged self.now.is_origin server result }
-    {
-        if self.is_origin {
-            Some(Admitted::origin(self.answers.admitted(server)?))
-        } else {
-            Some(Admitted::neighbour(server))
-        }
-    }
-
-    // Each of these addresses, if a tunnel may lead to it. Errors: out of memory.
-    #[tactic(auto, using(crate::proofs::Judging::judged_at))]
-    fn judged(&self, servers: &[SocketAddr]) -> Result<Vec<Option<Admitted>>, AllocError>
-        ensures judged { IfOk result (λ list. AreJudged self.now.is_origin servers.now list.items) }
-    {
-        let mut judged = Vec::new(self.dialer.alloc);
-        for server in servers {
-            judged.push(self.judged_one(*server))?;
-        }
-        Ok(judged)
-    }
-
     // Those of these addresses that a tunnel may lead to. Errors: the status to answer.
-    #[tactic(auto, using(crate::proofs::Judging::chosen_judged))]
-    fn admitted(&self, servers: Addresses) -> Result<AdmittedAddresses, u16>
+    fn servers(&self, found: Addresses) -> Result<AdmittedAddresses, u16>
         ensures judged { IfOk result (λ those. AllJudged self.now.is_origin those.list.items) }
     {
-        let Ok(judged) = self.judged(servers.as_slice()) else {
-            drop(servers);
-            return Err(503);
-        };
-        match servers.admitted(self.dialer.alloc, judged) {
+        match admitted_by(self.dialer.alloc, self, found) {
             Ok(servers) => Ok(servers),
             Err(AdmitFault::Refused) => Err(403),
             Err(AdmitFault::NoMemory) => Err(503),
@@ -517,12 +488,14 @@ impl<R: Net + Wait + Clock + Copy, H: Answers> Opening<R, H> {
 
     // Begins to connect those of these addresses that are admitted. Errors: the status to answer.
     fn connect(&mut self, servers: Addresses) -> Result<(), u16> {
-        let servers = self.admitted(servers)?;
+        let servers = self.servers(servers)?;
         let Some(places) = self.places.take() else {
             drop(servers);
             return Err(503);
         };
-        let reaching = self.dialer.connect(servers, places, self.connecting);
+        let (rt, alloc) = (self.dialer.rt, self.dialer.alloc);
+        let handle = &self.dialer.handle;
+        let reaching = Dialing::new(rt, alloc, handle, servers, places, self.connecting);
         drop(mem::replace(&mut self.reaching, reaching));
         Ok(())
     }

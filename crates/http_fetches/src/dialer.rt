@@ -1,10 +1,9 @@
 //! Connections to servers, as they are made.
-ghost use Rattle.std.specs.Prelude.{◌≡◌, Bool, IfSome};
 ghost use Rattle.futures.specs.Poll.{OnPending};
 ghost use Rattle.futures.specs.Task.{Covers, Keeps};
 
 use crate::fetching::FetchRules;
-use dialing::{Connected, DialFault, Dialing};
+use dialing::{Connected, DialFault, Dialing, Judge};
 use futures::Future;
 use futures::task::{Context, Poll};
 use http_rules::Admitted;
@@ -18,17 +17,9 @@ use std::time::{Clock, Duration};
 use tokio::runtime::Handle;
 
 /// Connects to servers. What makes calls is generic over this, since the prover does not look behind a type parameter (docs/GATE.md).
-pub trait Dial: Drop {
+pub trait Dial: Judge + Drop {
     /// A connection that is being made.
     type Connecting: Connect;
-
-    // Whether the servers are origins, which are judged.
-    ghost judges: { Self → Bool };
-
-    /// This server as one that may be connected to, if it may be.
-    fn admitted(&self, server: SocketAddr) -> Option<Admitted>
-        ensures same { IfSome result (λ it. it.server ≡ server) }
-        ensures judged { IfSome result (λ it. it.is_judged ≡ Self.judges self.now) };
 
     /// Connects to one of these addresses, with a timeout. Returns `None` if out of memory.
     fn connect(&self, servers: &AdmittedAddresses) -> Option<Self::Connecting>;
@@ -98,9 +89,7 @@ impl<R: Drop, A: Drop> Drop for Dialer<R, A> {
     }
 }
 
-impl<R: Net + Wait + Clock + Copy, A: Admit> Dial for Dialer<R, A> {
-    type Connecting = Dialing<R>;
-
+impl<R, A: Admit> Judge for Dialer<R, A> {
     ghost judges = { λ dialer. dialer.is_origin };
 
     fn admitted(&self, server: SocketAddr) -> Option<Admitted> {
@@ -110,18 +99,15 @@ impl<R: Net + Wait + Clock + Copy, A: Admit> Dial for Dialer<R, A> {
             Some(Admitted::neighbour(server))
         }
     }
+}
+
+impl<R: Net + Wait + Clock + Copy, A: Admit> Dial for Dialer<R, A> {
+    type Connecting = Dialing<R>;
 
     fn connect(&self, servers: &AdmittedAddresses) -> Option<Dialing<R>> {
         let places = self.rules.kept.servers().ok()?;
         let servers = servers.share(self.alloc).ok()?;
-        let handle = self.handle.clone().ok()?;
-        Some(Dialing::new(
-            self.rt,
-            self.alloc,
-            handle,
-            servers,
-            places,
-            self.connecting,
-        ))
+        let handle = &self.handle;
+        Dialing::new(self.rt, self.alloc, handle, servers, places, self.connecting)
     }
 }

@@ -2,17 +2,16 @@
 ghost use Rattle.std.specs.Prelude.{◌≡◌, IfOk, IfSome, true};
 ghost use Rattle.futures.specs.Poll.{OnPending};
 ghost use Rattle.futures.specs.Task.{Covers, Keeps};
-ghost use Rattle.http_fetches.specs.Judged.{AllJudged, AreJudged};
+ghost use Rattle.dialing.specs.Judged.{AllJudged};
 
 use crate::dialer::Dial;
 use crate::exchange::{Call, Talk};
 use crate::fetching::put;
+use dialing::{admitted_by, poll_addresses};
 use futures::task::{Context, Poll};
 use futures::{Future, ready};
-use http_rules::Admitted;
 use http_traffic::{Addresses, AdmitFault, AdmittedAddresses, FetchFault, Server};
-use std::alloc::{AllocError, Global};
-use std::net::SocketAddr;
+use std::alloc::Global;
 
 /// How a visit ended.
 #[derive(Drop)]
@@ -57,39 +56,6 @@ impl<D: Dial, T: Talk> Drop for Visit<D, T> {
     }
 }
 
-// Each of these servers, if it is admitted. Errors: out of memory.
-fn judged<D: Dial>(
-    alloc: Global,
-    dialer: &D,
-    servers: &[SocketAddr],
-) -> Result<Vec<Option<Admitted>>, AllocError>
-    ensures judged { IfOk result (λ list. AreJudged (D.judges dialer.now) servers.now list.items) }
-{
-    let mut judged = Vec::new(alloc);
-    for server in servers {
-        judged.push(dialer.admitted(*server))?;
-    }
-    Ok(judged)
-}
-
-// Those of these addresses that are admitted. Errors: there is none, or out of memory.
-#[tactic(auto, using(crate::proofs::Judging::chosen_judged))]
-fn admitted_by<D: Dial>(
-    alloc: Global,
-    dialer: &D,
-    servers: Addresses,
-) -> Result<AdmittedAddresses, AdmitFault>
-    ensures judged { IfOk result (λ those. AllJudged (D.judges dialer.now) those.list.items) }
-{
-    match judged(alloc, dialer, servers.as_slice()) {
-        Ok(judged) => servers.admitted(alloc, judged),
-        Err(_) => {
-            drop(servers);
-            Err(AdmitFault::NoMemory)
-        }
-    }
-}
-
 impl<D: Dial, T: Talk> Visit<D, T> {
     /// A visit that has not begun; without a dialer it fails, as out of memory.
     pub fn new(alloc: Global, server: Server, dialer: Option<D>, talk: T) -> Visit<D, T>
@@ -102,24 +68,6 @@ impl<D: Dial, T: Talk> Visit<D, T> {
             talk: Some(talk),
             servers: None,
             call: None,
-        }
-    }
-
-    // Waits for the addresses of the server. Errors: its name has none, or out of memory.
-    fn poll_server(&mut self, cx: &mut Context<'_>) -> Poll<Result<Addresses, FetchFault>>
-        ensures same { self.new.call ≡ self.old.call }
-        ensures registered { OnPending result (Covers cx.new (λ _. ⊥)) }
-        ensures kept { Keeps cx.old cx.new }
-    {
-        match &mut self.server {
-            Server::At(server) => {
-                let one = Addresses::one(self.alloc, *server);
-                Poll::Ready(one.map_err(|_| FetchFault::NoMemory))
-            }
-            Server::Sought(sought) => {
-                let found = ready!(sought.poll(cx));
-                Poll::Ready(found.map_err(|_| FetchFault::Lookup))
-            }
         }
     }
 
@@ -264,7 +212,7 @@ impl<D: Dial, T: Talk> Future for Visit<D, T> {
 
     fn poll(&mut self, cx: &mut Context<'_>) -> Poll<Visited<T::Page>> {
         if self.call.is_none() {
-            let servers = match ready!(self.poll_server(cx)) {
+            let servers = match ready!(poll_addresses(self.alloc, &mut self.server, cx)) {
                 Ok(servers) => servers,
                 Err(fault) => return Poll::Ready(Visited::Failed(fault)),
             };

@@ -5,7 +5,6 @@ use crate::passing::allows_own;
 use crate::state::{Given, Logs, six_networks};
 use access_log::writer::LogTask;
 use filter_text::{Filter, FilterFile};
-use futures::channel::oneshot;
 use http_rules::{Mirror, SixNetwork, written_name};
 use node_words::{Config, Network};
 use proxy_state::{FrontRules, Purger};
@@ -14,6 +13,7 @@ use std::alloc::{AllocError, Global};
 use std::mem;
 use std::random::RandomSource;
 use std::time::Duration;
+use tokio_util::sync::CancellationToken;
 
 /// What the threads are started with, beside the shared state. `F` is a file.
 #[derive(Drop)]
@@ -42,8 +42,8 @@ pub struct ServerOrders {
     pub rules: FrontRules,
     /// What the administration keeps.
     pub keeping: Keeping,
-    /// Receives a message when the grace of clients is to end early; one for each thread that serves them.
-    pub hurried: Vec<oneshot::Receiver<()>>,
+    /// Ends the grace of clients early.
+    pub hurry: CancellationToken,
 }
 
 /// What the administration keeps of the settings.
@@ -91,38 +91,21 @@ fn settle<R: RandomSource>(
     settle_keys(rt, alloc, &mut settings.node)
 }
 
-/// What ends the grace of clients early at each of so many threads, and what these hear it from.
-fn hurries(
-    alloc: Global,
-    threads: usize,
-) -> Result<(Vec<oneshot::Sender<()>>, Vec<oneshot::Receiver<()>>), AllocError> {
-    let mut senders = Vec::with_capacity(alloc, threads)?;
-    let mut receivers = Vec::with_capacity(alloc, threads)?;
-    for _ in 0..threads {
-        let (hurry, hurried) = oneshot::channel(alloc)?;
-        senders.push(hurry)?;
-        receivers.push(hurried)?;
-    }
-    Ok((senders, receivers))
-}
-
-/// What the servers are started with, which is taken out of the settings, and what ends the grace of clients early at each of so many
-/// threads. The settings are settled by this, so it comes before anything else is made of them. Errors: the system has no random numbers,
-/// or out of memory.
+/// What the servers are started with, which is taken out of the settings, and what ends the grace of clients early. The settings are settled
+/// by this, so it comes before anything else is made of them. Errors: the system has no random numbers, or out of memory.
 pub fn server_orders<R: RandomSource>(
     rt: &R,
     alloc: Global,
     settings: &mut Settings,
-    threads: usize,
-) -> Result<(ServerOrders, Vec<oneshot::Sender<()>>), AllocError> {
+) -> Result<(ServerOrders, CancellationToken), AllocError> {
     settle(rt, alloc, settings)?;
-    let (hurries, hurried) = hurries(alloc, threads)?;
+    let hurry = CancellationToken::new(alloc)?;
     let orders = ServerOrders {
         rules: front_rules(alloc, settings)?,
         keeping: keeping_of(alloc, settings)?,
-        hurried,
+        hurry: hurry.clone()?,
     };
-    Ok((orders, hurries))
+    Ok((orders, hurry))
 }
 
 /// Takes the equipment apart: where logs go belongs to the shared state, with the times to connect to a server and for a whole fetch, and
@@ -131,7 +114,7 @@ pub fn equipped<F: Drop>(
     equipment: Equipment<F>,
     connecting: Duration,
     fetching: Duration,
-    hurries: Vec<oneshot::Sender<()>>,
+    hurry: CancellationToken,
 ) -> (Given, LogTasks<F>, Vec<Filter>) {
     let (log, log_task) = split(equipment.log);
     let (notices, notices_task) = split(equipment.notices);
@@ -143,7 +126,7 @@ pub fn equipped<F: Drop>(
             notices,
             version: equipment.version,
         },
-        hurries,
+        hurry,
     };
     let logs = LogTasks {
         log: log_task,

@@ -7,7 +7,6 @@ use crate::limits::SEATS;
 use crate::passing::passes_of;
 use crate::site::{Site, SiteOf, ends_of};
 use crossbeam_channel::Sender;
-use futures::channel::oneshot;
 use http_rules::{
     OriginRules, RefreshRule, SixNetwork, UrlPlace, loop_mark, usual_denials, usual_six_denials,
 };
@@ -30,6 +29,7 @@ use std::sync::atomic::{AtomicBool, AtomicU16, AtomicU64, AtomicUsize};
 use std::sync::ledger::{Blank, Ledger};
 use std::sync::{Arc, Mutex};
 use std::time::{Clock, Duration, Instant};
+use tokio_util::sync::CancellationToken;
 use traffic_figures::Figures;
 
 /// The shared state of a proxy.
@@ -55,7 +55,7 @@ pub struct Given {
     /// Where logs go.
     pub(crate) told: Logs,
     /// Ends the grace of clients early, at each thread that serves them.
-    pub(crate) hurries: Vec<oneshot::Sender<()>>,
+    pub(crate) hurry: CancellationToken,
 }
 
 /// Where logs go, and the version of the program.
@@ -119,9 +119,9 @@ pub fn site_of<R: RandomSource + Clock, L: Ledger>(
     };
     let sizes = sizes_of(&settings);
     match parts_in(rt, alloc, &mut settings, given) {
-        Ok((hashes, around, hurries)) => {
+        Ok((hashes, around, hurry)) => {
             let opened = open_desk(alloc, blank, config_in(settings), hashes, sizes);
-            let stopping = Stopping::new(hurries, sender);
+            let stopping = Stopping::new(hurry, sender);
             let made = state_around(opened, around, Fetchers::none(), Tap::new(), stopping);
             SiteOf::around(alloc, made, ends)
         }
@@ -138,7 +138,7 @@ pub fn site_of<R: RandomSource + Clock, L: Ledger>(
 type Parts = (
     KeyHashes,
     Around<Mail, Outward, Kept, Passes, Telling>,
-    Vec<oneshot::Sender<()>>,
+    CancellationToken,
 );
 
 /// The parts of the shared state around its node, which are taken out of the settings. Errors: the system has no random numbers, or out
@@ -155,13 +155,13 @@ fn parts_in<R: RandomSource + Clock>(
                 connecting,
                 fetching,
                 told,
-                hurries,
+                hurry,
             } = given;
             let started = Instant::now(rt).ok();
             let ways = ways_in(alloc, settings, hashes, connecting);
             let outward = outward_in(alloc, settings, ways, loop_mark, fetching);
             let around = around_in(alloc, settings, hashes, outward, told, started);
-            parts_with(hashes, around, hurries)
+            parts_with(hashes, around, hurry)
         }
         Err(fault) => {
             drop(given);
@@ -174,12 +174,12 @@ fn parts_in<R: RandomSource + Clock>(
 fn parts_with<X, H: Drop>(
     hashes: KeyHashes,
     around: Result<X, AllocError>,
-    hurries: H,
+    hurry: H,
 ) -> Result<(KeyHashes, X, H), ServeFault> {
     match around {
-        Ok(around) => Ok((hashes, around, hurries)),
+        Ok(around) => Ok((hashes, around, hurry)),
         Err(_) => {
-            drop(hurries);
+            drop(hurry);
             Err(ServeFault::NoMemory)
         }
     }

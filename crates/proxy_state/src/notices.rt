@@ -42,17 +42,11 @@ impl Notices {
     }
 
     // Hands over a line, which says how many were left out before it. Where there is no memory for it, it is not written.
-    fn offer<R: Wait>(
-        &self,
-        rt: &R,
-        alloc: Global,
-        line: Result<String, AllocError>,
-        left_out: u64,
-    ) {
+    fn offer<R: Wait>(&self, rt: &R, line: Result<String, AllocError>, left_out: u64) {
         let Ok(mut line) = line else {
             return;
         };
-        if push_end(alloc, &mut line, left_out).is_ok() {
+        if push_end(&mut line, left_out).is_ok() {
             self.desk.offer(rt, line.into_bytes());
         }
     }
@@ -72,7 +66,7 @@ impl Notices {
         };
         if let Some(left_out) = self.admit(rt) {
             let line = fetch_line(alloc, fetch, url, supplier, reason);
-            self.offer(rt, alloc, line, left_out);
+            self.offer(rt, line, left_out);
         }
     }
 
@@ -80,7 +74,7 @@ impl Notices {
     pub fn tell_no_look_up<R: Wait + Clock>(&self, rt: &R, alloc: Global, asker: Option<IpAddr>) {
         if let Some(left_out) = self.admit(rt) {
             let line = look_up_line(alloc, asker);
-            self.offer(rt, alloc, line, left_out);
+            self.offer(rt, line, left_out);
         }
     }
 
@@ -89,7 +83,7 @@ impl Notices {
         if let Some(left_out) = self.admit(rt) {
             let text =
                 "a request was refused (503): no open file is left for its connection to a server";
-            self.offer(rt, alloc, String::from_str(alloc, text), left_out);
+            self.offer(rt, String::from_str(alloc, text), left_out);
         }
     }
 
@@ -100,7 +94,7 @@ impl Notices {
         }
         if let Some(left_out) = self.admit(rt) {
             let line = malformed_line(alloc, socket, count);
-            self.offer(rt, alloc, line, left_out);
+            self.offer(rt, line, left_out);
         }
     }
 }
@@ -166,12 +160,12 @@ fn malformed_line(alloc: Global, socket: &str, count: u64) -> Result<String, All
 }
 
 // Appends the end of a line: how many notices were left out before it, if any.
-fn push_end(alloc: Global, line: &mut String, left_out: u64) -> Result<(), AllocError> {
+fn push_end(line: &mut String, left_out: u64) -> Result<(), AllocError> {
     if left_out == 0 {
         return line.push_str("\n");
     }
-    match format!(in alloc; " ({left_out} notices before this one were left out)\n") {
-        Ok(end) => line.push_str(end.as_str()),
-        Err(_) => Err(AllocError),
-    }
+    write!(
+        line,
+        " ({left_out} notices before this one were left out)\n"
+    )
 }

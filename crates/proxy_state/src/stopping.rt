@@ -1,17 +1,16 @@
 //! The end of a proxy, as its threads ask for it.
 use crossbeam_channel::Sender;
-use futures::channel::oneshot;
 use std::alloc::Global;
+use std::sync::Wait;
 use std::sync::atomic::{AtomicBool, Ordering};
-use std::sync::{Mutex, Wait};
+use tokio_util::sync::CancellationToken;
 
 /// The end of the proxy.
 pub struct Stopping {
     /// Whether an administrator has asked the proxy to end.
     pub is_stopping: AtomicBool,
-    /// Ends the time that open connections have to end, once the proxy is ending, at each thread that serves clients. `None` once it
-    /// was used.
-    pub hurries: Mutex<Option<Vec<oneshot::Sender<()>>>>,
+    /// Ends the time that open connections have to end, once the proxy is ending, at each thread that serves clients.
+    pub hurry: CancellationToken,
     /// Whether an audit found a receipt that does not agree with the event log.
     pub is_astray: AtomicBool,
     /// Receives a message when that happens, or when an administrator asks for it, so that the proxy ends.
@@ -23,7 +22,7 @@ impl Drop for Stopping {
     fn drop(self) {
         let Self {
             is_stopping: _,
-            hurries: _,
+            hurry: _,
             is_astray: _,
             end: _,
         } = self;
@@ -31,11 +30,11 @@ impl Drop for Stopping {
 }
 
 impl Stopping {
-    /// The end of a proxy that has not been asked to: `hurries` end the grace of clients early, `end` has the proxy end.
-    pub fn new(hurries: Vec<oneshot::Sender<()>>, end: Sender<(), Global>) -> Stopping {
+    /// The end of a proxy that has not been asked to: `hurry` ends the grace of clients early, `end` has the proxy end.
+    pub fn new(hurry: CancellationToken, end: Sender<(), Global>) -> Stopping {
         Stopping {
             is_stopping: AtomicBool::new(false),
-            hurries: Mutex::new(Some(hurries)),
+            hurry,
             is_astray: AtomicBool::new(false),
             end,
         }
@@ -43,15 +42,10 @@ impl Stopping {
 
     /// Asks the proxy to end; the second time, ends the time that open connections have for that.
     pub fn stop<R: Wait>(&self, rt: &R) {
-        if !self.is_stopping.swap(true, Ordering::SeqCst) {
+        if self.is_stopping.swap(true, Ordering::SeqCst) {
+            self.hurry.cancel();
+        } else {
             let _ = self.end.send(rt, ());
-            return;
-        }
-        let hurries = self.hurries.lock(rt).take();
-        if let Some(hurries) = hurries {
-            for hurry in hurries {
-                drop(hurry.send(()));
-            }
         }
     }
 

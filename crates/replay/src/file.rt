@@ -11,12 +11,12 @@ use crate::aim::{Aim, is_complete};
 use crate::details::{Details, Share};
 use crate::fault::ReplayFault;
 use crate::finding::{Finding, judge_datagram};
-use crate::network::Network;
 use crate::samples::Samples;
 use crate::tally::Tally;
 use bpf_check::Checked;
 use bpf_run::Socket;
 use capture::{Capture, Link, PacketHead, UdpView, take_start, udp_at};
+use node_terms::Network;
 use std::alloc::{AllocError, Global};
 use std::io::Read;
 

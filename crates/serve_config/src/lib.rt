@@ -42,3 +42,4 @@ pub use passing::Large;
 pub use settings::{LogFormat, LogLevel, Settings};
 pub use shared_fields::SharedField;
 pub use six_clients::SixClients;
+pub use value::network_of;

@@ -264,8 +264,8 @@ pub(crate) fn networks(alloc: Global, value: &Value, key: &str) -> Result<Vec<Ne
     Ok(networks)
 }
 
-// Parses the text of a network; `None` if it is malformed.
-fn network_of(text: &str) -> Option<Network>
+/// Parses the text of a network, such as `10.0.0.0/8`; `None` if it is malformed.
+pub fn network_of(text: &str) -> Option<Network>
     ensures said { IfSome result (IsNetworkText text.now) }
 {
     let (address, bits) = text.split_once('/')?;

@@ -42,16 +42,7 @@ impl ReplyKind {
     pub(crate) fn place(self) -> usize
         ensures { result ≡ reply_place self }
     {
-        match self {
-            ReplyKind::Hit => 0,
-            ReplyKind::Miss => 1,
-            ReplyKind::Denied => 2,
-            ReplyKind::MissNoFetch => 3,
-            ReplyKind::Error => 4,
-            ReplyKind::Found => 5,
-            ReplyKind::NotFound => 6,
-            ReplyKind::Other => 7,
-        }
+        self as usize
     }
 
     /// Its name in all texts.

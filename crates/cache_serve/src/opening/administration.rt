@@ -20,14 +20,6 @@ use std::sync::{Arc, Wait};
 use std::thread::Threads;
 use std::time::Clock;
 
-/// What the thread that serves administration has of the shared state, and what it would hear the end of its grace from.
-#[derive(Drop)]
-struct AdminShare<S, L: Ledger> {
-    proxy: Arc<S>,
-    seat: ThreadSeat<S, L>,
-    hurried: oneshot::Receiver<()>,
-}
-
 impl<R: Wait, S: Shared, H> OpeningOf<R, SiteOf<S, H>> {
     /// Notes where all sockets are bound.
     fn note_ends(&mut self, ends: FrontEnds, administration: SocketAddr) -> Result<(), ServeFault> {
@@ -80,9 +72,9 @@ impl<R, S: Shared, L: Ledger> OpeningOf<R, Site<S, L>> {
     /// What the thread that serves administration has of the shared state, and how it and this one hear of each other.
     fn administration_parts(
         &mut self,
-    ) -> Result<(AdminShare<S, L>, ServerEnd, ServerLine), ServeFault> {
+    ) -> Result<((Arc<S>, ThreadSeat<S, L>), ServerEnd, ServerLine), ServeFault> {
         let (there, here) = self.server_line()?;
-        match self.admin_share() {
+        match self.share_and_seat() {
             Ok(share) => Ok((share, there, here)),
             Err(fault) => {
                 drop(there);
@@ -92,38 +84,14 @@ impl<R, S: Shared, L: Ledger> OpeningOf<R, Site<S, L>> {
         }
     }
 
-    /// What the thread that serves administration has of the shared state. Nothing ends the grace of administrators early, so the sender
-    /// for that is dropped here.
-    fn admin_share(&mut self) -> Result<AdminShare<S, L>, ServeFault> {
-        let Ok((hurry, hurried)) = oneshot::channel(self.alloc) else {
-            return Err(ServeFault::NoMemory);
-        };
-        drop(hurry);
-        match self.share_and_seat() {
-            Ok((proxy, seat)) => Ok(AdminShare {
-                proxy,
-                seat,
-                hurried,
-            }),
-            Err(fault) => {
-                drop(hurried);
-                Err(fault)
-            }
-        }
-    }
-
-    /// The task of the thread that serves administration with these parts.
+    /// The task of the thread that serves administration with these parts. Nothing ends the grace of administrators early.
     fn task_of(
         &self,
         keeping: Keeping,
-        share: AdminShare<S, L>,
+        share: (Arc<S>, ThreadSeat<S, L>),
         there: ServerEnd,
     ) -> AdministrationTask<S, L> {
-        let AdminShare {
-            proxy,
-            seat,
-            hurried,
-        } = share;
+        let (proxy, seat) = share;
         let ServerEnd {
             bound,
             stopped,
@@ -138,7 +106,7 @@ impl<R, S: Shared, L: Ledger> OpeningOf<R, Site<S, L>> {
                 bound,
                 stops: Stops {
                     stop: stopped,
-                    hurry: hurried,
+                    hurry: None,
                 },
             },
             end,

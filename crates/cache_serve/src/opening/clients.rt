@@ -6,7 +6,6 @@ use crate::starting::begin;
 use crate::tasks::fault_at;
 use client_streams::Stops;
 use crossbeam_channel::{Receiver, Sender};
-use futures::channel::oneshot;
 use http_clients::{ClientSocket, client_sockets, listen_at_six};
 use proxy_node::{AtDesk, Outbox, ThreadSeat};
 use proxy_setup::{Port, ServeFault, Site, SiteOf};
@@ -20,6 +19,7 @@ use std::sync::{Arc, Wait};
 use std::thread::Threads;
 use std::time::Clock;
 use std::vec::IntoIter;
+use tokio_util::sync::CancellationToken;
 
 /// What a thread that serves clients has of the shared state.
 #[derive(Drop)]
@@ -35,15 +35,26 @@ struct ClientShare<S, L: Ledger> {
 struct ClientKit {
     rules: Arc<FrontRules>,
     outbox: Outbox,
+    hurry: CancellationToken,
 }
 
 impl ClientKit {
-    /// Rules and a way for datagrams for several threads. Errors: out of memory.
-    fn new(alloc: Global, rules: FrontRules, outbox: Outbox) -> Result<ClientKit, AllocError> {
+    /// Rules, a way for datagrams and an early end of the grace for several threads. Errors: out of memory.
+    fn new(
+        alloc: Global,
+        rules: FrontRules,
+        outbox: Outbox,
+        hurry: CancellationToken,
+    ) -> Result<ClientKit, AllocError> {
         match shared_rules(alloc, rules) {
-            Ok(rules) => Ok(ClientKit { rules, outbox }),
+            Ok(rules) => Ok(ClientKit {
+                rules,
+                outbox,
+                hurry,
+            }),
             Err(fault) => {
                 drop(outbox);
+                drop(hurry);
                 Err(fault)
             }
         }
@@ -52,10 +63,16 @@ impl ClientKit {
     /// The same for one more thread. Errors: out of memory.
     fn share(&self) -> Result<ClientKit, AllocError> {
         let rules = Arc::try_clone(&self.rules)?;
+        let hurry = self.hurry.clone()?;
         match share_of(&self.outbox) {
-            Ok(outbox) => Ok(ClientKit { rules, outbox }),
+            Ok(outbox) => Ok(ClientKit {
+                rules,
+                outbox,
+                hurry,
+            }),
             Err(fault) => {
                 drop(rules);
+                drop(hurry);
                 Err(fault)
             }
         }
@@ -67,7 +84,6 @@ impl ClientKit {
 struct ClientPlace {
     number: u64,
     socket: ClientSocket,
-    hurried: oneshot::Receiver<()>,
 }
 
 /// What the threads that serve clients are started with.
@@ -76,7 +92,6 @@ struct ClientStart {
     /// The number of the next thread.
     number: u64,
     sockets: IntoIter<ClientSocket>,
-    hurried: IntoIter<oneshot::Receiver<()>>,
     /// What hears from each that was started where it serves clients.
     heard: Vec<Receiver<SocketAddr, Global>>,
 }
@@ -88,7 +103,6 @@ impl Drop for ClientStart {
             kit: _,
             number: _,
             sockets: _,
-            hurried: _,
             heard: _,
         } = self;
     }
@@ -100,20 +114,17 @@ impl ClientStart {
         alloc: Global,
         kit: ClientKit,
         sockets: Vec<ClientSocket>,
-        hurried: Vec<oneshot::Receiver<()>>,
     ) -> Result<ClientStart, AllocError> {
         match Vec::with_capacity(alloc, sockets.len()) {
             Ok(heard) => Ok(ClientStart {
                 kit,
                 number: 0,
                 sockets: sockets.into_iter(),
-                hurried: hurried.into_iter(),
                 heard,
             }),
             Err(fault) => {
                 drop(kit);
                 drop(sockets);
-                drop(hurried);
                 Err(fault)
             }
         }
@@ -123,20 +134,8 @@ impl ClientStart {
     fn next_place(&mut self) -> Option<ClientPlace> {
         let number = self.number;
         let socket = self.sockets.next()?;
-        match self.hurried.next() {
-            Some(hurried) => {
-                self.number = number.saturating_add(1);
-                Some(ClientPlace {
-                    number,
-                    socket,
-                    hurried,
-                })
-            }
-            None => {
-                drop(socket);
-                None
-            }
-        }
+        self.number = number.saturating_add(1);
+        Some(ClientPlace { number, socket })
     }
 }
 
@@ -239,34 +238,24 @@ impl<R: Net + AllocGlobal, I> OpeningOf<R, I> {
         &self,
         queries: Result<(Outbox, QueryEnds), ServeFault>,
         rules: FrontRules,
-        hurried: Vec<oneshot::Receiver<()>>,
+        hurry: CancellationToken,
     ) -> Result<(ClientStart, QueryEnds), ServeFault> {
-        match kit_of(self.alloc, queries, rules) {
-            Ok((kit, ends)) => match self.start_with(kit, hurried) {
-                Ok(start) => Ok((start, ends)),
-                Err(fault) => Err(fault),
-            },
-            Err(fault) => {
-                drop(hurried);
-                Err(fault)
-            }
+        let (kit, ends) = kit_of(self.alloc, queries, rules, hurry)?;
+        match self.start_with(kit) {
+            Ok(start) => Ok((start, ends)),
+            Err(fault) => Err(fault),
         }
     }
 
     /// What the threads that serve clients are started with.
-    fn start_with(
-        &self,
-        kit: ClientKit,
-        hurried: Vec<oneshot::Receiver<()>>,
-    ) -> Result<ClientStart, ServeFault> {
+    fn start_with(&self, kit: ClientKit) -> Result<ClientStart, ServeFault> {
         match self.bound_sockets() {
-            Ok(sockets) => match ClientStart::new(self.alloc, kit, sockets, hurried) {
+            Ok(sockets) => match ClientStart::new(self.alloc, kit, sockets) {
                 Ok(start) => Ok(start),
                 Err(_) => Err(ServeFault::NoMemory),
             },
             Err(fault) => {
                 drop(kit);
-                drop(hurried);
                 Err(fault)
             }
         }
@@ -360,9 +349,9 @@ where
         &mut self,
         queries: Result<(Outbox, QueryEnds), ServeFault>,
         rules: FrontRules,
-        hurried: Vec<oneshot::Receiver<()>>,
+        hurry: CancellationToken,
     ) -> Result<FrontEnds, ServeFault> {
-        let (mut start, ends) = self.client_start(queries, rules, hurried)?;
+        let (mut start, ends) = self.client_start(queries, rules, hurry)?;
         let begun = self.begin_clients(&mut start);
         self.opened_clients(start, begun, ends)
     }
@@ -395,14 +384,16 @@ fn kit_of(
     alloc: Global,
     queries: Result<(Outbox, QueryEnds), ServeFault>,
     rules: FrontRules,
+    hurry: CancellationToken,
 ) -> Result<(ClientKit, QueryEnds), ServeFault> {
     match queries {
-        Ok((outbox, ends)) => match ClientKit::new(alloc, rules, outbox) {
+        Ok((outbox, ends)) => match ClientKit::new(alloc, rules, outbox, hurry) {
             Ok(kit) => Ok((kit, ends)),
             Err(_) => Err(ServeFault::NoMemory),
         },
         Err(fault) => {
             drop(rules);
+            drop(hurry);
             Err(fault)
         }
     }
@@ -438,8 +429,12 @@ fn task_of<S: Drop, L: Ledger>(
         proxy,
         seat,
     } = share;
-    let ClientKit { rules, outbox } = kit;
-    let (serving, number, end) = serving_of(name, place, there);
+    let ClientKit {
+        rules,
+        outbox,
+        hurry,
+    } = kit;
+    let (serving, number, end) = serving_of(name, place, there, hurry);
     ClientTask {
         seat,
         outbox,
@@ -459,12 +454,9 @@ fn serving_of(
     name: String,
     place: ClientPlace,
     there: ServerEnd,
+    hurry: CancellationToken,
 ) -> (ServingTask, u64, Sender<(), Global>) {
-    let ClientPlace {
-        number,
-        socket,
-        hurried,
-    } = place;
+    let ClientPlace { number, socket } = place;
     let ServerEnd {
         bound,
         stopped,
@@ -476,7 +468,7 @@ fn serving_of(
         bound,
         stops: Stops {
             stop: stopped,
-            hurry: hurried,
+            hurry: Some(hurry),
         },
     };
     (serving, number, end)
