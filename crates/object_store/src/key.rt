@@ -28,9 +28,15 @@ pub enum KeyFault {
 
 /// A URL as received: it starts with `http://` and has at most 8,192 octets, each from 0x21 to 0x7e. Its octets are
 /// reference-counted. Contracts see the list of octets.
-#[derive(Drop)]
 pub struct CacheKey {
     octets: Arc<Vec<u8>>,
+}
+
+// Written by hand, so that what lets it go is one call for the prover (docs/GATE.md).
+impl Drop for CacheKey {
+    fn drop(self) {
+        let Self { octets: _ } = self;
+    }
 }
 
 impl Model for CacheKey {

@@ -77,7 +77,6 @@ fn part_of(octets: &Bytes, first: usize, end: usize) -> Option<Bytes>
 
 /// A fetched object: status code, head, body, the received Age in seconds, and the time to live in seconds (`life`; 0 means
 /// not to be stored), with a digest of all these.
-#[derive(Drop)]
 pub struct Object {
     status: u16,
     head: Vec<(Vec<u8>, Vec<u8>)>,
@@ -85,6 +84,20 @@ pub struct Object {
     age: u32,
     life: u32,
     digest: [u8; 16],
+}
+
+// Written by hand, so that what lets it go is one call for the prover (docs/GATE.md).
+impl Drop for Object {
+    fn drop(self) {
+        let Self {
+            status: _,
+            head: _,
+            body: _,
+            age: _,
+            life: _,
+            digest: _,
+        } = self;
+    }
 }
 
 impl Model for Object {
@@ -203,9 +216,15 @@ impl Object {
 }
 
 /// A reference-counted object. Contracts see the object.
-#[derive(Drop)]
 pub struct SharedObject {
     object: Arc<Object>,
+}
+
+// Written by hand, so that what lets it go is one call for the prover (docs/GATE.md).
+impl Drop for SharedObject {
+    fn drop(self) {
+        let Self { object: _ } = self;
+    }
 }
 
 impl Model for SharedObject {

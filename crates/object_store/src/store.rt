@@ -24,7 +24,6 @@ pub const MOST_OCTETS: u32 = 1_073_741_824;
 
 /// An LRU store of entries by key, limited in entries and in octets. Contracts see the limits and the list of pairs, the
 /// most recently used first.
-#[derive(Drop)]
 pub struct Store {
     most_entries: u32,
     most_octets: u32,
@@ -34,6 +33,20 @@ pub struct Store {
     hashes: KeyHashes,
     // Number of pairs evicted since the store was made, modulo 2^64. No contract mentions it.
     evicted: u64,
+}
+
+// Written by hand, so that what lets it go is one call for the prover (docs/GATE.md).
+impl Drop for Store {
+    fn drop(self) {
+        let Self {
+            most_entries: _,
+            most_octets: _,
+            sum: _,
+            pairs: _,
+            hashes: _,
+            evicted: _,
+        } = self;
+    }
 }
 
 impl Model for Store {
