@@ -2,7 +2,7 @@
 ghost use Rattle.std.specs.Prelude.{IfOk};
 ghost use Rattle.futures.specs.Poll.{OnPending};
 ghost use Rattle.futures.specs.Task.{Covers, Keeps};
-ghost use Rattle.dialing.specs.Judged.{AllJudged};
+ghost use Rattle.http_traffic.specs.Judged.{AllJudged};
 
 use crate::requests::Answers;
 use bytes::BytesMut;

@@ -2,7 +2,7 @@
 ghost use Rattle.std.specs.Prelude.{◌≡◌, IfOk, IfSome, true};
 ghost use Rattle.futures.specs.Poll.{OnPending};
 ghost use Rattle.futures.specs.Task.{Covers, Keeps};
-ghost use Rattle.dialing.specs.Judged.{AllJudged};
+ghost use Rattle.http_traffic.specs.Judged.{AllJudged};
 
 use crate::dialer::Dial;
 use crate::exchange::{Call, Talk};
