@@ -1,12 +1,11 @@
 -- Servers that are judged one by one, and those that are chosen of them.
 use Rattle.std.proofs.Common.{◌≡◌, ◌<◌, ◌+◌, ℕ, Bool, List, [], ◌∷◌, ◌++◌, Option, Some, None, get_or, length, subst, sym, take}
-use Rattle.std.specs.List.{AllZip}
 use Rattle.std.proofs.lemmas.Slice.Zip.{all_zipped_more}
 use Rattle.std.proofs.lemmas.List.{take_more}
 use Rattle.std.specs.declared.net.socket_addr.SocketAddr.{SocketAddr}
 use Rattle.origin_rules.specs.declared.admitted.Admitted.{Admitted}
 use Rattle.origin_rules.specs.Chosen.{chosen}
-use Rattle.dialing.specs.Judged.{IsJudged, AreJudged, AllJudged}
+use Rattle.http_traffic.specs.Judged.{IsJudged, AreJudged, AllJudged}
 
 -- one more is judged, the one at this place
 pub judged_at : (by_rules : Bool) (servers : List SocketAddr) (judged after : List (Option Admitted)) (i : ℕ) (one : Option Admitted) (other : SocketAddr) → i < length servers → after ≡ judged ++ one ∷ [] → AreJudged by_rules (take i servers) judged

@@ -1,8 +1,8 @@
 //! Servers that may be connected to.
-ghost use Rattle.std.specs.Prelude.{◌≡◌, Bool, IfOk, IfSome};
+ghost use Rattle.std.specs.Prelude.{Bool, IfOk};
 ghost use Rattle.futures.specs.Poll.{OnPending};
 ghost use Rattle.futures.specs.Task.{Covers, Keeps};
-ghost use Rattle.dialing.specs.Judged.{AllJudged, AreJudged};
+ghost use Rattle.http_traffic.specs.Judged.{AllJudged, AreJudged, IsJudged};
 
 use futures::task::{Context, Poll};
 use futures::{Future, ready};
@@ -18,8 +18,7 @@ pub trait Judge {
 
     /// This server as one that may be connected to, if it may be.
     fn admitted(&self, server: SocketAddr) -> Option<Admitted>
-        ensures same { IfSome result (λ it. it.server ≡ server) }
-        ensures judged { IfSome result (λ it. it.is_judged ≡ Self.judges self.now) };
+        ensures judged { IsJudged (Self.judges self.now) server result };
 }
 
 // Each of these servers, if it is admitted. Errors: out of memory.

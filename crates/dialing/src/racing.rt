@@ -1,4 +1,5 @@
 //! The race of the attempts to connect to a server.
+ghost use Rattle.std.specs.Prelude.{◌≡◌, IfSome};
 ghost use Rattle.futures.specs.Poll.{OnPending};
 ghost use Rattle.futures.specs.Task.{Covers, Keeps};
 
@@ -120,7 +121,9 @@ impl<R: Net + Wait + Clock + Copy> Dialing<R> {
         servers: AdmittedAddresses,
         places: Arc<ServerConnections>,
         limit: Duration,
-    ) -> Option<Dialing<R>> {
+    ) -> Option<Dialing<R>>
+        ensures servers { IfSome result (λ dialing. dialing.servers ≡ servers) }
+    {
         let Ok(handle) = handle.clone() else {
             drop(servers);
             return None;
@@ -143,7 +146,9 @@ impl<R: Net + Wait + Clock + Copy> Dialing<R> {
     }
 
     // Begins the next attempt. Errors: there is none, or out of memory.
-    fn begin(&mut self, now: u64, ticket: Option<Ticket>) -> Result<(), DialFault> {
+    fn begin(&mut self, now: u64, ticket: Option<Ticket>) -> Result<(), DialFault>
+        ensures servers { self.new.servers ≡ self.old.servers }
+    {
         let Some(server) = self.servers.as_slice().get(self.race.begun) else {
             drop(ticket);
             return Err(DialFault::Failed);

@@ -1,8 +1,8 @@
 //! Tunnels, which clients open by CONNECT (RFC 9110, section 9.3.6): the way to the server.
-ghost use Rattle.std.specs.Prelude.{IfOk};
+ghost use Rattle.std.specs.Prelude.{IfOk, IfSome};
 ghost use Rattle.futures.specs.Poll.{OnPending};
 ghost use Rattle.futures.specs.Task.{Covers, Keeps};
-ghost use Rattle.dialing.specs.Judged.{AllJudged};
+ghost use Rattle.http_traffic.specs.Judged.{AllJudged};
 
 use crate::requests::Answers;
 use bytes::BytesMut;
@@ -487,7 +487,9 @@ impl<R: Net + Wait + Clock + Copy, H: Answers> Opening<R, H> {
     }
 
     // Begins to connect those of these addresses that are admitted. Errors: the status to answer.
-    fn connect(&mut self, servers: Addresses) -> Result<(), u16> {
+    fn connect(&mut self, servers: Addresses) -> Result<(), u16>
+        ensures judged { IfOk result (λ _. IfSome self.new.reaching (λ dialing. AllJudged self.new.is_origin dialing.servers.list.items)) }
+    {
         let servers = self.servers(servers)?;
         let Some(places) = self.places.take() else {
             drop(servers);

@@ -1,6 +1,7 @@
 //! Connections to servers, as they are made.
 ghost use Rattle.futures.specs.Poll.{OnPending};
 ghost use Rattle.futures.specs.Task.{Covers, Keeps};
+ghost use Rattle.http_traffic.specs.Judged.{AllJudged};
 
 use crate::fetching::FetchRules;
 use dialing::{Connected, DialFault, Dialing, Judge};
@@ -22,7 +23,8 @@ pub trait Dial: Judge + Drop {
     type Connecting: Connect;
 
     /// Connects to one of these addresses, with a timeout. Returns `None` if out of memory.
-    fn connect(&self, servers: &AdmittedAddresses) -> Option<Self::Connecting>;
+    fn connect(&self, servers: &AdmittedAddresses) -> Option<Self::Connecting>
+        requires judged { AllJudged (Self.judges self.now) servers.now.list.items };
 }
 
 /// A connection that was made, and the address that it leads to.
@@ -108,6 +110,13 @@ impl<R: Net + Wait + Clock + Copy, A: Admit> Dial for Dialer<R, A> {
         let places = self.rules.kept.servers().ok()?;
         let servers = servers.share(self.alloc).ok()?;
         let handle = &self.handle;
-        Dialing::new(self.rt, self.alloc, handle, servers, places, self.connecting)
+        Dialing::new(
+            self.rt,
+            self.alloc,
+            handle,
+            servers,
+            places,
+            self.connecting,
+        )
     }
 }

@@ -203,7 +203,7 @@ impl<M: Means> Begin for Starter<M> {
 impl<M: Means> Starter<M> {
     // Begins a fetch from this server.
     fn fetch(&self, server: Server, order: Order) -> Fetch<M::Dialer, M::Get>
-        ensures { IfSome result.visit (λ t. IfSome (timeout_future (box_value t)).call (λ c. IfSome c.talking M.Get.Talking.can_poll)) }
+        ensures { IfSome result.visit (λ t. ⟦<Visit<M::Dialer, M::Get> as Future>⟧.can_poll (timeout_future (box_value t))) }
     {
         let OrderParts {
             fetch,
@@ -245,7 +245,7 @@ impl<M: Means> Starter<M> {
 
     // Begins to pass on a request to this server.
     fn pass(&self, server: Server, passage: Passage) -> Pass<M::Watch, M::Dialer, M::Post>
-        ensures { IfSome result.visit (λ v. IfSome (box_value v).call (λ c. IfSome c.talking M.Post.Talking.can_poll)) }
+        ensures { IfSome result.visit (λ v. ⟦<Visit<M::Dialer, M::Post> as Future>⟧.can_poll (box_value v)) }
     {
         let dialer = self.means.dialer(passage.is_origin);
         let plan = self.means.plan(passage);
@@ -580,7 +580,7 @@ impl<D: Dial, T: Talk> Drop for Fetch<D, T> {
 impl<P: Drop, D: Dial, T: Talk<Page = Paid<P>>> Future for Fetch<D, T> {
     type Output = Done<P>;
 
-    ghost can_poll = { λ f. IfSome f.visit (λ t. IfSome (timeout_future (box_value t)).call (λ c. IfSome c.talking T.Talking.can_poll)) };
+    ghost can_poll = { λ f. IfSome f.visit (λ t. ⟦<Visit<D, T> as Future>⟧.can_poll (timeout_future (box_value t))) };
 
     fn poll(&mut self, cx: &mut Context<'_>) -> Poll<Done<P>> {
         if self.wanted.poll(cx).is_ready() {

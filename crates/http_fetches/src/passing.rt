@@ -505,7 +505,7 @@ impl<W: Drop, D: Dial, T: Talk> Drop for Pass<W, D, T> {
 impl<W: Drop, D: Dial, T: Talk> Pass<W, D, T> {
     /// Begins to pass on a request to this server. Without a dialer it fails, as out of memory.
     pub fn new(alloc: Global, server: Server, dialer: Option<D>, plan: Plan<W, T>) -> Pass<W, D, T>
-        ensures { IfSome result.visit (λ v. IfSome (box_value v).call (λ c. IfSome c.talking T.Talking.can_poll)) }
+        ensures { IfSome result.visit (λ v. ⟦<Visit<D, T> as Future>⟧.can_poll (box_value v)) }
     {
         let Plan {
             talk,
@@ -531,7 +531,7 @@ impl<W: Drop, D: Dial, T: Talk> Pass<W, D, T> {
 impl<W: Watch, D: Dial, T: Talk<Page = ()>> Future for Pass<W, D, T> {
     type Output = Option<Box<LeftChange>>;
 
-    ghost can_poll = { λ p. IfSome p.visit (λ v. IfSome (box_value v).call (λ c. IfSome c.talking T.Talking.can_poll)) };
+    ghost can_poll = { λ p. IfSome p.visit (λ v. ⟦<Visit<D, T> as Future>⟧.can_poll (box_value v)) };
 
     fn poll(&mut self, cx: &mut Context<'_>) -> Poll<Option<Box<LeftChange>>> {
         let Some(visit) = &mut self.visit else {

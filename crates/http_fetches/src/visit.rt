@@ -2,7 +2,7 @@
 ghost use Rattle.std.specs.Prelude.{◌≡◌, IfOk, IfSome, true};
 ghost use Rattle.futures.specs.Poll.{OnPending};
 ghost use Rattle.futures.specs.Task.{Covers, Keeps};
-ghost use Rattle.dialing.specs.Judged.{AllJudged};
+ghost use Rattle.http_traffic.specs.Judged.{JudgedBy};
 
 use crate::dialer::Dial;
 use crate::exchange::{Call, Talk};
@@ -60,6 +60,7 @@ impl<D: Dial, T: Talk> Visit<D, T> {
     /// A visit that has not begun; without a dialer it fails, as out of memory.
     pub fn new(alloc: Global, server: Server, dialer: Option<D>, talk: T) -> Visit<D, T>
         ensures { IfSome result.call (λ c. IfSome c.talking T.Talking.can_poll) }
+        ensures judged { IfSome result.servers (λ servers. JudgedBy D.judges result.dialer servers.list.items) }
     {
         Visit {
             alloc,
@@ -73,7 +74,7 @@ impl<D: Dial, T: Talk> Visit<D, T> {
 
     // Those of these addresses that are admitted. Errors: there is none, or out of memory.
     fn admitted(&self, servers: Addresses) -> Result<AdmittedAddresses, AdmitFault>
-        ensures judged { IfSome self.now.dialer (λ dialer. IfOk result (λ those. AllJudged (D.judges dialer) those.list.items)) }
+        ensures judged { IfOk result (λ those. JudgedBy D.judges self.now.dialer those.list.items) }
     {
         let Some(dialer) = &self.dialer else {
             drop(servers);
@@ -84,6 +85,8 @@ impl<D: Dial, T: Talk> Visit<D, T> {
 
     // Makes the call to one of these addresses, if `call` gives one.
     fn begin(&mut self, servers: AdmittedAddresses)
+        requires judged { JudgedBy D.judges self.old.dialer servers.list.items }
+        ensures judged { IfSome self.new.servers (λ servers. JudgedBy D.judges self.new.dialer servers.list.items) }
         ensures { IfSome self.new.call (λ c. IfSome c.talking T.Talking.can_poll) }
     {
         let call = self.call(&servers);
@@ -94,6 +97,8 @@ impl<D: Dial, T: Talk> Visit<D, T> {
     // The call to one of these addresses: over a connection that was kept, or a new one. Returns `None` if it has begun before, or if
     // out of memory.
     fn call(&mut self, servers: &AdmittedAddresses) -> Option<Call<D::Connecting, T>>
+        requires judged { JudgedBy D.judges self.old.dialer servers.now.list.items }
+        ensures dialer { self.new.dialer ≡ self.old.dialer }
         ensures { IfSome result (λ c. IfSome c.talking T.Talking.can_poll) }
     {
         let talk = self.talk.take()?;
@@ -105,6 +110,7 @@ impl<D: Dial, T: Talk> Visit<D, T> {
 
     // The call to one of these addresses over a new connection. Returns `None` if out of memory.
     fn new_call(&self, servers: &AdmittedAddresses, talk: T) -> Option<Call<D::Connecting, T>>
+        requires judged { JudgedBy D.judges self.now.dialer servers.now.list.items }
         ensures { IfSome result (λ c. IfSome c.talking T.Talking.can_poll) }
     {
         match &self.dialer {
@@ -118,7 +124,10 @@ impl<D: Dial, T: Talk> Visit<D, T> {
 
     // Whether the call, which has failed so, may be made once more over a new connection. Where the one that failed was new, its address is
     // not tried again.
-    fn may_again(&mut self, fault: FetchFault) -> bool {
+    fn may_again(&mut self, fault: FetchFault) -> bool
+        requires judged { IfSome self.old.servers (λ servers. JudgedBy D.judges self.old.dialer servers.list.items) }
+        ensures judged { IfSome self.new.servers (λ servers. JudgedBy D.judges self.new.dialer servers.list.items) }
+    {
         let Some(call) = &self.call else {
             return false;
         };
@@ -137,6 +146,8 @@ impl<D: Dial, T: Talk> Visit<D, T> {
 
     // Makes the call, which has failed, once more. It is gone if out of memory.
     fn make_again(&mut self)
+        requires judged { IfSome self.old.servers (λ servers. JudgedBy D.judges self.old.dialer servers.list.items) }
+        ensures judged { IfSome self.new.servers (λ servers. JudgedBy D.judges self.new.dialer servers.list.items) }
         ensures { IfSome self.new.call (λ c. IfSome c.talking T.Talking.can_poll) }
     {
         let Some(call) = self.call.take() else {
@@ -148,6 +159,7 @@ impl<D: Dial, T: Talk> Visit<D, T> {
 
     // The call, made once more. Returns `None` if out of memory.
     fn call_again(&self, talk: T) -> Option<Call<D::Connecting, T>>
+        requires judged { IfSome self.now.servers (λ servers. JudgedBy D.judges self.now.dialer servers.list.items) }
         ensures { IfSome result (λ c. IfSome c.talking T.Talking.can_poll) }
     {
         match &self.servers {
@@ -162,6 +174,8 @@ impl<D: Dial, T: Talk> Visit<D, T> {
     // Polls the call, and makes it once more where it has failed and may be.
     fn poll_call(&mut self, cx: &mut Context<'_>) -> Poll<Visited<T::Page>>
         requires { IfSome self.old.call (λ c. IfSome c.talking T.Talking.can_poll) }
+        requires judged { IfSome self.old.servers (λ servers. JudgedBy D.judges self.old.dialer servers.list.items) }
+        ensures judged { IfSome self.new.servers (λ servers. JudgedBy D.judges self.new.dialer servers.list.items) }
         ensures again { OnPending result (IfSome self.new.call (λ c. IfSome c.talking T.Talking.can_poll)) }
         ensures registered { OnPending result (Covers cx.new (λ _. ⊥)) }
         ensures kept { Keeps cx.old cx.new }
@@ -187,6 +201,8 @@ impl<D: Dial, T: Talk> Visit<D, T> {
 
     // Makes the call, which has failed so, once more, if it may be. Returns whether it has.
     fn makes_again(&mut self, fault: FetchFault) -> bool
+        requires judged { IfSome self.old.servers (λ servers. JudgedBy D.judges self.old.dialer servers.list.items) }
+        ensures judged { IfSome self.new.servers (λ servers. JudgedBy D.judges self.new.dialer servers.list.items) }
         ensures { result ≡ true → IfSome self.new.call (λ c. IfSome c.talking T.Talking.can_poll) }
     {
         if !self.may_again(fault) {
@@ -208,7 +224,8 @@ fn unadmitted<P: Drop>(fault: AdmitFault) -> Visited<P> {
 impl<D: Dial, T: Talk> Future for Visit<D, T> {
     type Output = Visited<T::Page>;
 
-    ghost can_poll = { λ v. IfSome v.call (λ c. IfSome c.talking T.Talking.can_poll) };
+    ghost can_poll = { λ v. IfSome v.call (λ c. IfSome c.talking T.Talking.can_poll)
+        × IfSome v.servers (λ servers. JudgedBy D.judges v.dialer servers.list.items) };
 
     fn poll(&mut self, cx: &mut Context<'_>) -> Poll<Visited<T::Page>> {
         if self.call.is_none() {

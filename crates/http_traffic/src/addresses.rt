@@ -1,5 +1,6 @@
 //! The addresses of a server, and what is known of those of a name.
-ghost use Rattle.std.specs.Prelude.{◌≡◌, ◌≢◌, [], IfOk, IsErrOf};
+ghost use Rattle.std.specs.Prelude.{◌≡◌, ◌≢◌, [], Bool, IfOk, IsErrOf};
+ghost use Rattle.http_traffic.specs.Judged.{AllJudged};
 ghost use Rattle.origin_rules.specs.Chosen.{chosen};
 
 use crate::passing::Ticket;
@@ -173,7 +174,9 @@ impl Drop for AdmittedAddresses {
 
 impl AdmittedAddresses {
     /// The same addresses, of the same name. Errors: out of memory.
-    pub fn share(&self, alloc: Global) -> Result<AdmittedAddresses, AllocError> {
+    pub fn share(&self, alloc: Global) -> Result<AdmittedAddresses, AllocError>
+        ensures same { IfOk result (λ those. those.list.items ≡ self.now.list.items) }
+    {
         let list = self.list.as_slice().to_vec(alloc)?;
         let found = match &self.found {
             Some(found) => Some(found.share()?),
@@ -190,7 +193,9 @@ impl AdmittedAddresses {
     }
 
     /// Takes an address out, since it is not to be tried again. Returns whether another one is left.
-    pub fn take_out(&mut self, address: SocketAddr) -> bool {
+    pub fn take_out(&mut self, address: SocketAddr) -> bool
+        ensures judged { (by_rules : Bool) → AllJudged by_rules self.old.list.items → AllJudged by_rules self.new.list.items }
+    {
         self.list.retain(|it| it.address() != address);
         !self.list.is_empty()
     }

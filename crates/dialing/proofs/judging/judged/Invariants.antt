@@ -1,5 +1,5 @@
 use Rattle.std.proofs.Common.{take}
-use Rattle.dialing.specs.Judged.{AreJudged}
+use Rattle.http_traffic.specs.Judged.{AreJudged}
 use Rattle.dialing.proofs.judging.judged.Given as goal
 
 abbrev pub invariant-loop-server : goal.invariant-loop-server
