@@ -59,7 +59,7 @@ impl<D: Dial, T: Talk> Drop for Visit<D, T> {
 impl<D: Dial, T: Talk> Visit<D, T> {
     /// A visit that has not begun; without a dialer it fails, as out of memory.
     pub fn new(alloc: Global, server: Server, dialer: Option<D>, talk: T) -> Visit<D, T>
-        ensures { IfSome result.call (λ c. IfSome c.talking T.Talking.can_poll) }
+        ensures ready { IfSome result.call (λ c. IfSome c.talking T.Talking.can_poll) }
         ensures judged { IfSome result.servers (λ servers. JudgedBy D.judges result.dialer servers.list.items) }
     {
         Visit {
@@ -87,7 +87,7 @@ impl<D: Dial, T: Talk> Visit<D, T> {
     fn begin(&mut self, servers: AdmittedAddresses)
         requires judged { JudgedBy D.judges self.old.dialer servers.list.items }
         ensures judged { IfSome self.new.servers (λ servers. JudgedBy D.judges self.new.dialer servers.list.items) }
-        ensures { IfSome self.new.call (λ c. IfSome c.talking T.Talking.can_poll) }
+        ensures ready { IfSome self.new.call (λ c. IfSome c.talking T.Talking.can_poll) }
     {
         let call = self.call(&servers);
         put(&mut self.call, call);
@@ -99,7 +99,7 @@ impl<D: Dial, T: Talk> Visit<D, T> {
     fn call(&mut self, servers: &AdmittedAddresses) -> Option<Call<D::Connecting, T>>
         requires judged { JudgedBy D.judges self.old.dialer servers.now.list.items }
         ensures dialer { self.new.dialer ≡ self.old.dialer }
-        ensures { IfSome result (λ c. IfSome c.talking T.Talking.can_poll) }
+        ensures ready { IfSome result (λ c. IfSome c.talking T.Talking.can_poll) }
     {
         let talk = self.talk.take()?;
         match Call::over_kept(servers.as_slice(), talk) {
@@ -111,7 +111,7 @@ impl<D: Dial, T: Talk> Visit<D, T> {
     // The call to one of these addresses over a new connection. Returns `None` if out of memory.
     fn new_call(&self, servers: &AdmittedAddresses, talk: T) -> Option<Call<D::Connecting, T>>
         requires judged { JudgedBy D.judges self.now.dialer servers.now.list.items }
-        ensures { IfSome result (λ c. IfSome c.talking T.Talking.can_poll) }
+        ensures ready { IfSome result (λ c. IfSome c.talking T.Talking.can_poll) }
     {
         match &self.dialer {
             Some(dialer) => Some(Call::new(dialer.connect(servers), talk)),
@@ -148,7 +148,7 @@ impl<D: Dial, T: Talk> Visit<D, T> {
     fn make_again(&mut self)
         requires judged { IfSome self.old.servers (λ servers. JudgedBy D.judges self.old.dialer servers.list.items) }
         ensures judged { IfSome self.new.servers (λ servers. JudgedBy D.judges self.new.dialer servers.list.items) }
-        ensures { IfSome self.new.call (λ c. IfSome c.talking T.Talking.can_poll) }
+        ensures ready { IfSome self.new.call (λ c. IfSome c.talking T.Talking.can_poll) }
     {
         let Some(call) = self.call.take() else {
             return;
@@ -160,7 +160,7 @@ impl<D: Dial, T: Talk> Visit<D, T> {
     // The call, made once more. Returns `None` if out of memory.
     fn call_again(&self, talk: T) -> Option<Call<D::Connecting, T>>
         requires judged { IfSome self.now.servers (λ servers. JudgedBy D.judges self.now.dialer servers.list.items) }
-        ensures { IfSome result (λ c. IfSome c.talking T.Talking.can_poll) }
+        ensures ready { IfSome result (λ c. IfSome c.talking T.Talking.can_poll) }
     {
         match &self.servers {
             Some(servers) => self.new_call(servers, talk),
@@ -173,7 +173,7 @@ impl<D: Dial, T: Talk> Visit<D, T> {
 
     // Polls the call, and makes it once more where it has failed and may be.
     fn poll_call(&mut self, cx: &mut Context<'_>) -> Poll<Visited<T::Page>>
-        requires { IfSome self.old.call (λ c. IfSome c.talking T.Talking.can_poll) }
+        requires ready { IfSome self.old.call (λ c. IfSome c.talking T.Talking.can_poll) }
         requires judged { IfSome self.old.servers (λ servers. JudgedBy D.judges self.old.dialer servers.list.items) }
         ensures judged { IfSome self.new.servers (λ servers. JudgedBy D.judges self.new.dialer servers.list.items) }
         ensures again { OnPending result (IfSome self.new.call (λ c. IfSome c.talking T.Talking.can_poll)) }
@@ -203,7 +203,7 @@ impl<D: Dial, T: Talk> Visit<D, T> {
     fn makes_again(&mut self, fault: FetchFault) -> bool
         requires judged { IfSome self.old.servers (λ servers. JudgedBy D.judges self.old.dialer servers.list.items) }
         ensures judged { IfSome self.new.servers (λ servers. JudgedBy D.judges self.new.dialer servers.list.items) }
-        ensures { result ≡ true → IfSome self.new.call (λ c. IfSome c.talking T.Talking.can_poll) }
+        ensures ready { result ≡ true → IfSome self.new.call (λ c. IfSome c.talking T.Talking.can_poll) }
     {
         if !self.may_again(fault) {
             return false;
