@@ -1,4 +1,8 @@
 //! What is kept of answers beside the store of the node.
+ghost use Rattle.std.specs.Prelude.{◌≡◌, IfSome, true};
+ghost use Rattle.http_rules.specs.Stale.{may_serve_stale};
+ghost use Rattle.proxy_state.specs.Shelved.{current_age, resident_seconds};
+
 use crate::keeping::Profile;
 use crate::parts::PartKeys;
 use crate::unasked::UnaskedKeys;
@@ -60,7 +64,11 @@ pub struct Stale {
 }
 
 /// The object of an entry of the shelf, if it is stale and may be used for this. `serve_stale` are the operator's seconds.
-fn stale_in(entry: &Entry, now: Moment, occasion: StaleUse, serve_stale: u32) -> Option<Stale> {
+fn stale_in(entry: &Entry, now: Moment, occasion: StaleUse, serve_stale: u32) -> Option<Stale>
+    ensures object { IfSome result (λ stale. stale.object ≡ entry.now.object) }
+    ensures age { IfSome result (λ stale. stale.age ≡ current_age now entry.now) }
+    ensures may { IfSome result (λ _. may_serve_stale occasion (resident_seconds now entry.now) entry.now.object.life serve_stale entry.now.object.head ≡ true) }
+{
     let object = entry.object.get();
     let stay = now.millis().saturating_sub(entry.at.millis()) / 1000;
     let stay = u32::try_from(stay).unwrap_or(u32::MAX);
