@@ -266,7 +266,7 @@ impl Greeting {
         ensures registered { OnPending result (Covers cx.new (λ _. ⊥)) }
         ensures kept { Keeps cx.old cx.new }
     {
-        match answered(self.head.as_slice()) {
+        match answer_in(self.head.as_slice()) {
             Answered::Yes(length) => return Poll::Ready(Some(length)),
             Answered::No => return Poll::Ready(None),
             Answered::NotYet => {}
@@ -319,7 +319,7 @@ enum Answered {
 }
 
 // What these octets, which a parent has sent, say.
-fn answered(octets: &[u8]) -> Answered {
+fn answer_in(octets: &[u8]) -> Answered {
     let mut fields = [EMPTY_HEADER_SPAN; MOST_FIELDS];
     match parse_response(octets, &mut fields) {
         Ok(Status::Complete(head)) if head.code / 100 == 2 && head.len <= MOST_HEAD => {
