@@ -4,7 +4,7 @@ use Rattle.std.specs.Prelude.{String, bytes_eq, if◌then◌else◌}
 use Rattle.std.specs.List.{list_any}
 use Rattle.std.specs.String.{string_bytes}
 use Rattle.std.specs.declared.alloc.Global.{Global}
-use Rattle.commands.specs.Asking.{asks_for_text, checked, is_asking_word, is_file, is_text_word}
+use Rattle.commands.specs.Asking.{asks_for_text, asks_for_version, checked, has_check, is_asking_word, is_file, is_text_word}
 
 pub text_asks : (words : List (String Global)) → asks_for_text (map string_bytes words) ≡ true
     → list_any (λ word. is_asking_word (string_bytes word)) (drop 1 words) ≡ true
@@ -54,3 +54,33 @@ check_asks (name ∷ a ∷ b ∷ c ∷ []) file h =
     (found (bytes_eq (string_bytes a) (codes "serve")) (bytes_eq (string_bytes b) (codes "--check")) (is_file (string_bytes b))
     (bytes_eq (string_bytes c) (codes "--check")) (is_file (string_bytes c)) (string_bytes b) (string_bytes c) file h)
 check_asks (name ∷ a ∷ b ∷ c ∷ d ∷ words) file h = absurd (grind arith)
+
+-- who asks for the version asks for a text
+pub version_asks : (words : List (String Global)) → asks_for_version (map string_bytes words) ≡ true
+    → asks_for_text (map string_bytes words) ≡ true
+version_asks [] h = absurd (grind arith)
+version_asks (name ∷ []) h = absurd (grind arith)
+version_asks (name ∷ word ∷ []) h = rw h refl
+version_asks (name ∷ word ∷ other ∷ words) h = absurd (grind arith)
+
+-- one of four is
+one_is : (first second third fourth : Bool) → (third || fourth) ≡ true → (first || (second || (third || (fourth || false)))) ≡ true
+one_is true a b c h = refl
+one_is false true b c h = refl
+one_is false false true c h = refl
+one_is false false false true h = refl
+one_is false false false false h = absurd (grind arith)
+
+-- where a file is found, a word asks for a check
+pub check_named : (words : List (String Global)) (file : List ℕ) → checked (map string_bytes words) ≡ Some file
+    → has_check words ≡ true
+check_named [] file h = absurd (grind arith)
+check_named (name ∷ []) file h = absurd (grind arith)
+check_named (name ∷ a ∷ []) file h = absurd (grind arith)
+check_named (name ∷ a ∷ b ∷ []) file h = absurd (grind arith)
+check_named (name ∷ a ∷ b ∷ c ∷ []) file h =
+    one_is (bytes_eq (string_bytes name) (codes "--check")) (bytes_eq (string_bytes a) (codes "--check"))
+    (bytes_eq (string_bytes b) (codes "--check")) (bytes_eq (string_bytes c) (codes "--check"))
+    (found (bytes_eq (string_bytes a) (codes "serve")) (bytes_eq (string_bytes b) (codes "--check")) (is_file (string_bytes b))
+    (bytes_eq (string_bytes c) (codes "--check")) (is_file (string_bytes c)) (string_bytes b) (string_bytes c) file h)
+check_named (name ∷ a ∷ b ∷ c ∷ d ∷ words) file h = absurd (grind arith)

@@ -1,7 +1,7 @@
 //! Which argument lists ask for something of this crate, and for what.
 ghost use Rattle.std.specs.Prelude.{◌≡◌, IfOk, IfSome, IsSomeAnd, None, Ok, false, drop, is_some, map, option_map, string_bytes, true};
 ghost use Rattle.std.specs.List.{list_any};
-ghost use Rattle.commands.specs.Asking.{IsConfiguration, IsText, asks_for_text, checked, checked_in, is_asking_word, is_text_word, is_version_word};
+ghost use Rattle.commands.specs.Asking.{IsAskedBy, IsConfiguration, IsText, IsVersion, asks_for_text, asks_for_version, checked, checked_in, has_check, is_asking_word, is_text_word, is_version_word, version_line};
 
 use crate::program::program;
 use clap::error::ErrorKind;
@@ -21,7 +21,7 @@ pub enum Question<'a> {
 /// `version` is what `--version` tells.
 ///
 /// Errors: out of memory.
-#[tactic(auto, using(crate::proofs::Words::text_asks, crate::proofs::Words::check_asks))]
+#[tactic(auto, using(crate::proofs::Words::text_asks, crate::proofs::Words::check_asks, crate::proofs::Words::version_asks, crate::proofs::Words::check_named))]
 pub fn asked<'a>(
     alloc: Global,
     version: &'a str,
@@ -29,7 +29,9 @@ pub fn asked<'a>(
 ) -> Result<Option<Question<'a>>, AllocError>
     ensures none { list_any (λ word. is_asking_word (string_bytes word)) (drop 1 words.entry.now) ≡ false → result ≡ Ok None }
     ensures text { asks_for_text (map string_bytes words.entry.now) ≡ true → IfOk result (λ question. IsSomeAnd question IsText) }
+    ensures version { asks_for_version (map string_bytes words.entry.now) ≡ true → IfOk result (λ question. IsSomeAnd question (IsVersion version.entry.now)) }
     ensures check { IfSome (checked (map string_bytes words.entry.now)) (λ file. IfOk result (λ question. IsSomeAnd question (IsConfiguration file))) }
+    ensures flag { IfOk result (λ question. IfSome question (IsAskedBy words.entry.now)) }
 {
     if !is_asking(words) {
         return Ok(None);
@@ -45,7 +47,8 @@ pub fn asked<'a>(
 
 // The word for a text that stands alone behind the program's name.
 fn text_word<'a>(words: &'a [String]) -> Option<&'a str>
-    ensures { is_some result ≡ asks_for_text (map string_bytes words.entry.now) }
+    ensures text { is_some result ≡ asks_for_text (map string_bytes words.entry.now) }
+    ensures version { asks_for_version (map string_bytes words.entry.now) ≡ true → IfSome result (λ word. is_version_word word.now ≡ true) }
 {
     match words {
         [_, word] if is_text_word(word.as_str()) => Some(word.as_str()),
@@ -55,16 +58,26 @@ fn text_word<'a>(words: &'a [String]) -> Option<&'a str>
 
 // The text that one of the words for a text asks for alone.
 fn told<'a>(alloc: Global, version: &str, word: &str) -> Result<Question<'a>, AllocError>
-    ensures { IfOk result IsText }
+    ensures text { IfOk result IsText }
+    ensures version { is_version_word word.now ≡ true → IfOk result (IsVersion version.now) }
 {
+    if is_version_word(word) {
+        return Ok(Question::Text(version_line(alloc, version)?));
+    }
     let mut command = program(alloc, version)?;
-    let text = if is_version_word(word) {
-        command.render_version()
-    } else {
-        command.render_help()
-    };
+    let text = command.render_help();
     drop(command);
     Ok(Question::Text(text?))
+}
+
+// The program's name and this version, as `clap` writes them, too.
+fn version_line(alloc: Global, version: &str) -> Result<String, AllocError>
+    ensures { IfOk result (λ text. string_bytes text ≡ version_line version.now) }
+{
+    let mut text = String::from_str(alloc, "cache_main ")?;
+    text.push_str(version)?;
+    text.push_str("\n")?;
+    Ok(text)
 }
 
 // The configuration that `serve --check` is to check, if that is what an argument list asks for.
@@ -97,22 +110,30 @@ fn taken_apart<'a>(
     alloc: Global,
     version: &'a str,
     words: &'a [String],
-) -> Result<Option<Question<'a>>, AllocError> {
+) -> Result<Option<Question<'a>>, AllocError>
+    ensures { IfOk result (λ question. IfSome question (IsAskedBy words.entry.now)) }
+{
     let mut command = program(alloc, version)?;
     let found = command.try_get_matches_from_mut(words);
     drop(command);
-    question_of(alloc, found)
+    question_of(alloc, has_check(words), found)
 }
 
-// What a command line asks for that was taken apart so. Errors: out of memory.
+// What a command line asks for that was taken apart so; `has_check` is whether one of its words is `--check`. Errors: out of memory.
 fn question_of<'a>(
     alloc: Global,
+    has_check: bool,
     found: Result<ArgMatches<'a>, Error>,
-) -> Result<Option<Question<'a>>, AllocError> {
+) -> Result<Option<Question<'a>>, AllocError>
+    ensures { has_check ≡ false → IfOk result (λ question. IfSome question IsText) }
+{
     match found {
         Ok(matches) => {
             let configuration = configuration_of(&matches);
             drop(matches);
+            if !has_check {
+                return Ok(None);
+            }
             Ok(configuration.map(Question::Configuration))
         }
         Err(error) => {
@@ -124,7 +145,9 @@ fn question_of<'a>(
 }
 
 // What a command line asks for that was not taken apart, since it asks for a help text or the version, or is none. Errors: out of memory.
-fn told_by<'a>(alloc: Global, error: &Error) -> Result<Option<Question<'a>>, AllocError> {
+fn told_by<'a>(alloc: Global, error: &Error) -> Result<Option<Question<'a>>, AllocError>
+    ensures { IfOk result (λ question. IfSome question IsText) }
+{
     if error.kind() == ErrorKind::OutOfMemory {
         return Err(AllocError);
     }
@@ -149,6 +172,13 @@ fn has_asking_word(words: &[String]) -> bool
     ensures { result ≡ list_any (λ word. is_asking_word (string_bytes word)) words.now }
 {
     words.iter().any(|word| is_asking_word(word.as_str()))
+}
+
+// Whether one of these words is `--check`.
+fn has_check(words: &[String]) -> bool
+    ensures { result ≡ has_check words.now }
+{
+    words.iter().any(|word| word.as_str() == "--check")
 }
 
 // Whether a word is one that this crate answers to.

@@ -4,9 +4,10 @@
 //! is meant, and takes the words of `replay` and `explain` apart.
 //!
 //! The contract of [`asked`] says which argument lists are left to the program (`specs/Asking.antt`): all in which none of the six
-//! words stands that this crate answers to. It also says that each of the five words for a text has one where it stands alone, and that
-//! the configuration of `serve --check` is found. Which text it is, and what the other lists with these words ask for, is only tested, and
-//! so is the rest, which calls the crates below and turns their results into lines and exit statuses.
+//! words stands that this crate answers to. It also says that each of the five words for a text has one where it stands alone, and which
+//! the text of the version is; and that the configuration of `serve --check` is found, and that none is checked without the word
+//! `--check`. Which help text it is, and what else the other lists with these words ask for, is only tested, and so is the rest, which
+//! calls the crates below and turns their results into lines and exit statuses.
 //! Tested by: cases/, tests/serve_operator, tools/documents (docs/wabretos.1 against the help texts), more-edits.
 #![tactic(auto)]
 

@@ -63,7 +63,7 @@ fn serve<'a>(alloc: Global) -> Made<'a> {
 }
 
 fn replay<'a>(alloc: Global) -> Made<'a> {
-    let nodes = node_words(alloc)?;
+    let nodes = node_words(alloc, "node")?;
     let command = Command::new(alloc, "replay")
         .about("Runs a filter, or a whole node, over a capture")
         .override_usage(REPLAY_USAGE)
@@ -78,9 +78,9 @@ fn replay<'a>(alloc: Global) -> Made<'a> {
     )
 }
 
-// The options that have a node run, of which one stands in place of a filter and its capture.
-fn node_words<'a>(alloc: Global) -> Result<ArgGroup<'a>, AllocError> {
-    ArgGroup::new(alloc, "node").args(&["script", "expect"])
+// The options that have a node run, under this name: one of them stands in place of a filter and its capture.
+fn node_words<'a>(alloc: Global, name: &'a str) -> Result<ArgGroup<'a>, AllocError> {
+    ArgGroup::new(alloc, name).args(&["script", "expect"])
 }
 
 // A word of `replay` that stands in its place where a filter is run.
