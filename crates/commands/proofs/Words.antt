@@ -1,5 +1,5 @@
 -- Who asks for a text or for a check has a word that asks.
-use Rattle.std.proofs.Common.{◌≡◌, ℕ, List, [], ◌∷◌, ◌||◌, ◌&&◌, not, map, drop, refl, sym, ◌∙◌, Bool, true, false, Option, Some, None, codes, arith}
+use Rattle.std.proofs.Common.{◌≡◌, ℕ, List, [], ◌∷◌, ◌||◌, ◌&&◌, not, map, drop, refl, sym, ◌∙◌, Bool, true, false, Some, None, codes, arith}
 use Rattle.std.specs.Prelude.{String, bytes_eq, if◌then◌else◌}
 use Rattle.std.specs.List.{list_any}
 use Rattle.std.specs.String.{string_bytes}
