@@ -124,6 +124,7 @@ impl<D: Dial, T: Talk> Visit<D, T> {
 
     // Whether the call, which has failed so, may be made once more over a new connection. Where the one that failed was new, its address is
     // not tried again.
+    #[tactic(auto, using(crate::proofs::Judging::still_judged))]
     fn may_again(&mut self, fault: FetchFault) -> bool
         requires judged { IfSome self.old.servers (λ servers. JudgedBy D.judges self.old.dialer servers.list.items) }
         ensures judged { IfSome self.new.servers (λ servers. JudgedBy D.judges self.new.dialer servers.list.items) }
