@@ -2,4 +2,4 @@
 
 /// The day of the newest entry of CHANGELOG.md, and the revision of the sources that this program was built from, as `tools/revision`
 /// sums them up.
-pub const VERSION: &str = "2026-11-26+e4c72be0fb8f";
+pub const VERSION: &str = "2026-11-26+24605d821fe5";

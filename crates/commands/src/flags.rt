@@ -56,11 +56,13 @@ pub(crate) fn apart(name: &str) -> &'static [&'static str] {
         "compare" => &["show", "script", "expect"],
         "json" | "filter" | "capture" => &["script", "expect"],
         "script" => &["expect"],
+        "fail-if-different" => &["script", "filter", "capture"],
         _ => &[],
     }
 }
 
-// What an option needs beside it.
+// What an option needs beside it. One that stands apart from what it needs has to stand apart, too, from all that does: `clap` asks for
+// nothing that may not stand beside what is there.
 fn needed(name: &str) -> &'static [&'static str] {
     match name {
         "script" | "expect" => &["own"],
